@@ -1,0 +1,7 @@
+-- What every layer above shares.
+pub mod Tests
+pub mod Count
+pub mod Scan
+pub mod ScanLaws
+pub mod Sets
+pub mod SetLaws

@@ -1,0 +1,57 @@
+-- What setting one bit of one word of the tally changes. Assumes nothing.
+use mathlib.Core.Path.{_≡_, refl, sym, ap, _∙_, subst}
+use mathlib.Core.Bool.{Bool, true, false, _&&_, _||_}
+use mathlib.Core.Logic.{_⊎_, inl, inr, ⊎-elim, _≢_}
+use mathlib.Core.List.{List}
+use Prim.Native.Nat.{ℕ, zero, suc, _+_, _*_, _^_, _≤_, _<_}
+use native.Mathlib.Omega.{arith}
+use lib.Dec.{T, eqb, eqb→eq}
+use lib.ListN.{length, getD, set, length-set}
+use lib.Seq.{getD-set-same, getD-set-other}
+use Rattle.base.specs.Tests.{T-and, T-left, T-right, or-left, or-right, or-cases, T-iff, eq?, eq→eqb}
+use Rattle.base.specs.Sets.{member, insert}
+use Rattle.base.specs.SetLaws.{member-insert, insert-below}
+use Rattle.model.specs.State.{place, word, added}
+
+pub length-added : (t : List ℕ) (w j p : ℕ) → length (added t w j p) ≡ length t
+length-added t w j p = length-set t (place w j) (insert (word t w j) p)
+
+module _ (t : List ℕ) (w j p : ℕ) where
+  pub added-same : place w j < length t → word (added t w j p) w j ≡ insert (word t w j) p
+  added-same l = getD-set-same t (place w j) (insert (word t w j) p) 0 l
+
+  pub added-other : (u i : ℕ) → place u i ≢ place w j → word (added t w j p) u i ≡ word t u i
+  added-other u i ne = getD-set-other t (place w j) (place u i) (insert (word t w j) p) 0 ne
+
+  module _ (j-low : j < 4) (long : place w j < length t) where
+    -- bit q of word i of view u is as it was, or it is the one that was set
+    pub added-member : (u i q : ℕ) → i < 4 → member (word (added t w j p) u i) q ≡ (member (word t u i) q || (eqb u w && (eqb i j && eqb q p)))
+    added-member u i q i-low = ⊎-elim here elsewhere (eq? (place u i) (place w j))
+      where
+        elsewhere : place u i ≢ place w j → member (word (added t w j p) u i) q ≡ (member (word t u i) q || (eqb u w && (eqb i j && eqb q p)))
+        elsewhere ne = T-iff (member (word (added t w j p) u i) q) (member (word t u i) q || (eqb u w && (eqb i j && eqb q p)))
+            (λ x. or-left (member (word t u i) q) (eqb u w && (eqb i j && eqb q p)) (rw (added-other u i ne) at x))
+            (λ x. ⊎-elim (λ y. rw (added-other u i ne) y)
+            (λ y. let a : u ≡ w = eqb→eq _ _ (T-left (eqb u w) _ y) in let b : i ≡ j = eqb→eq _ _ (T-left (eqb i j) _ (T-right (eqb u w) _ y)) in absurd (ne (rw (a, b) refl)))
+            (or-cases (member (word t u i) q) (eqb u w && (eqb i j && eqb q p)) x))
+
+        here : place u i ≡ place w j → member (word (added t w j p) u i) q ≡ (member (word t u i) q || (eqb u w && (eqb i j && eqb q p)))
+        here e =
+            let a : u ≡ w = omega arith in
+            let b : i ≡ j = omega arith in
+            rw (a, b) (ap (λ (x : ℕ). member x q) (added-same long) ∙ member-insert (word t w j) p q ∙ last)
+          where
+            last : (member (word t w j) q || eqb q p) ≡ (member (word t w j) q || (eqb w w && (eqb j j && eqb q p)))
+            last = T-iff (member (word t w j) q || eqb q p) (member (word t w j) q || (eqb w w && (eqb j j && eqb q p)))
+                (λ x. ⊎-elim (λ y. or-left (member (word t w j) q) (eqb w w && (eqb j j && eqb q p)) y)
+                (λ y. or-right (member (word t w j) q) (eqb w w && (eqb j j && eqb q p)) (T-and (eqb w w) _ (eq→eqb w w refl) (T-and (eqb j j) _ (eq→eqb j j refl) y)))
+                (or-cases (member (word t w j) q) (eqb q p) x))
+                (λ x. ⊎-elim (λ y. or-left (member (word t w j) q) (eqb q p) y)
+                (λ y. or-right (member (word t w j) q) (eqb q p) (T-right (eqb j j) _ (T-right (eqb w w) _ y)))
+                (or-cases (member (word t w j) q) (eqb w w && (eqb j j && eqb q p)) x))
+
+    pub added-below : (k u i : ℕ) → i < 4 → p < k → word t u i < 2 ^ k → word (added t w j p) u i < 2 ^ k
+    added-below k u i i-low l h = ⊎-elim
+        (λ (e : place u i ≡ place w j). let a : u ≡ w = omega arith in let b : i ≡ j = omega arith in rw (a, b, added-same long) (insert-below k (word t w j) p l (rw (a, b) at h)))
+        (λ ne. rw (added-other u i ne) h)
+        (eq? (place u i) (place w j))

@@ -1,0 +1,146 @@
+-- "Checks, in order": each its own predicate, true where its sentence holds.
+use mathlib.Core.Bool.{Bool, true, false, not, _&&_, _||_, cond}
+use mathlib.Core.List.{List, [], _∷_}
+use Prim.Native.Nat.{ℕ, _+_, _*_, _^_, max}
+use lib.Dec.{eqb, leb, ltb}
+use lib.ListN.{length, getD, drop}
+use Rattle.base.specs.Count.{count}
+use Rattle.base.specs.Scan.{some, first}
+use Rattle.base.specs.Sets.{member, size}
+use Rattle.model.specs.declared.Plan.{Plan}
+use Rattle.model.specs.declared.Message.{Message}
+use Rattle.model.specs.declared.Message.the-variants.{View, Vote, Vc, Qc}
+use Rattle.model.specs.declared.Run.{Run}
+use Rattle.model.specs.Quantities.{nLeast, nMost, deltaMost, gammaMost, viewsLeast, viewsMost, rowWords, messageWords, networkLeast, networkMost, tolerated, lead, initial, nextInitial, clockTime, endTime, startLimit, correct}
+use Rattle.model.specs.State.{State, clockOf, viewOf, isCorrect, enteredWord, marksWord, markBit, word, kindOf, viewIn, processorIn, addressee, kindAt, viewAt, processorAt, sentAt, capacity}
+use Rattle.model.specs.Moves.{Change, needed}
+
+-- a check's number, and whether its sentence holds
+abbrev pub Check : Type 0
+Check = ℕ × Bool
+
+-- "it comes only when its sentence holds and no earlier applicable one does": what the first such check's refusal gives, or a
+abbrev pub judged : {A : Type 0} → (ℕ → A) → List Check → A → A
+judged refusal [] a = a
+judged refusal (c ∷ cs) a = cond (c .1) (refusal (c .0)) (judged refusal cs a)
+
+-- 2. "n is outside 4 to 64."
+abbrev pub nOutside : Plan → Bool
+nOutside p = ltb (p .n) nLeast || ltb nMost (p .n)
+
+-- 3. "Δ or Γ is outside its range."
+abbrev pub delaysOutside : Plan → Bool
+delaysOutside p = ltb (p .delta) 1 || ltb deltaMost (p .delta) || ltb (p .gamma) (2 * p .delta) || ltb gammaMost (p .gamma)
+
+-- 4. "V is outside its range or no multiple of 3."
+abbrev pub viewsOutside : Plan → Bool
+viewsOutside p = ltb (p .views) viewsLeast || ltb viewsMost (p .views) || not (initial p (p .views))
+
+-- 5. "The mask has a bit at n or above, or more than t ones."
+abbrev pub faultyOutside : Plan → ℕ → Bool
+faultyOutside p faulty = leb (2 ^ p .n) faulty || ltb (tolerated p) (size faulty)
+
+-- 6. "The ledger has fewer than 4V words, or the post fewer than 8n or more than 524,288."
+abbrev pub buffersOutside : Plan → List ℕ → List ℕ → Bool
+buffersOutside p t ws = ltb (length t) (rowWords * p .views) || ltb (length ws) (networkLeast p) || ltb networkMost (length ws)
+
+-- 7. "A correct start clock is 3Γ or more."
+unfoldable pub startTooHigh : Plan → ℕ → List ℕ → Bool
+startTooHigh p faulty clocks = some (λ q. correct p faulty q && leb (startLimit p) (getD clocks q 0)) (p .n)
+
+-- 8. "A correct clock c has fewer than t+1 correct clocks c', its own counted, with c'+Γ ≥ c."
+abbrev pub closeBehind : Plan → ℕ → List ℕ → ℕ → ℕ
+closeBehind p faulty clocks c = count (p .n) (λ q. correct p faulty q && leb c (getD clocks q 0 + p .gamma))
+
+unfoldable pub tooFarAhead : Plan → ℕ → List ℕ → Bool
+tooFarAhead p faulty clocks = some (λ q. correct p faulty q && ltb (closeBehind p faulty clocks (getD clocks q 0)) (tolerated p + 1)) (p .n)
+
+-- 9. "The run handed in is unsound: a limit of 2 to 6 broken,
+abbrev pub limitsBroken : State → Bool
+limitsBroken s =
+    let p = s .run .plan in
+    nOutside p || delaysOutside p || viewsOutside p || faultyOutside p (s .run .faulty) || buffersOutside p (s .tally) (s .network)
+
+-- a correct clock .. at or above VΓ, a correct clock below its view's clock time or not below that of the next initial view,
+abbrev pub clockOutside : Plan → ℕ → ℕ → Bool
+clockOutside p clock view = leb (endTime p) clock || ltb clock (clockTime p view) || leb (clockTime p (nextInitial p view)) clock
+
+-- a held message with kind, view or cabinet out of range or addressed to a faulty cabinet, a sending .. time later than now
+unfoldable pub heldUnsound : State → ℕ → Bool
+heldUnsound s i =
+    let r = s .run in
+    let kind = kindAt (s .network) i in
+    let w = viewAt (s .network) i in
+    let p = processorAt (s .network) i in
+    ltb kind 1 || ltb 4 kind || leb (r .plan .views) w || leb (r .plan .n) p || not (isCorrect r (addressee (r .plan) kind w p))
+    || ltb (r .time) (sentAt (s .network) i)
+
+-- a post word beyond the last message that is not 0."
+abbrev pub someNonZero : List ℕ → Bool
+someNonZero [] = false
+someNonZero (x ∷ xs) = not (eqb x 0) || someNonZero xs
+
+-- ".. the time at or above VΓ, .. more messages than fit, .. settling time later than now"; "check 9 refuses another value in an unsettled run"
+unfoldable pub unsound : State → Bool
+unsound s =
+    let r = s .run in
+    limitsBroken s || some (λ p. isCorrect r p && clockOutside (r .plan) (clockOf r p) (viewOf r p)) (r .plan .n) || leb (endTime (r .plan)) (r .time)
+    || ltb (capacity (s .network)) (r .held) || some (heldUnsound s) (r .held) || ltb (r .time) (r .gst)
+    || (not (r .settled) && not (eqb (r .gst) 0)) || someNonZero (drop (messageWords * r .held) (s .network))
+
+-- 10. "A named cabinet is n or more, or a named view V or more."
+abbrev pub namedOutside : Plan → ℕ → ℕ → Bool
+namedOutside plan p w = leb (plan .n) p || leb (plan .views) w
+
+-- the stage of a message: view messages and view certificates, or votes and quorum certificates
+abbrev pub stageOf : Message → Bool
+stageOf (View w p) = false
+stageOf (Vote w p) = true
+stageOf (Vc w p) = false
+stageOf (Qc w p) = true
+
+-- 11. "A view message or view certificate names a view that is not initial."
+abbrev pub notInitial : Plan → Bool → ℕ → Bool
+notInitial plan stage w = not stage && not (initial plan w)
+
+-- the held message i is m; "the first, of equal ones" leaves
+abbrev pub isAt : List ℕ → Message → ℕ → Bool
+isAt ws m i = eqb (kindAt ws i) (kindOf m) && eqb (viewAt ws i) (viewIn m) && eqb (processorAt ws i) (processorIn m)
+
+abbrev pub placeOf : State → Message → ℕ
+placeOf s m = first (isAt (s .network) m) (s .run .held)
+
+-- 13. "The message is not in the post."
+abbrev pub notHeld : State → Message → Bool
+notHeld s m = eqb (placeOf s m) (s .run .held)
+
+-- "It exists, for a correct leader of w, if formed; for a faulty one, if f plus the correct cabinets that entered w come to t+1 (vc) or n−t (qc)."
+unfoldable pub exists : Bool → Run → List ℕ → ℕ → Bool
+exists stage r t w =
+    cond (isCorrect r (lead (r .plan) w))
+    (member (word t w marksWord) (markBit stage))
+    (leb (needed stage (r .plan)) (size (r .faulty) + size (word t w enteredWord)))
+
+-- 14. "The certificate shown does not exist."
+abbrev pub notExisting : State → Message → Bool
+notExisting s m = not (exists (stageOf m) (s .run) (s .tally) (viewIn m))
+
+-- "A message is overdue when settled and now is at or past the later of its sending and settling times, plus Δ."
+abbrev pub overdueAt : State → ℕ → Bool
+overdueAt s i = leb (max (sentAt (s .network) i) (s .run .gst) + s .run .plan .delta) (s .run .time)
+
+-- 16. "A tick finds an overdue message."
+unfoldable pub overdue : State → Bool
+overdue s = s .run .settled && some (overdueAt s) (s .run .held)
+
+-- 17. "A correct clock would reach VΓ."
+unfoldable pub reachesEnd : Run → Change → Bool
+reachesEnd r c = some (λ p. isCorrect r p && leb (endTime (r .plan)) (getD (c .clocks) p 0)) (r .plan .n)
+
+-- 18. "The messages held after the event would exceed the post's words divided by 4, rounded down."
+abbrev pub overfull : State → Change → Bool
+overfull s c = ltb (capacity (s .network)) (s .run .held + length (c .sent))
+
+-- the two that judge what a change of s would leave
+abbrev pub outcomeChecks : State → Change → List Check
+outcomeChecks s c = (17, reachesEnd (s .run) c) ∷ (18, overfull s c) ∷ []

@@ -1,0 +1,10 @@
+-- Document 01 as definitions, in its order.
+pub mod Quantities
+pub mod State
+pub mod Moves
+pub mod Checks
+pub mod Opening
+pub mod Events
+pub mod Processors
+pub mod Lists
+pub mod Settings

@@ -1,0 +1,154 @@
+-- "How a cabinet moves": entering a view, and rules 1 to 5. No move knows the post's words.
+use mathlib.Core.Bool.{Bool, true, false, not, _&&_, _||_, cond}
+use mathlib.Core.List.{List, [], _∷_, _++_}
+use Prim.Native.Nat.{ℕ, zero, suc, _+_, _-_, _*_, _/_, _%_}
+use lib.Dec.{eqb, leb, ltb}
+use lib.ListN.{length, getD, set}
+use Rattle.base.specs.Sets.{member, insert, size}
+use Rattle.model.specs.declared.Plan.{Plan}
+use Rattle.model.specs.declared.Message.{Message}
+use Rattle.model.specs.declared.Message.the-variants.{View, Vote, Vc, Qc}
+use Rattle.model.specs.declared.Run.{Run}
+use Rattle.model.specs.Quantities.{tolerated, lead, initial, clockTime}
+use Rattle.model.specs.State.{State, withHeld, withTime, withClocks, withViews, clockOf, viewOf, isCorrect, enteredWord, heardWord, marksWord, markBit, word, added, kindOf, viewIn, processorIn, addressee, posted}
+
+-- what a move leaves of clocks, views and tally, and the messages that it sends, in order; nothing else of the run moves
+pub record Change : Type 0 where
+  pub clocks : List ℕ
+  pub views : List ℕ
+  pub tally : List ℕ
+  pub sent : List Message
+
+abbrev pub changed : Run → Change → Run
+changed r c = withViews (c .views) (withClocks (c .clocks) r)
+
+abbrev pub still : Run → List ℕ → Change
+still r t = record { clocks = r .clocks; views = r .views; tally = t; sent = [] }
+
+-- one change, and then another
+abbrev pub also : Change → Change → Change
+also c d = record { clocks = d .clocks; views = d .views; tally = d .tally; sent = c .sent ++ d .sent }
+
+-- "messages sent to correct cabinets": those that go into the post; "Messages to a faulty leader are not posted."
+unfoldable pub toCorrect : Run → List Message → List Message
+toCorrect r [] = []
+toCorrect r (m ∷ ms) = cond (isCorrect r (addressee (r .plan) (kindOf m) (viewIn m) (processorIn m))) (m ∷ toCorrect r ms) (toCorrect r ms)
+
+-- ---- "Entering view w: the view becomes w, a clock below wΓ becomes wΓ, and the cabinet sends its vote for w to the leader of w;
+-- for an initial w its view message goes before the vote."
+
+abbrev pub entryClock : Plan → ℕ → ℕ → ℕ
+entryClock plan clock w = cond (ltb clock (clockTime plan w)) (clockTime plan w) clock
+
+abbrev pub entryMessages : Plan → ℕ → ℕ → List Message
+entryMessages plan p w = cond (initial plan w) (View w p ∷ Vote w p ∷ []) (Vote w p ∷ [])
+
+unfoldable pub entering : Run → List ℕ → ℕ → ℕ → Change
+entering r t p w = record {
+  clocks = set (r .clocks) p (entryClock (r .plan) (clockOf r p) w);
+  views = set (r .views) p w;
+  tally = added t w enteredWord p;
+  sent = toCorrect r (entryMessages (r .plan) p w);
+}
+
+-- ---- which view rules 1 to 3 make a processor enter, if any
+
+pub data Entry : Type 0 where
+  stay : Entry
+  into : ℕ → Entry
+
+-- 1. "Clock: a tick that brings the clock to wΓ, w initial, enters w."
+abbrev pub byClock : Plan → ℕ → Entry
+byClock plan clock =
+    let w = clock / plan .gamma in
+    cond (eqb (clock % plan .gamma) 0 && initial plan w) (into w) stay
+
+-- 2. "Quorum certificate for w at or above the present view: enter w+1. Below it, nothing."
+abbrev pub byQuorum : ℕ → ℕ → Entry
+byQuorum view w = cond (leb view w) (into (w + 1)) stay
+
+-- 3. "View certificate for initial w above the present view: enter w. Otherwise nothing."
+abbrev pub byView : Plan → ℕ → ℕ → Entry
+byView plan view w = cond (initial plan w && ltb view w) (into w) stay
+
+unfoldable pub taking : Run → List ℕ → ℕ → Entry → Change
+taking r t p stay = still r t
+taking r t p (into w) = entering r t p w
+
+-- the processors below k, each with its entry: "In one event messages go out by rising cabinet number."
+unfoldable pub entries : (ℕ → Entry) → Run → List ℕ → ℕ → Change
+entries e r t zero = still r t
+entries e r t (suc k) = let c = entries e r t k in also c (taking (changed r c) (c .tally) k (e k))
+
+-- ---- rules 4 and 5
+
+-- 4. "With t+1 signers or more", 5. "with n−t signers or more"
+abbrev pub needed : Bool → Plan → ℕ
+needed false plan = tolerated plan + 1
+needed true plan = plan .n - tolerated plan
+
+-- "no such certificate formed yet and its own view at most w" (5: "whatever its own view"), p being the signer just heard
+unfoldable pub forms : Bool → Run → List ℕ → ℕ → ℕ → Bool
+forms stage r t w p =
+    leb (needed stage (r .plan)) (size (insert (word t w (heardWord stage)) p))
+    && not (member (word t w marksWord) (markBit stage))
+    && (stage || leb (viewOf r (lead (r .plan) w)) w)
+
+abbrev pub certificate : Bool → ℕ → ℕ → Message
+certificate false w p = Vc w p
+certificate true w p = Qc w p
+
+-- a certificate for each processor below k
+unfoldable pub toEach : Bool → ℕ → ℕ → List Message
+toEach stage w zero = []
+toEach stage w (suc k) = toEach stage w k ++ (certificate stage w k ∷ [])
+
+-- "A correct leader that hears a view message for w adds the signer." "A formed certificate is sent to every correct cabinet, the leader
+-- included."
+unfoldable pub hearing : Bool → Run → List ℕ → ℕ → ℕ → Change
+hearing stage r t w p =
+    let heard = added t w (heardWord stage) p in
+    let formed = forms stage r t w p in
+    record {
+      clocks = r .clocks;
+      views = r .views;
+      tally = cond formed (added heard w marksWord (markBit stage)) heard;
+      sent = cond formed (toCorrect r (toEach stage w (r .plan .n))) [];
+    }
+
+-- a message that reaches whom it is for
+unfoldable pub handling : Run → List ℕ → Message → Change
+handling r t (View w p) = hearing false r t w p
+handling r t (Vote w p) = hearing true r t w p
+handling r t (Vc w p) = taking r t p (byView (r .plan) (viewOf r p) w)
+handling r t (Qc w p) = taking r t p (byQuorum (viewOf r p) w)
+
+-- ---- "A single tick adds 1 to time and to every correct clock", and rule 1
+
+-- one more on each correct clock below k
+unfoldable pub clocksOn : Run → ℕ → List ℕ
+clocksOn r zero = r .clocks
+clocksOn r (suc k) = set (clocksOn r k) k (cond (isCorrect r k) (clockOf r k + 1) (clockOf r k))
+
+unfoldable pub advanced : State → State
+advanced s = record {
+  run = withTime (s .run .time + 1) (withClocks (clocksOn (s .run) (s .run .plan .n)) (s .run));
+  tally = s .tally;
+  network = s .network;
+}
+
+abbrev pub arrival : Run → ℕ → Entry
+arrival r p = cond (isCorrect r p) (byClock (r .plan) (clockOf r p)) stay
+
+-- the entries of a tick that has advanced time and clocks
+unfoldable pub ticking : State → Change
+ticking a = entries (arrival (a .run)) (a .run) (a .tally) (a .run .plan .n)
+
+-- ---- a change made, and its messages posted
+
+unfoldable pub made : State → Change → State
+made s c = record {
+  run = withHeld (s .run .held + length (c .sent)) (changed (s .run) c);
+  tally = c .tally;
+  network = posted (s .network) (s .run .held) (s .run .time) (c .sent);
+}

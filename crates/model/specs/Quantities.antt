@@ -1,0 +1,77 @@
+-- "Quantities": the limits, the plan's own functions, and who is correct.
+use mathlib.Core.Bool.{Bool, not, _&&_}
+use Prim.Native.Nat.{ℕ, _+_, _-_, _*_, _/_, _%_}
+use lib.Dec.{eqb, ltb}
+use Rattle.base.specs.Sets.{member}
+use Rattle.model.specs.declared.Plan.{Plan}
+
+-- "n, the cabinets: 4 to 64"
+abbrev pub nLeast : ℕ
+nLeast = 4
+
+abbrev pub nMost : ℕ
+nMost = 64
+
+-- "Δ, the delay: 1 to 1,000 ticks. Γ, the slot: 2Δ to 10,000 ticks."
+abbrev pub deltaMost : ℕ
+deltaMost = 1000
+
+abbrev pub gammaMost : ℕ
+gammaMost = 10000
+
+-- "V, the view limit: 3 to 6,000"
+abbrev pub viewsLeast : ℕ
+viewsLeast = 3
+
+abbrev pub viewsMost : ℕ
+viewsMost = 6000
+
+-- "The ledger: four 64-bit words a view"
+abbrev pub rowWords : ℕ
+rowWords = 4
+
+-- "The post: messages .. four 64-bit words each"; check 6: "fewer than 8n or more than 524,288"
+abbrev pub messageWords : ℕ
+messageWords = 4
+
+abbrev pub networkLeast : Plan → ℕ
+networkLeast p = 8 * p .n
+
+abbrev pub networkMost : ℕ
+networkMost = 524288
+
+-- "t = (n−1)/3 rounded down"
+abbrev pub tolerated : Plan → ℕ
+tolerated p = (p .n - 1) / 3
+
+-- "Views per leader .. belong to the plan itself: 3 views"
+unfoldable pub perLeader : Plan → ℕ
+perLeader p = 3
+
+-- "cabinet (w/3 rounded down) mod n leads view w"
+abbrev pub lead : Plan → ℕ → ℕ
+lead p w = w / perLeader p % p .n
+
+-- "A view divisible by 3 is initial."
+abbrev pub initial : Plan → ℕ → Bool
+initial p w = eqb (w % perLeader p) 0
+
+-- the first initial view above w
+abbrev pub nextInitial : Plan → ℕ → ℕ
+nextInitial p w = w / perLeader p * perLeader p + perLeader p
+
+-- "its clock time is wΓ"
+abbrev pub clockTime : Plan → ℕ → ℕ
+clockTime p w = w * p .gamma
+
+-- VΓ, which no correct clock reaches
+abbrev pub endTime : Plan → ℕ
+endTime p = clockTime p (p .views)
+
+-- 3Γ, which no start clock reaches (check 7)
+abbrev pub startLimit : Plan → ℕ
+startLimit p = clockTime p (perLeader p)
+
+-- "A cabinet is correct if its number is below n and not marked in the mask"
+abbrev pub correct : Plan → ℕ → ℕ → Bool
+correct p faulty q = ltb q (p .n) && not (member faulty q)

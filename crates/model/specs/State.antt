@@ -1,0 +1,171 @@
+-- "Quantities", continued: the run, the ledger and the post as they are lent, word by word, and what an answer says.
+use mathlib.Core.Bool.{Bool, true, false, cond}
+use mathlib.Core.List.{List, [], _∷_, _++_}
+use Prim.Native.Nat.{ℕ, zero, suc, _+_, _*_, _/_, _≤_}
+use lib.Dec.{leb}
+use lib.ListN.{length, getD, set, take, drop, replicate}
+use lib.Seq.{slice}
+use Rattle.base.specs.Sets.{insert}
+use Rattle.model.specs.declared.Plan.{Plan}
+use Rattle.model.specs.declared.Message.{Message}
+use Rattle.model.specs.declared.Message.the-variants.{View, Vote, Vc, Qc}
+use Rattle.model.specs.declared.Run.{Run}
+use Rattle.model.specs.declared.Answer.{Answer}
+use Rattle.model.specs.declared.Answer.the-variants.{Done, Stopped, Refused}
+use Rattle.model.specs.Quantities.{correct, lead, rowWords, messageWords}
+
+-- the run, and the two lent buffers: the ledger's words and the post's
+pub record State : Type 0 where
+  pub run : Run
+  pub tally : List ℕ
+  pub network : List ℕ
+
+-- ---- the run
+
+abbrev pub runOf : Plan → ℕ → ℕ → Bool → ℕ → ℕ → List ℕ → List ℕ → Run
+runOf plan faulty time settled gst held clocks views = record {
+  plan = plan;
+  faulty = faulty;
+  time = time;
+  settled = settled;
+  gst = gst;
+  held = held;
+  clocks = clocks;
+  views = views;
+}
+
+abbrev pub withHeld : ℕ → Run → Run
+withHeld h r = runOf (r .plan) (r .faulty) (r .time) (r .settled) (r .gst) h (r .clocks) (r .views)
+
+abbrev pub withTime : ℕ → Run → Run
+withTime t r = runOf (r .plan) (r .faulty) t (r .settled) (r .gst) (r .held) (r .clocks) (r .views)
+
+abbrev pub withSettling : ℕ → Run → Run
+withSettling g r = runOf (r .plan) (r .faulty) (r .time) true g (r .held) (r .clocks) (r .views)
+
+abbrev pub withClocks : List ℕ → Run → Run
+withClocks l r = runOf (r .plan) (r .faulty) (r .time) (r .settled) (r .gst) (r .held) l (r .views)
+
+abbrev pub withViews : List ℕ → Run → Run
+withViews l r = runOf (r .plan) (r .faulty) (r .time) (r .settled) (r .gst) (r .held) (r .clocks) l
+
+abbrev pub clockOf : Run → ℕ → ℕ
+clockOf r p = getD (r .clocks) p 0
+
+abbrev pub viewOf : Run → ℕ → ℕ
+viewOf r p = getD (r .views) p 0
+
+abbrev pub isCorrect : Run → ℕ → Bool
+isCorrect r p = correct (r .plan) (r .faulty) p
+
+-- ---- the tally: "four 64-bit words a view, being the correct cabinets that entered it, those whose view message its leader heard,
+-- those whose vote it heard, and two marks (1 view certificate formed, 2 quorum certificate formed)". Here and below a stage is false for
+-- view messages and view certificates, true for votes and quorum certificates. "A mark is one bit of its word".
+
+abbrev pub enteredWord : ℕ
+enteredWord = 0
+
+abbrev pub heardWord : Bool → ℕ
+heardWord false = 1
+heardWord true = 2
+
+abbrev pub marksWord : ℕ
+marksWord = 3
+
+abbrev pub markBit : Bool → ℕ
+markBit false = 0
+markBit true = 1
+
+abbrev pub place : ℕ → ℕ → ℕ
+place w j = rowWords * w + j
+
+abbrev pub word : List ℕ → ℕ → ℕ → ℕ
+word t w j = getD t (place w j) 0
+
+-- word j of view w with bit p set
+abbrev pub added : List ℕ → ℕ → ℕ → ℕ → List ℕ
+added t w j p = set t (place w j) (insert (word t w j) p)
+
+-- ---- the network: "kind (1 view, 2 vote, 3 view certificate, 4 quorum certificate), view, cabinet, sending time"
+
+abbrev pub kindOf : Message → ℕ
+kindOf (View w p) = 1
+kindOf (Vote w p) = 2
+kindOf (Vc w p) = 3
+kindOf (Qc w p) = 4
+
+abbrev pub viewIn : Message → ℕ
+viewIn (View w p) = w
+viewIn (Vote w p) = w
+viewIn (Vc w p) = w
+viewIn (Qc w p) = w
+
+abbrev pub processorIn : Message → ℕ
+processorIn (View w p) = p
+processorIn (Vote w p) = p
+processorIn (Vc w p) = p
+processorIn (Qc w p) = p
+
+-- "The cabinet is the sender for kinds 1 and 2, the receiver for 3 and 4": whom a stored message is for
+abbrev pub addressee : Plan → ℕ → ℕ → ℕ → ℕ
+addressee plan kind w p = cond (leb kind 2) (lead plan w) p
+
+abbrev pub kindAt : List ℕ → ℕ → ℕ
+kindAt ws i = getD ws (messageWords * i) 0
+
+abbrev pub viewAt : List ℕ → ℕ → ℕ
+viewAt ws i = getD ws (messageWords * i + 1) 0
+
+abbrev pub processorAt : List ℕ → ℕ → ℕ
+processorAt ws i = getD ws (messageWords * i + 2) 0
+
+abbrev pub sentAt : List ℕ → ℕ → ℕ
+sentAt ws i = getD ws (messageWords * i + 3) 0
+
+-- how many messages fit: "the post's words divided by 4, rounded down"
+abbrev pub capacity : List ℕ → ℕ
+capacity ws = length ws / messageWords
+
+abbrev pub wordsOf : ℕ → List Message → List ℕ
+wordsOf now [] = []
+wordsOf now (m ∷ ms) = kindOf m ∷ viewIn m ∷ processorIn m ∷ now ∷ wordsOf now ms
+
+-- "They stand in sending order": messages sent now, behind the h that are held
+unfoldable pub posted : List ℕ → ℕ → ℕ → List Message → List ℕ
+posted ws h now ms = take (messageWords * h) ws ++ wordsOf now ms ++ drop (messageWords * (h + length ms)) ws
+
+-- "a delivered one is removed and the rest close up, so its place is used again. Words beyond the last message are 0."
+unfoldable pub removed : List ℕ → ℕ → ℕ → List ℕ
+removed ws h i =
+    take (messageWords * i) ws ++ slice (messageWords * (i + 1)) (messageWords * h) ws ++ replicate messageWords 0 ++ drop (messageWords * h) ws
+
+-- ---- the answer: document 01's numbers for each of its cases
+
+-- the check that refused the call or ended the ticks; 0: none
+abbrev pub checkOf : Answer → ℕ
+checkOf (Done a h) = 0
+checkOf (Stopped a h r) = r
+checkOf (Refused r) = r
+
+-- the ticks done; "a refused one did none"
+abbrev pub ticksOf : Answer → ℕ
+ticksOf (Done a h) = a
+ticksOf (Stopped a h r) = a
+ticksOf (Refused r) = 0
+
+abbrev pub accepted : Answer → Bool
+accepted (Done a h) = true
+accepted (Stopped a h r) = true
+accepted (Refused r) = false
+
+-- what a call leaves, and its answer
+pub record After : Type 0 where
+  pub state : State
+  pub answer : Answer
+
+-- "A refusal answers its number alone and changes nothing"
+abbrev pub refused : State → ℕ → After
+refused s r = record { state = s; answer = Refused r }
+
+abbrev pub done : State → After
+done s = record { state = s; answer = Done 0 (s .run .held) }

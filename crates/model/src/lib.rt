@@ -1,0 +1,86 @@
+// The types of the product, declared once.
+
+// The protocol's parameters (document 01: the plan): processors, delay, slot, view limit.
+pub struct Plan {
+    pub n: u64,
+    pub delta: u64,
+    pub gamma: u64,
+    pub views: u64,
+}
+
+// A message: its view, then the processor, which is the sender of a view message or vote and the receiver of a certificate.
+pub enum Message {
+    View(u64, u64),
+    Vote(u64, u64),
+    Vc(u64, u64),
+    Qc(u64, u64),
+}
+
+// What a network and lying processors can do next (document 01: the forms of a line, but for the opening).
+pub enum Event {
+    Deliver(Message),
+    Sign(Message),
+    Show(Message),
+    Settle,
+    Tick(u64),
+}
+
+// An initial configuration (document 01: what the opening form carries; the clocks are its table).
+pub struct Setup {
+    pub plan: Plan,
+    pub faulty: u64,
+    pub clocks: [u64; 64],
+}
+
+// The execution so far, without the lent buffers.
+pub struct Run {
+    pub plan: Plan,
+    pub faulty: u64,
+    pub time: u64,
+    pub settled: bool,
+    pub gst: u64,
+    pub held: usize,
+    pub clocks: [u64; 64],
+    pub views: [u64; 64],
+}
+
+// The answer to an opening or an event. Done: ticks done, messages held. Stopped: the same, and the check that ended the ticks.
+// Refused: the first check that fails.
+pub enum Answer {
+    Done(u64, usize),
+    Stopped(u64, usize, u64),
+    Refused(u64),
+}
+
+// What a call leaves of the run, and its answer.
+pub struct Applied {
+    pub run: Run,
+    pub answer: Answer,
+}
+
+// One processor's own record (document 01: what is lent at the cabinet's own face).
+pub struct Processor {
+    pub number: u64,
+    pub clock: u64,
+    pub view: u64,
+}
+
+// What reaches one processor: a tick of its clock, or a certificate for a view.
+pub enum Input {
+    Tick,
+    Vc(u64),
+    Qc(u64),
+}
+
+// The messages that a processor sends in one move, for the view named.
+pub enum Sends {
+    Nothing,
+    Vote(u64),
+    ViewAndVote(u64),
+}
+
+// The answer of one processor.
+pub enum Stepped {
+    Sent(Sends),
+    Refused(u64),
+}

@@ -32,6 +32,7 @@ pub record Planned (plan : Plan) (faulty : ℕ) : Type 0 where
   pub delta-least : 1 ≤ plan .delta
   pub gamma-least : 2 * plan .delta ≤ plan .gamma
   pub views-least : viewsLeast ≤ plan .views
+  pub views-initial : T (initial plan (plan .views))
   pub faulty-below : faulty < 2 ^ plan .n
   pub faulty-few : size faulty ≤ tolerated plan
 

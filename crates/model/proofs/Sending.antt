@@ -57,16 +57,16 @@ abbrev pub Elem : Message → List Message → Type 0
 Elem m [] = ⊥
 Elem m (x ∷ xs) = (m ≡ x) ⊎ Elem m xs
 
-elem-left : (m : Message) (a b : List Message) → Elem m a → Elem m (a ++ b)
+pub elem-left : (m : Message) (a b : List Message) → Elem m a → Elem m (a ++ b)
 elem-left m [] b i = absurd i
 elem-left m (x ∷ a) b (inl e) = inl e
 elem-left m (x ∷ a) b (inr i) = inr (elem-left m a b i)
 
-elem-right : (m : Message) (a b : List Message) → Elem m b → Elem m (a ++ b)
+pub elem-right : (m : Message) (a b : List Message) → Elem m b → Elem m (a ++ b)
 elem-right m [] b i = i
 elem-right m (x ∷ a) b i = inr (elem-right m a b i)
 
-elem-cases : (m : Message) (a b : List Message) → Elem m (a ++ b) → Elem m a ⊎ Elem m b
+pub elem-cases : (m : Message) (a b : List Message) → Elem m (a ++ b) → Elem m a ⊎ Elem m b
 elem-cases m [] b i = inr i
 elem-cases m (x ∷ a) b (inl e) = inl (inl e)
 elem-cases m (x ∷ a) b (inr i) = ⊎-elim (λ y. inl (inr y)) (λ y. inr y) (elem-cases m a b i)

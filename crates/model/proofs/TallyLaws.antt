@@ -7,11 +7,15 @@ use Prim.Native.Nat.{ℕ, zero, suc, _+_, _*_, _^_, _≤_, _<_}
 use native.Mathlib.Omega.{arith}
 use lib.Dec.{T, eqb, eqb→eq}
 use lib.ListN.{length, getD, set, length-set}
-use lib.Seq.{getD-set-same, getD-set-other}
-use Rattle.base.specs.Tests.{T-and, T-left, T-right, or-left, or-right, or-cases, T-iff, eq?, eq→eqb}
+use lib.Seq.{getD-set-same, getD-set-other, set-out}
+use Rattle.base.specs.Tests.{T-and, T-left, T-right, or-left, or-right, or-cases, T-iff, le?, eq?, eq→eqb}
 use Rattle.base.specs.Sets.{member, insert}
 use Rattle.base.specs.SetLaws.{member-insert, insert-below}
-use Rattle.model.specs.State.{place, word, added}
+use Rattle.model.specs.State.{heardWord, marksWord, place, word, added}
+
+pub heard-low : (d : Bool) → (0 < heardWord d) × (heardWord d < marksWord)
+heard-low false = omega arith
+heard-low true = omega arith
 
 pub length-added : (t : List ℕ) (w j p : ℕ) → length (added t w j p) ≡ length t
 length-added t w j p = length-set t (place w j) (insert (word t w j) p)
@@ -22,6 +26,17 @@ module _ (t : List ℕ) (w j p : ℕ) where
 
   pub added-other : (u i : ℕ) → place u i ≢ place w j → word (added t w j p) u i ≡ word t u i
   added-other u i ne = getD-set-other t (place w j) (place u i) (insert (word t w j) p) 0 ne
+
+  -- a bit that is set was set, or is the one added, whatever the length
+  pub added-only : (u i q : ℕ) → T (member (word (added t w j p) u i) q) → T (member (word t u i) q) ⊎ ((place u i ≡ place w j) × (q ≡ p))
+  added-only u i q x = ⊎-elim here (λ ne. inl (rw (added-other u i ne) at x)) (eq? (place u i) (place w j))
+    where
+      here : place u i ≡ place w j → T (member (word t u i) q) ⊎ ((place u i ≡ place w j) × (q ≡ p))
+      here e = ⊎-elim
+          (λ (l : suc (place w j) ≤ length t). ⊎-elim (λ y. inl (subst (λ (z : ℕ). T (member (getD t z 0) q)) (sym e) y)) (λ y. inr (e, eqb→eq q p y))
+          (or-cases (member (word t w j) q) (eqb q p) (subst T (ap (λ (z : ℕ). member z q) (ap (λ (z : ℕ). getD (added t w j p) z 0) e ∙ added-same l) ∙ member-insert (word t w j) p q) x)))
+          (λ (l : length t < suc (place w j)). inl (subst (λ (z : List ℕ). T (member (word z u i) q)) (set-out t (place w j) (insert (word t w j) p) (omega arith)) x))
+          (le? (suc (place w j)) (length t))
 
   module _ (j-low : j < 4) (long : place w j < length t) where
     -- bit q of word i of view u is as it was, or it is the one that was set

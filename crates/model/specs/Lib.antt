@@ -7,4 +7,5 @@ pub mod Opening
 pub mod Events
 pub mod Processors
 pub mod Lists
+pub mod Promises
 pub mod Settings

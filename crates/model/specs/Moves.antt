@@ -130,7 +130,7 @@ unfoldable pub clocksOn : Run → ℕ → List ℕ
 clocksOn r zero = r .clocks
 clocksOn r (suc k) = set (clocksOn r k) k (cond (isCorrect r k) (clockOf r k + 1) (clockOf r k))
 
-unfoldable pub advanced : State → State
+abbrev pub advanced : State → State
 advanced s = record {
   run = withTime (s .run .time + 1) (withClocks (clocksOn (s .run) (s .run .plan .n)) (s .run));
   tally = s .tally;

@@ -44,5 +44,5 @@ abbrev schedule : List Event
 schedule = Deliver (View 0 0) ∷ Deliver (View 0 1) ∷ Tick 3 ∷ Settle ∷ Tick 3 ∷ []
 
 printed : (opens 0 (0 ∷ 0 ∷ 0 ∷ 0 ∷ []) .answer ∷ answers (opens 0 (0 ∷ 0 ∷ 0 ∷ 0 ∷ []) .state) schedule) ≡ (Done 0 8 ∷ Done 0 7 ∷ Done 0 10 ∷ Done 3 10 ∷ Done 0 10 ∷ Stopped 2 10 16 ∷ [])
-unfolding applied checks effect ticked ticks tickOnce settled signing delivering without opening opened blank reachesEnd overdue exists unsound heldUnsound tooFarAhead startTooHigh made ticking advanced clocksOn handling hearing toEach forms entries taking entering toCorrect removed posted perLeader count some first listed member ones onesIn
+unfolding applied checks effect ticked ticks tickOnce settled signing delivering without opening opened blank reachesEnd overdue exists unsound heldUnsound tooFarAhead startTooHigh made ticking clocksOn handling hearing toEach forms entries taking entering toCorrect removed posted perLeader count some first listed member ones onesIn
 printed = refl

@@ -5,7 +5,6 @@ use Prim.Native.Nat.{ℕ, zero, suc, _+_, _≤_, _<_}
 use native.Mathlib.Omega.{arith}
 use native.Mathlib.Nat.{lt-irrefl}
 use lib.Dec.{T}
-use Rattle.base.specs.Tests.{le?}
 
 abbrev pub bit : Bool → ℕ
 bit true = 1

@@ -1,5 +1,6 @@
 -- What every layer above shares.
 pub mod Tests
+pub mod Choice
 pub mod Count
 pub mod Scan
 pub mod ScanLaws

@@ -1,8 +1,7 @@
 -- Membership of a set with one more, and its size as a count. Assumes nothing.
 use mathlib.Core.Path.{_≡_, refl, sym, ap, _∙_, subst}
-use mathlib.Core.Bool.{Bool, true, false, _||_}
-use mathlib.Core.Logic.{inl, inr, ⊎-elim}
-use Prim.Native.Nat.{ℕ, zero, suc, _+_, _*_, _/_, _%_, _^_, _≤_, _<_, max}
+use mathlib.Core.Bool.{Bool, _||_}
+use Prim.Native.Nat.{ℕ, zero, suc, _*_, _/_, _%_, _^_, _<_, max}
 use native.Mathlib.Nat.{div-one, mod-lt, div-self, div-eq-of-lt, mul-mod-left, pow-suc}
 use native.Mathlib.Omega.{arith}
 use native.Mathlib.Numerals.{add-one}
@@ -11,7 +10,7 @@ use lib.Count.{ones, ones-step}
 use lib.Pow.{shl-shr, shr-shr, shr-lt, pow-pos, pow-lt}
 use lib.Arith.{lt-one, digits-mod}
 use lib.Bits.{bitOr, or-shr, or-step, or-lt}
-use Rattle.base.specs.Tests.{T-iff, or-cases, or-left, or-right, eq→eqb}
+use Rattle.base.specs.Tests.{T-iff, eq→eqb}
 use Rattle.base.specs.Count.{bit, count, count-ext, count-low}
 use Rattle.base.specs.Sets.{member, insert, size}
 

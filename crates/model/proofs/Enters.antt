@@ -1,9 +1,9 @@
 -- A processor that enters a view does so as in the protocol. Assumes nothing.
 use mathlib.Core.Path.{_≡_, refl, sym, ap, _∙_, subst}
-use mathlib.Core.Bool.{Bool, true, false, _&&_, _||_, cond}
+use mathlib.Core.Bool.{Bool, _&&_, _||_}
 use mathlib.Core.Logic.{_⊎_, inl, inr, _≢_, ⊎-elim}
-use mathlib.Core.List.{List, [], _∷_, _++_}
-use Prim.Native.Nat.{ℕ, zero, suc, _+_, _*_, _/_, _%_, _^_, _≤_, _<_, max}
+use mathlib.Core.List.{List, _++_}
+use Prim.Native.Nat.{ℕ, _+_, _≤_, _<_, max}
 use native.Mathlib.Omega.{arith}
 use native.Mathlib.Nat.{mul-le-mul-right}
 use lib.Dec.{T, eqb, ltb, eqb→eq, ltb→lt, lt→ltb}
@@ -12,19 +12,20 @@ use lib.Seq.{getD-set-same, getD-set-other}
 use Rattle.base.specs.Tests.{T-left, T-right, T-and, or-left, or-right, or-cases, le?, eq?, eq→eqb, by-cond}
 use Rattle.base.specs.Sets.{member}
 use Rattle.protocol.specs.Params as proto
-use Rattle.protocol.specs.State.{Processors, Tally, Flight, onward}
-use Rattle.protocol.specs.Moves.{Reason, Enter, Pass}
+use Rattle.protocol.specs.Params.{Params}
+use Rattle.protocol.specs.State.{Processors, Tally, onward}
+use Rattle.protocol.specs.Moves.{Reason, Enter}
 use Rattle.protocol.specs.EnterKeeps.{ready-up}
 use Rattle.model.specs.declared.Plan.{Plan}
 use Rattle.model.specs.declared.Message.{Message}
 use Rattle.model.specs.declared.Run.{Run}
-use Rattle.model.specs.Quantities.{perLeader, lead, nextInitial, clockTime, endTime}
-use Rattle.model.specs.State.{clockOf, viewOf, isCorrect, enteredWord, heardWord, marksWord, markBit, place, word, added}
-use Rattle.model.specs.Moves.{Change, toCorrect, entryClock, entryMessages, entering, certificate}
+use Rattle.model.specs.Quantities.{lead, nextInitial, clockTime, endTime}
+use Rattle.model.specs.State.{clockOf, viewOf, isCorrect, enteredWord, heardWord, marksWord, markBit, place, added}
+use Rattle.model.specs.Moves.{toCorrect, entryClock, entryMessages, certificate}
 use Rattle.model.proofs.TallyLaws.{heard-low, length-added, added-other, added-member, added-below}
 use Rattle.model.proofs.Flight.{Sent, In, stamped, in-left, in-right, in-cases}
-use Rattle.model.proofs.Sending.{signature, signature-is, certificate-is, apart, meant, signature-meant, Elem, in-stamped, stamped-in, elem-correct, correct-elem, At, entry-sends, entry-sent}
-use Rattle.model.proofs.Link.{Planned, params, correct-below, gamma-positive, lead-is, to-starts, from-starts, flight, Books, Ready, Below}
+use Rattle.model.proofs.Sending.{signature, signature-is, certificate-is, apart, meant, signature-meant, in-stamped, stamped-in, elem-correct, correct-elem, At, entry-sends, entry-sent}
+use Rattle.model.proofs.Link.{Planned, params, correct-below, gamma-positive, to-starts, from-starts, flight, Books, Ready, Below}
 
 pub entry-max : (plan : Plan) (clock w : ℕ) → entryClock plan clock w ≡ max clock (clockTime plan w)
 entry-max plan clock w = by-cond (λ (x : ℕ). x ≡ max clock (clockTime plan w)) (ltb clock (clockTime plan w)) (clockTime plan w) clock
@@ -37,6 +38,9 @@ time-below plan faulty w ok l = omega (arith, mul-le-mul-right (plan .gamma) l, 
 
 module _ (r : Run) (t : List ℕ) (ok : Planned (r .plan) (r .faulty)) {P : Processors} {L : Tally} (books : Books (r .plan) (r .clocks) (r .views) t P L)
     (p w : ℕ) (c : T (isCorrect r p)) (w-low : w < r .plan .views) where
+  abbrev π : Params
+  π = params (r .plan) (r .faulty) ok
+
   abbrev pub clocks-to : List ℕ
   clocks-to = set (r .clocks) p (entryClock (r .plan) (clockOf r p) w)
 
@@ -64,7 +68,8 @@ module _ (r : Run) (t : List ℕ) (ok : Planned (r .plan) (r .faulty)) {P : Proc
     rows = rw (length-added t w enteredWord p) (books .rows);
     clock = λ q. refl;
     view = λ q. refl;
-    entered = λ u q l. ap (λ (b : Bool). b || (eqb u w && eqb q p)) (books .entered u q l) ∙ sym (added-member t w enteredWord p (omega arith) row-long u enteredWord q (omega arith));
+    entered = λ u q l. ap (λ (b : Bool). b || (eqb u w && eqb q p)) (books .entered u q l)
+        ∙ sym (added-member t w enteredWord p (omega arith) row-long u enteredWord q (omega arith));
     heard = λ d u q l. books .heard d u q l ∙ ap (λ (x : ℕ). member x q) (sym (added-other t w enteredWord p u (heardWord d) (omega (arith, heard-low d))));
     formed = λ d u l. books .formed d u l ∙ ap (λ (x : ℕ). member x (markBit d)) (sym (added-other t w enteredWord p u marksWord (omega arith)));
     sets-below = λ u j l h. added-below t w enteredWord p (omega arith) row-long (r .plan .n) u j (omega arith) p-low (books .sets-below u j l h);
@@ -80,7 +85,7 @@ module _ (r : Run) (t : List ℕ) (ok : Planned (r .plan) (r .faulty)) {P : Proc
   -- ys is what is left of the messages in flight, xs, without a certificate for p that leads no further
   module _ (now : ℕ) (xs ys : List Sent) (kept : (m : Message) (s : ℕ) → In m s ys → In m s xs)
       (gone : (m : Message) (s : ℕ) → In m s xs → In m s ys ⊎ ((d : Bool) × (u : ℕ) × (m ≡ certificate d u p) × (onward d u ≤ w)))
-      (why : Reason (params (r .plan) (r .faulty) ok) P L p w) where
+      (why : Reason (π) P L p w) where
     abbrev pub sent-to : List Message
     sent-to = toCorrect r (entryMessages (r .plan) p w)
 
@@ -93,7 +98,7 @@ module _ (r : Run) (t : List ℕ) (ok : Planned (r .plan) (r .faulty)) {P : Proc
         let e = entry-sent (r .plan) m w p (b .0) in
         (e .0, e .1, a .0, subst (λ (x : ℕ). T (isCorrect r x)) (ap (meant (r .plan)) (e .1) ∙ signature-meant (r .plan) (e .0) w p) (b .1), e .2)
 
-    pub entered : Enter (params (r .plan) (r .faulty) ok) P entrants L (flight xs) (flight (ys ++ stamped now sent-to)) now p w
+    pub entered : Enter (π) P entrants L (flight xs) (flight (ys ++ stamped now sent-to)) now p w
     unfolding proto.lead proto.row
     entered = record {
       is-correct = c;
@@ -126,7 +131,8 @@ module _ (r : Run) (t : List ℕ) (ok : Planned (r .plan) (r .faulty)) {P : Proc
 
     -- no clock is left standing at an initial view that is not entered
     pub enter-ready : ((q : ℕ) → T (isCorrect r q) → q ≢ p → clockOf r q < clockTime (r .plan) (nextInitial (r .plan) (viewOf r q)))
-        → ((clockOf r p < clockTime (r .plan) (nextInitial (r .plan) (viewOf r p))) ⊎ (clockOf r p ≡ clockTime (r .plan) w)) → Ready (r .plan) (r .faulty) clocks-to views-to
+        → ((clockOf r p < clockTime (r .plan) (nextInitial (r .plan) (viewOf r p))) ⊎ (clockOf r p ≡ clockTime (r .plan) w))
+        → Ready (r .plan) (r .faulty) clocks-to views-to
     unfolding proto.next proto.row
     enter-ready others here = ready-up entered
         (λ q i ne. rw (books .clock q, books .view q) (others q i ne))

@@ -1,16 +1,14 @@
 -- The network's words as a list of messages in flight, and what posting and removing do to the list. Assumes nothing.
-use mathlib.Core.Path.{_≡_, refl, sym, ap, _∙_, subst}
-use mathlib.Core.Bool.{Bool, true, false, _&&_}
+use mathlib.Core.Path.{_≡_, refl, sym, ap, _∙_}
+use mathlib.Core.Bool.{_&&_}
 use mathlib.Core.Logic.{_⊎_, inl, inr, ⊎-elim}
 use mathlib.Core.List.{List, [], _∷_, _++_, append-assoc}
-use Prim.Native.Nat.{ℕ, zero, suc, _+_, _-_, _*_, _/_, _≤_, _<_}
+use Prim.Native.Nat.{ℕ, zero, suc, _+_, _-_, _*_, _<_}
 use native.Mathlib.Omega.{arith}
 use lib.Dec.{T, eqb, eqb→eq}
-use lib.ListN.{length, getD, take, drop, replicate, length-append, length-replicate}
-use lib.Seq.{slice, take-at, drop-at, drop-drop, split-at, length-take-le}
+use lib.ListN.{length, take, drop, replicate, length-append, length-replicate}
+use lib.Seq.{take-at, drop-at, drop-drop}
 use Rattle.base.specs.Tests.{T-left, T-right}
-use Rattle.base.specs.Scan.{first}
-use Rattle.base.specs.ScanLaws.{first-at}
 use Rattle.model.specs.declared.Message.{Message}
 use Rattle.model.specs.declared.Message.the-variants.{View, Vote, Vc, Qc}
 use Rattle.model.specs.State.{kindOf, viewIn, processorIn, kindAt, viewAt, processorAt, sentAt, wordsOf, posted, removed}
@@ -91,13 +89,15 @@ removed-laid a b x z =
     let n : length w ≡ messageWords * length a = length-words a in
     let k : length all ≡ messageWords * h = length-words (a ++ x ∷ b) in
     let e : all ≡ w ++ t = words-append a (x ∷ b) in
-    let before : take (messageWords * length a) (all ++ replicate z 0) ≡ w = rw (e, append-assoc) (take-at w (t ++ replicate z 0) (messageWords * length a) n) in
+    let before : take (messageWords * length a) (all ++ replicate z 0) ≡ w =
+    rw (e, append-assoc) (take-at w (t ++ replicate z 0) (messageWords * length a) n) in
     let up-to : take (messageWords * h) (all ++ replicate z 0) ≡ w ++ t = take-at all (replicate z 0) (messageWords * h) k ∙ e in
     let i : messageWords * (length a + 1) ≡ messageWords * length a + 4 = omega arith in
     let behind : drop (messageWords * (length a + 1)) (w ++ t) ≡ allWords b =
     rw i (sym (drop-drop 4 (messageWords * length a) (w ++ t)) ∙ ap (drop 4) (drop-at w t (messageWords * length a) n)) in
     let rest : drop (messageWords * h) (all ++ replicate z 0) ≡ replicate z 0 = drop-at all (replicate z 0) (messageWords * h) k in
-    let zeros : replicate {A = ℕ} (messageWords + z) 0 ≡ 0 ∷ 0 ∷ 0 ∷ 0 ∷ replicate z 0 = let s : messageWords + z ≡ suc (suc (suc (suc z))) = omega arith in rw s in
+    let zeros : replicate {A = ℕ} (messageWords + z) 0 ≡ 0 ∷ 0 ∷ 0 ∷ 0 ∷ replicate z 0 = let s : messageWords + z ≡ suc (suc (suc (suc z))) =
+    omega arith in rw s in
     rw (before, up-to, behind, rest, append-assoc, words-append, zeros)
 
 -- ---- membership
@@ -200,8 +200,10 @@ found-at (x ∷ xs) z m zero l t = record { ahead = []; behind = xs; time = x .t
   where
     e : x .message ≡ m
     e = same-message (x .message) m
-        (eqb→eq _ _ (T-left (eqb (kindOf (x .message)) (kindOf m)) _ (T-left (eqb (kindOf (x .message)) (kindOf m) && eqb (viewIn (x .message)) (viewIn m)) _ t)))
-        (eqb→eq _ _ (T-right (eqb (kindOf (x .message)) (kindOf m)) _ (T-left (eqb (kindOf (x .message)) (kindOf m) && eqb (viewIn (x .message)) (viewIn m)) _ t)))
+        (eqb→eq _ _ (T-left (eqb (kindOf (x .message)) (kindOf m)) _
+        (T-left (eqb (kindOf (x .message)) (kindOf m) && eqb (viewIn (x .message)) (viewIn m)) _ t)))
+        (eqb→eq _ _ (T-right (eqb (kindOf (x .message)) (kindOf m)) _
+        (T-left (eqb (kindOf (x .message)) (kindOf m) && eqb (viewIn (x .message)) (viewIn m)) _ t)))
         (eqb→eq _ _ (T-right (eqb (kindOf (x .message)) (kindOf m) && eqb (viewIn (x .message)) (viewIn m)) _ t))
 found-at (x ∷ xs) z m (suc i) l t = go (found-at xs z m i (omega arith) t')
   where

@@ -1,11 +1,10 @@
 -- Ticks and time in any list of events, from any run and buffers. Assumes nothing.
 use mathlib.Core.Path.{_≡_, refl, sym, ap, _∙_, subst}
-use mathlib.Core.Bool.{Bool, true, false}
-use mathlib.Core.Logic.{_⊎_, inl, inr, _≢_, ⊎-elim}
-use mathlib.Core.List.{List, [], _∷_, _++_}
-use Prim.Native.Nat.{ℕ, zero, suc, _+_, _-_, _*_, _≤_, _<_}
+use mathlib.Core.Logic.{_⊎_, inl, inr, _≢_}
+use mathlib.Core.List.{[], _∷_}
+use Prim.Native.Nat.{ℕ, zero, suc, _+_, _-_}
 use native.Mathlib.Omega.{arith}
-use lib.Dec.{T, eqb, eqb→eq}
+use lib.Dec.{eqb, eqb→eq}
 use Rattle.base.specs.Tests.{by-cond}
 use Rattle.model.specs.declared.Event.{Event}
 use Rattle.model.specs.declared.Event.the-variants.{Deliver, Sign, Show, Settle, Tick}
@@ -31,7 +30,8 @@ pub once : (s : State) → ((checkOf (tickOnce s .answer) ≡ 0) × (tickOnce s 
     ⊎ ((r : ℕ) × (checkOf (tickOnce s .answer) ≡ suc r) × (suc r ≢ 9) × (tickOnce s ≡ refused s (suc r)))
 unfolding tickOnce made
 once s = by-judged-each
-    (λ (a : After). ((checkOf (a .answer) ≡ 0) × (a .state .run .time ≡ s .run .time + 1)) ⊎ ((r : ℕ) × (checkOf (a .answer) ≡ suc r) × (suc r ≢ 9) × (a ≡ refused s (suc r))))
+    (λ (a : After). ((checkOf (a .answer) ≡ 0) × (a .state .run .time ≡ s .run .time + 1))
+    ⊎ ((r : ℕ) × (checkOf (a .answer) ≡ suc r) × (suc r ≢ 9) × (a ≡ refused s (suc r))))
     (refused s) ((16, overdue s) ∷ outcomeChecks (advanced s) (ticking (advanced s))) _
     (λ t. inr (15, refl, omega arith, refl), (λ t. inr (16, refl, omega arith, refl), (λ t. inr (17, refl, omega arith, refl), tt))) (λ c. inl (refl, refl))
 
@@ -84,7 +84,8 @@ ticks-add (suc a) b s = go (ticks-add a b (tickOnce s .state)) (once s)
         × (ticks a (tickOnce s .state) .check ≢ 0 → ticks (a + b) (tickOnce s .state) ≡ ticks a (tickOnce s .state))
         → ((checkOf (tickOnce s .answer) ≡ 0) × (tickOnce s .state .run .time ≡ s .run .time + 1))
         ⊎ ((r : ℕ) × (checkOf (tickOnce s .answer) ≡ suc r) × (suc r ≢ 9) × (tickOnce s ≡ refused s (suc r)))
-        → (ticks (suc a) s .check ≡ 0 → ticks (suc a + b) s ≡ later (suc a) (ticks b (ticks (suc a) s .state))) × (ticks (suc a) s .check ≢ 0 → ticks (suc a + b) s ≡ ticks (suc a) s)
+        → (ticks (suc a) s .check ≡ 0 → ticks (suc a + b) s ≡ later (suc a) (ticks b (ticks (suc a) s .state)))
+        × (ticks (suc a) s .check ≢ 0 → ticks (suc a + b) s ≡ ticks (suc a) s)
     go ih (inl w) =
         let t : ticks (suc a) s ≡ continued s 0 (ticks a (tickOnce s .state)) = ticks-went a s (w .0) in
         let u : ticks (suc a + b) s ≡ continued s 0 (ticks (a + b) (tickOnce s .state)) = ap (λ (k : ℕ). ticks k s) sum ∙ ticks-went (a + b) s (w .0) in (
@@ -94,7 +95,8 @@ ticks-add (suc a) b s = go (ticks-add a b (tickOnce s .state)) (once s)
         )
     go ih (inr w) =
         let t : ticks (suc a) s ≡ record { state = s; count = 0; check = suc (w .0) } = ticks-ended a s (w .0) (w .1) in
-        let u : ticks (suc a + b) s ≡ record { state = s; count = 0; check = suc (w .0) } = ap (λ (k : ℕ). ticks k s) sum ∙ ticks-ended (a + b) s (w .0) (w .1) in
+        let u : ticks (suc a + b) s ≡ record { state = s; count = 0; check = suc (w .0) } = ap (λ (k : ℕ). ticks k s) sum
+        ∙ ticks-ended (a + b) s (w .0) (w .1) in
         (λ e. absurd (omega (arith, sym (ap (λ (x : Ticks). x .check) t) ∙ e)), λ ne. u ∙ sym t)
 
 -- no run of ticks is ended by check 9
@@ -114,12 +116,14 @@ ticks-not-nine (suc m) s = go (ticks-not-nine m (tickOnce s .state)) (once s)
 pub answered : (x : Ticks) → ticksOf (ticksAnswer x) ≡ x .count
 answered x = by-cond (λ (a : Answer). ticksOf a ≡ x .count) (eqb (x .count) 0) (Refused (x .check)) _
     (λ t. sym (eqb→eq (x .count) 0 t))
-    (λ t. by-cond (λ (a : Answer). ticksOf a ≡ x .count) (eqb (x .check) 0) (Done (x .count) (x .state .run .held)) (Stopped (x .count) (x .state .run .held) (x .check)) (λ t'. refl) (λ t'. refl))
+    (λ t. by-cond (λ (a : Answer). ticksOf a ≡ x .count) (eqb (x .check) 0) (Done (x .count) (x .state .run .held))
+    (Stopped (x .count) (x .state .run .held) (x .check)) (λ t'. refl) (λ t'. refl))
 
 pub answered-check : (x : Ticks) → checkOf (ticksAnswer x) ≡ x .check
 answered-check x = by-cond (λ (a : Answer). checkOf a ≡ x .check) (eqb (x .count) 0) (Refused (x .check)) _
     (λ t. refl)
-    (λ t. by-cond (λ (a : Answer). checkOf a ≡ x .check) (eqb (x .check) 0) (Done (x .count) (x .state .run .held)) (Stopped (x .count) (x .state .run .held) (x .check))
+    (λ t. by-cond (λ (a : Answer). checkOf a ≡ x .check) (eqb (x .check) 0) (Done (x .count) (x .state .run .held))
+    (Stopped (x .count) (x .state .run .held) (x .check))
     (λ t'. sym (eqb→eq (x .check) 0 t')) (λ t'. refl))
 
 -- ---- time
@@ -134,7 +138,8 @@ gains (Tick m) s = omega (arith, ticks-counted m s .gained, answered (ticks m s)
 
 pub event-time : (e : Event) (s : State) → applied e s .state .run .time ≡ s .run .time + ticksOf (applied e s .answer)
 unfolding applied
-event-time e s = by-judged (λ (a : After). a .state .run .time ≡ s .run .time + ticksOf (a .answer)) (refused s) (checks e s) (effect e s) (λ r. omega arith) (λ c. gains e s)
+event-time e s = by-judged (λ (a : After). a .state .run .time ≡ s .run .time + ticksOf (a .answer)) (refused s) (checks e s) (effect e s)
+    (λ r. omega arith) (λ c. gains e s)
 
 pub ticks-are-time : TicksAreTime
 unfolding after ticksDone

@@ -1,14 +1,17 @@
 -- What a list of checks lets pass. Assumes nothing.
-use mathlib.Core.Path.{_≡_, refl}
-use mathlib.Core.Bool.{Bool, true, false, _||_}
+use mathlib.Core.Path.{_≡_}
+use mathlib.Core.Bool.{Bool, _||_}
 use mathlib.Core.Logic.{⊎-elim}
 use mathlib.Core.List.{List, [], _∷_}
 use Prim.Native.Nat.{ℕ, _≤_, _<_}
 use native.Mathlib.Omega.{arith}
 use lib.Dec.{T, leb, ltb, le→leb, lt→ltb}
-use Rattle.base.specs.Tests.{or-left, or-right, or-cases, le?, by-cond}
+use Rattle.base.specs.ScanLaws.{first-le}
+use Rattle.base.specs.Tests.{eq?, eq→eqb, or-left, or-right, or-cases, le?, by-cond}
 use Rattle.model.specs.declared.Plan.{Plan}
-use Rattle.model.specs.Checks.{Check, judged, namedOutside}
+use Rattle.model.specs.declared.Message.{Message}
+use Rattle.model.specs.State.{State}
+use Rattle.model.specs.Checks.{Check, judged, namedOutside, isAt, placeOf, notHeld}
 
 -- none of the checks refuses
 abbrev pub Passes : List Check → Type 0
@@ -21,15 +24,18 @@ Refusals F [] = Unit {κ}
 Refusals F (c ∷ cs) = (T (c .1) → F (c .0)) × Refusals F cs
 
 -- what holds of the refusals, and of a where all pass, holds
-pub by-judged-each {κ} : {A : Type 0} (Q : A → Type κ) (refusal : ℕ → A) (cs : List Check) (a : A) → Refusals (λ r. Q (refusal r)) cs → (Passes cs → Q a) → Q (judged refusal cs a)
+pub by-judged-each {κ} : {A : Type 0} (Q : A → Type κ) (refusal : ℕ → A) (cs : List Check) (a : A) → Refusals (λ r. Q (refusal r)) cs
+    → (Passes cs → Q a) → Q (judged refusal cs a)
 by-judged-each Q refusal [] a f g = g tt
-by-judged-each Q refusal (c ∷ cs) a f g = by-cond Q (c .1) (refusal (c .0)) (judged refusal cs a) (f .0) (λ t. by-judged-each Q refusal cs a (f .1) (λ x. g (t, x)))
+by-judged-each Q refusal (c ∷ cs) a f g = by-cond Q (c .1) (refusal (c .0)) (judged refusal cs a) (f .0)
+    (λ t. by-judged-each Q refusal cs a (f .1) (λ x. g (t, x)))
 
 all-refusals {κ} : (F : ℕ → Type κ) (cs : List Check) → ((r : ℕ) → F r) → Refusals F cs
 all-refusals F [] f = tt
 all-refusals F (c ∷ cs) f = (λ t. f (c .0), all-refusals F cs f)
 
-pub by-judged {κ} : {A : Type 0} (Q : A → Type κ) (refusal : ℕ → A) (cs : List Check) (a : A) → ((r : ℕ) → Q (refusal r)) → (Passes cs → Q a) → Q (judged refusal cs a)
+pub by-judged {κ} : {A : Type 0} (Q : A → Type κ) (refusal : ℕ → A) (cs : List Check) (a : A) → ((r : ℕ) → Q (refusal r)) → (Passes cs → Q a)
+    → Q (judged refusal cs a)
 by-judged Q refusal cs a f g = by-judged-each Q refusal cs a (all-refusals (λ r. Q (refusal r)) cs f) g
 
 -- check 10 passed
@@ -38,6 +44,13 @@ named-within plan p w no' = (
   ⊎-elim (λ (l : plan .n ≤ p). absurd (no' (or-left (leb (plan .n) p) (leb (plan .views) w) (le→leb _ _ l)))) (λ l. l) (le? (plan .n) p),
   ⊎-elim (λ (l : plan .views ≤ w). absurd (no' (or-right (leb (plan .n) p) (leb (plan .views) w) (le→leb _ _ l)))) (λ l. l) (le? (plan .views) w),
 )
+
+-- check 13 passed
+pub place-inside : (s : State) (m : Message) → (T (notHeld s m) → ⊥) → placeOf s m < s .run .held
+place-inside s m in-post = ⊎-elim
+    (λ (e : placeOf s m ≡ s .run .held). absurd (in-post (eq→eqb _ _ e)))
+    (λ ne. omega (arith, first-le (isAt (s .network) m) (s .run .held)))
+    (eq? (placeOf s m) (s .run .held))
 
 -- ---- tests that do not pass
 

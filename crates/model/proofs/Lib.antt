@@ -1,4 +1,5 @@
 -- Why the definitions keep demand 3.
+pub mod PlanWords
 pub mod TallyLaws
 pub mod Flight
 pub mod Sending
@@ -11,6 +12,7 @@ pub mod Ticks
 pub mod Judging
 pub mod Events
 pub mod Opens
+pub mod Soundness
 pub mod Sound
 pub mod History
 pub mod Marks

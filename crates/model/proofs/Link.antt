@@ -1,14 +1,14 @@
 -- What ties a run and its lent buffers to a state of the protocol: the network's words to the messages in flight, and clocks, views and
 -- tally to processors and tally. Assumes nothing.
-use mathlib.Core.Path.{_≡_, refl, sym, ap, _∙_, subst}
-use mathlib.Core.Bool.{Bool, true, false, not, _&&_, _||_}
-use mathlib.Core.Logic.{_⊎_, inl, inr, ⊎-elim}
-use mathlib.Core.List.{List, [], _∷_, _++_}
-use Prim.Native.Nat.{ℕ, zero, suc, _+_, _-_, _*_, _/_, _%_, _^_, _≤_, _<_}
+use mathlib.Core.Path.{_≡_, refl, ap, _∙_}
+use mathlib.Core.Bool.{Bool, true, false, not, _&&_}
+use mathlib.Core.Logic.{_⊎_, ⊎-elim}
+use mathlib.Core.List.{List, _∷_, _++_}
+use Prim.Native.Nat.{ℕ, _+_, _-_, _*_, _%_, _^_, _≤_, _<_}
 use native.Mathlib.Omega.{arith}
-use lib.Dec.{T, eqb, leb, ltb, eqb→eq, ltb→lt, lt→ltb}
+use lib.Dec.{T, ltb, eqb→eq, ltb→lt, lt→ltb}
 use lib.ListN.{length, getD, length-append}
-use Rattle.base.specs.Tests.{T-left, T-right, T-and, T-true, le?, eq→eqb}
+use Rattle.base.specs.Tests.{T-left, T-true, le?, eq→eqb}
 use Rattle.base.specs.Count.{count, count-ext, count-both}
 use Rattle.base.specs.Sets.{member, size}
 use Rattle.base.specs.SetLaws.{size-count}
@@ -52,7 +52,8 @@ module _ (plan : Plan) (faulty : ℕ) where
   pub correct-count : Planned plan faulty → size faulty + count (plan .n) (correct plan faulty) ≡ plan .n
   correct-count ok =
       let e : count (plan .n) (correct plan faulty) ≡ count (plan .n) (λ p. not (member faulty p)) =
-      count-ext (plan .n) (correct plan faulty) (λ p. not (member faulty p)) (λ p l. ap (λ (b : Bool). b && not (member faulty p)) (T-true (ltb p (plan .n)) (lt→ltb p (plan .n) l))) in
+      count-ext (plan .n) (correct plan faulty) (λ p. not (member faulty p))
+      (λ p l. ap (λ (b : Bool). b && not (member faulty p)) (T-true (ltb p (plan .n)) (lt→ltb p (plan .n) l))) in
       omega (arith, size-count (plan .n) faulty (ok .faulty-below), count-both (plan .n) (member faulty))
 
   pub third : Planned plan faulty → 3 * tolerated plan + 1 ≤ plan .n
@@ -123,14 +124,16 @@ module _ {ws : List ℕ} {held : ℕ} {xs : List Sent} (wire : Wire ws held xs) 
 
   module _ (now : ℕ) (ms : List Message) (fits : T (ltb (capacity ws) (held + length ms)) → ⊥) where
     wire-room : messageWords * length ms ≤ wire .spare
-    wire-room = ⊎-elim (λ (l : held + length ms ≤ capacity ws). omega (arith, wire-length)) (λ (l : capacity ws < held + length ms). absurd (fits (lt→ltb _ _ l))) (le? (held + length ms) (capacity ws))
+    wire-room = ⊎-elim (λ (l : held + length ms ≤ capacity ws). omega (arith, wire-length))
+        (λ (l : capacity ws < held + length ms). absurd (fits (lt→ltb _ _ l))) (le? (held + length ms) (capacity ws))
 
     pub wire-posted : Wire (posted ws held now ms) (held + length ms) (xs ++ stamped now ms)
     wire-posted = record {
       spare = wire .spare - messageWords * length ms;
       words =
           let e : wire .spare ≡ messageWords * length ms + (wire .spare - messageWords * length ms) = omega (arith, wire-room) in
-          rw (wire .words, wire .number) (ap (λ (z : ℕ). posted (laid xs z) (length xs) now ms) e ∙ posted-laid xs (wire .spare - messageWords * length ms) now ms);
+          rw (wire .words, wire .number) (ap (λ (z : ℕ). posted (laid xs z) (length xs) now ms) e
+          ∙ posted-laid xs (wire .spare - messageWords * length ms) now ms);
       number = omega (arith, wire .number, length-append xs (stamped now ms), length-stamped now ms);
     }
 
@@ -150,14 +153,29 @@ module _ {ws : List ℕ} {held : ℕ} {xs : List Sent} (wire : Wire ws held xs) 
       words =
           rw (wire .words, wire .number, found .split, ← found .place)
           (removed-laid (found .ahead) (found .behind) (record { message = m; time = found .time }) (wire .spare));
-      number = omega (arith, wire .number, ap length (found .split), length-append (found .ahead) (record { message = m; time = found .time } ∷ found .behind), length-append (found .ahead) (found .behind));
+      number = omega (
+        arith,
+        wire .number,
+        ap length (found .split),
+        length-append (found .ahead)
+            (record { message = m; time = found .time } ∷ found .behind),
+        length-append (found .ahead) (found .behind),
+      );
     }
 
     pub length-removed : length (removed ws held i) ≡ length ws
     unfolding wire-removed
     length-removed =
         ap length (wire-removed .words) ∙ length-laid rest (messageWords + wire .spare)
-        ∙ omega (arith, length-append (found .ahead) (record { message = m; time = found .time } ∷ found .behind), length-append (found .ahead) (found .behind), wire-length, wire .number, ap length (found .split))
+        ∙ omega (
+          arith,
+          length-append (found .ahead) (record { message = m; time = found .time } ∷ found .behind),
+          length-append (found .ahead)
+              (found .behind),
+          wire-length,
+          wire .number,
+          ap length (found .split),
+        )
 
 -- ---- clocks, views and tally
 

@@ -1,43 +1,41 @@
 -- What an accepted opening leaves is a state of the protocol in which the base invariant holds. Assumes nothing.
 use mathlib.Core.Path.{_≡_, refl, sym, ap, _∙_, subst}
 use mathlib.Core.Bool.{Bool, true, false, not, _&&_, _||_, cond}
-use mathlib.Core.Logic.{_⊎_, inl, inr, _≢_, ⊎-elim}
+use mathlib.Core.Logic.{_⊎_, ⊎-elim}
 use mathlib.Core.List.{List, [], _∷_, _++_}
-use Prim.Native.Nat.{ℕ, zero, suc, _+_, _-_, _*_, _/_, _%_, _^_, _≤_, _<_, max}
+use Prim.Native.Nat.{ℕ, zero, suc, _+_, _-_, _*_, _/_, _%_, _^_, _≤_, _<_}
 use native.Mathlib.Omega.{arith}
 use native.Mathlib.Nat.{zero-mod, zero-div, mul-le-mul-right, zero-mul}
-use native.Mathlib.Numerals.{add-one}
 use lib.Dec.{T, eqb, leb, ltb, eqb→eq, leb→le, le→leb, ltb→lt}
 use lib.ListN.{length, getD, set, drop, replicate, length-append, length-drop, length-replicate, getD-replicate, List·getD-append}
 use lib.Pow.{pow-pos}
 use lib.Seq.{set-getD}
 use Rattle.base.specs.Tests.{T-left, T-right, T-and, T-true, T-false, T-iff, or-left, or-right, or-cases, not-not, le?, eq→eqb, by-cond}
 use Rattle.base.specs.Count.{count, count-mono}
-use Rattle.base.specs.Scan.{some, listed}
 use Rattle.base.specs.ScanLaws.{some-by, length-listed, getD-listed}
 use Rattle.base.specs.Sets.{member, size}
 use Rattle.base.specs.SetLaws.{member-none}
 use Rattle.protocol.specs.Params as proto
+use Rattle.protocol.specs.Params.{Params}
 use Rattle.protocol.specs.State.{Processors, Tally, nearby}
-use Rattle.protocol.specs.Base.{Base}
 use Rattle.protocol.specs.Opening.{Open, open-holds}
 use Rattle.model.specs.declared.Plan.{Plan}
 use Rattle.model.specs.declared.Message.{Message}
 use Rattle.model.specs.declared.Message.the-variants.{View, Vote}
 use Rattle.model.specs.declared.Run.{Run}
 use Rattle.model.specs.declared.Setup.{Setup}
-use Rattle.model.specs.Quantities.{nMost, rowWords, perLeader, tolerated, lead, initial, nextInitial, clockTime, endTime, startLimit, correct}
-use Rattle.model.specs.State.{State, After, clockOf, isCorrect, capacity, enteredWord, heardWord, marksWord, markBit, place, word, added, accepted, refused, done}
+use Rattle.model.specs.Quantities.{nMost, rowWords, perLeader, tolerated, lead, initial, nextInitial, startLimit, correct}
+use Rattle.model.specs.State.{State, clockOf, isCorrect, capacity, enteredWord, heardWord, marksWord, markBit, place, word, added}
 use Rattle.model.specs.Moves.{Change, changed, still, also, Entry, stay, into, toCorrect, entryClock, entryMessages, entering, taking, entries, certificate, made}
-use Rattle.model.specs.Checks.{Check, judged, closeBehind, startTooHigh, tooFarAhead, limitsBroken, nOutside, delaysOutside, viewsOutside, faultyOutside, buffersOutside}
-use Rattle.model.specs.Opening.{startClocks, blankRun, blank, firstEntry, opened, openingChecks, opening}
+use Rattle.model.specs.Checks.{closeBehind, startTooHigh, tooFarAhead, nOutside, delaysOutside, viewsOutside, faultyOutside}
+use Rattle.model.specs.Opening.{startClocks, blankRun, blank, firstEntry, opened, openingChecks}
 use Rattle.model.proofs.TallyLaws.{length-added, added-member, added-below, heard-low}
-use Rattle.model.proofs.Flight.{Sent, In, stamped, laid}
+use Rattle.model.proofs.Flight.{stamped}
 use Rattle.model.proofs.Sending.{signature, signature-is, apart, meant, signature-meant, Elem, elem-left, elem-right, elem-cases, in-stamped, stamped-in, elem-correct, correct-elem, At, entry-sends, entry-sent}
 use Rattle.model.proofs.Link.{Planned, params, correct-below, to-initial, flight, Wire, wire-posted, length-posted, Books}
 use Rattle.model.proofs.Enters.{entry-max}
 use Rattle.model.proofs.Tracks.{Tracked}
-use Rattle.model.proofs.Judging.{Passes, by-judged, neither, nor, not-ltb, not-leb}
+use Rattle.model.proofs.Judging.{Passes, neither, nor, not-ltb, not-leb}
 
 correct-fewer : (r : Run) (ms : List Message) → length (toCorrect r ms) ≤ length ms
 unfolding toCorrect
@@ -46,7 +44,8 @@ correct-fewer r (m ∷ ms) = by-cond (λ (l : List Message). length l ≤ suc (l
     (λ t. omega (arith, correct-fewer r ms)) (λ t. omega (arith, correct-fewer r ms))
 
 entry-few : (plan : Plan) (p w : ℕ) → length (entryMessages plan p w) ≤ 2
-entry-few plan p w = by-cond (λ (l : List Message). length l ≤ 2) (initial plan w) (View w p ∷ Vote w p ∷ []) (Vote w p ∷ []) (λ t. omega arith) (λ t. omega arith)
+entry-few plan p w = by-cond (λ (l : List Message). length l ≤ 2) (initial plan w) (View w p ∷ Vote w p ∷ []) (Vote w p ∷ []) (λ t. omega arith)
+    (λ t. omega arith)
 
 -- checks 2 to 5 let pass only a plan within its limits
 pub planned : (u : Setup) (s : State) → Passes (openingChecks u s) → Planned (u .plan) (u .faulty)
@@ -74,8 +73,14 @@ module _ (u : Setup) (s : State) (c : Passes (openingChecks u s)) where
   abbrev plan : Plan
   plan = u .plan
 
+  abbrev faulty : ℕ
+  faulty = u .faulty
+
   abbrev pub ok : Planned (u .plan) (u .faulty)
   ok = planned u s c
+
+  abbrev π : Params
+  π = params plan faulty ok
 
   abbrev b : State
   b = blank u s
@@ -85,7 +90,8 @@ module _ (u : Setup) (s : State) (c : Passes (openingChecks u s)) where
 
   tally-long : rowWords * plan .views ≤ length (s .tally)
   tally-long =
-      let a = neither (ltb (length (s .tally)) (rowWords * plan .views) || ltb (length (s .network)) (8 * plan .n)) (ltb 524288 (length (s .network))) (c .1 .1 .1 .1 .0) in
+      let a = neither (ltb (length (s .tally)) (rowWords * plan .views) || ltb (length (s .network)) (8 * plan .n)) (ltb 524288 (length (s .network)))
+      (c .1 .1 .1 .1 .0) in
       not-ltb _ _ (neither (ltb (length (s .tally)) (rowWords * plan .views)) (ltb (length (s .network)) (8 * plan .n)) (a .0) .0)
 
   abbrev blank-tally : List ℕ
@@ -97,7 +103,8 @@ module _ (u : Setup) (s : State) (c : Passes (openingChecks u s)) where
 
   blank-word : (w j : ℕ) → w < plan .views → j < 4 → word blank-tally w j ≡ 0
   blank-word w j l h =
-      List·getD-append (replicate (rowWords * plan .views) 0) (drop (rowWords * plan .views) (s .tally)) 0 (place w j) (omega (arith, length-replicate {A = ℕ} (rowWords * plan .views) 0))
+      List·getD-append (replicate (rowWords * plan .views) 0) (drop (rowWords * plan .views) (s .tally)) 0 (place w j)
+      (omega (arith, length-replicate {A = ℕ} (rowWords * plan .views) 0))
       ∙ getD-replicate (rowWords * plan .views) (place w j) 0 0 (omega arith)
 
   zeros : (p : ℕ) → _≡_ {A = ℕ} (getD (replicate nMost 0) p 0) 0
@@ -120,12 +127,13 @@ module _ (u : Setup) (s : State) (c : Passes (openingChecks u s)) where
     clocks-same : d .clocks ≡ startClocks u
     views-same : d .views ≡ replicate nMost 0
     tally-length : length (d .tally) ≡ length (s .tally)
-    member-is : (w j q : ℕ) → w < plan .views → j < 4 → T (member (word (d .tally) w j) q) → (w ≡ 0) × (j ≡ 0) × T (correct plan (u .faulty) q)
-    member-of : (q : ℕ) → q < k → T (correct plan (u .faulty) q) → T (member (word (d .tally) 0 enteredWord) q)
+    member-is : (w j q : ℕ) → w < plan .views → j < 4 → T (member (word (d .tally) w j) q) → (w ≡ 0) × (j ≡ 0) × T (correct plan faulty q)
+    member-of : (q : ℕ) → q < k → T (correct plan faulty q) → T (member (word (d .tally) 0 enteredWord) q)
     sets-below : (w j : ℕ) → w < plan .views → j < 4 → word (d .tally) w j < 2 ^ plan .n
-    sent-is : (m : Message) → Elem m (d .sent) → (e : Bool) × (q : ℕ) × (m ≡ signature e 0 q) × T (correct plan (u .faulty) q) × T (correct plan (u .faulty) (lead plan 0))
+    sent-is : (m : Message) → Elem m (d .sent) → (e : Bool) × (q : ℕ) × (m ≡ signature e 0 q) × T (correct plan faulty q)
+        × T (correct plan faulty (lead plan 0))
     sent-few : length (d .sent) ≤ 2 * k
-    sent-of : (e : Bool) (q : ℕ) → q < k → T (correct plan (u .faulty) q) → T (correct plan (u .faulty) (lead plan 0)) → Elem (signature e 0 q) (d .sent)
+    sent-of : (e : Bool) (q : ℕ) → q < k → T (correct plan faulty q) → T (correct plan faulty (lead plan 0)) → Elem (signature e 0 q) (d .sent)
 
   mid-first : Mid 0 (still r blank-tally)
   mid-first = record {
@@ -144,7 +152,7 @@ module _ (u : Setup) (s : State) (c : Passes (openingChecks u s)) where
     abbrev r' : Run
     r' = changed r d
 
-    goes : T (correct plan (u .faulty) k) → Mid (suc k) (also d (entering r' (d .tally) k 0))
+    goes : T (correct plan faulty k) → Mid (suc k) (also d (entering r' (d .tally) k 0))
     unfolding entering
     goes ck = record {
       clocks-same =
@@ -161,26 +169,36 @@ module _ (u : Setup) (s : State) (c : Passes (openingChecks u s)) where
       member-of = λ q l cq. rw (member-to 0 enteredWord q (omega arith)) (⊎-elim
           (λ (h : q < k). or-left (member (word (d .tally) 0 enteredWord) q) (eqb q k) (m .member-of q h cq))
           (λ (h : k < suc q). let e : q ≡ k = omega arith in or-right (member (word (d .tally) 0 enteredWord) q) (eqb q k) (eq→eqb q k e)) (le? (suc q) k));
-      sets-below = λ w j l h. added-below (d .tally) 0 enteredWord k (omega arith) row-long (plan .n) w j h (correct-below plan (u .faulty) k ck) (m .sets-below w j l h);
+      sets-below = λ w j l h. added-below (d .tally) 0 enteredWord k (omega arith) row-long (plan .n) w j h (correct-below plan faulty k ck)
+          (m .sets-below w j l h);
       sent-is = λ x i. ⊎-elim (λ y. m .sent-is x y)
           (λ y. let e = elem-correct r' x (entryMessages plan k 0) y in let f = entry-sent plan x 0 k (e .0) in
-          (f .0, k, f .1, ck, subst (λ (z : ℕ). T (correct plan (u .faulty) z)) (ap (meant plan) (f .1) ∙ signature-meant plan (f .0) 0 k) (e .1)))
+          (f .0, k, f .1, ck, subst (λ (z : ℕ). T (correct plan faulty z)) (ap (meant plan) (f .1) ∙ signature-meant plan (f .0) 0 k) (e .1)))
           (elem-cases x (d .sent) (toCorrect r' (entryMessages plan k 0)) i);
-      sent-few = omega (arith, length-append (d .sent) (toCorrect r' (entryMessages plan k 0)), m .sent-few, correct-fewer r' (entryMessages plan k 0), entry-few plan k 0);
+      sent-few = omega (
+        arith,
+        length-append (d .sent) (toCorrect r' (entryMessages plan k 0)),
+        m .sent-few,
+        correct-fewer r'
+            (entryMessages plan k 0),
+        entry-few plan k 0,
+      );
       sent-of = λ e q l cq cl. ⊎-elim
           (λ (h : q < k). elem-left (signature e 0 q) (d .sent) (toCorrect r' (entryMessages plan k 0)) (m .sent-of e q h cq cl))
           (λ (h : k < suc q). let g : q ≡ k = omega arith in elem-right (signature e 0 q) (d .sent) (toCorrect r' (entryMessages plan k 0))
-          (rw g (correct-elem r' (signature e 0 k) (entryMessages plan k 0) (entry-sends plan e 0 k (at-zero e)) (subst (λ (z : ℕ). T (correct plan (u .faulty) z)) (sym (signature-meant plan e 0 k)) cl))))
+          (rw g (correct-elem r' (signature e 0 k) (entryMessages plan k 0) (entry-sends plan e 0 k (at-zero e))
+          (subst (λ (z : ℕ). T (correct plan faulty z)) (sym (signature-meant plan e 0 k)) cl))))
           (le? (suc q) k);
     }
       where
         row-long : place 0 enteredWord < length (d .tally)
         row-long = omega (arith, m .tally-length, tally-long, views-positive)
 
-        member-to : (w j q : ℕ) → j < 4 → member (word (added (d .tally) 0 enteredWord k) w j) q ≡ (member (word (d .tally) w j) q || (eqb w 0 && (eqb j 0 && eqb q k)))
+        member-to : (w j q : ℕ) → j < 4 → member (word (added (d .tally) 0 enteredWord k) w j) q ≡
+            (member (word (d .tally) w j) q || (eqb w 0 && (eqb j 0 && eqb q k)))
         member-to w j q h = added-member (d .tally) 0 enteredWord k (omega arith) row-long w j q h
 
-    waits : (T (correct plan (u .faulty) k) → ⊥) → Mid (suc k) (also d (still r' (d .tally)))
+    waits : (T (correct plan faulty k) → ⊥) → Mid (suc k) (also d (still r' (d .tally)))
     waits nc = record {
       clocks-same = m .clocks-same;
       views-same = m .views-same;
@@ -193,12 +211,12 @@ module _ (u : Setup) (s : State) (c : Passes (openingChecks u s)) where
       sent-of = λ e q l cq cl. elem-left (signature e 0 q) (d .sent) [] (m .sent-of e q (before q l cq) cq cl);
     }
       where
-        before : (q : ℕ) → q < suc k → T (correct plan (u .faulty) q) → q < k
+        before : (q : ℕ) → q < suc k → T (correct plan faulty q) → q < k
         before q l cq = ⊎-elim (λ (h : q < k). h) (λ (h : k < suc q). let e : q ≡ k = omega arith in absurd (nc (rw e at cq))) (le? (suc q) k)
 
     mid-more : Mid (suc k) (also d (taking r' (d .tally) k (firstEntry u k)))
     unfolding taking
-    mid-more = by-cond (λ (e : Entry). Mid (suc k) (also d (taking r' (d .tally) k e))) (correct plan (u .faulty) k) (into 0) stay goes waits
+    mid-more = by-cond (λ (e : Entry). Mid (suc k) (also d (taking r' (d .tally) k e))) (correct plan faulty k) (into 0) stay goes waits
 
   mid-all : (k : ℕ) → Mid k (entries (firstEntry u) r blank-tally k)
   unfolding entries
@@ -214,7 +232,7 @@ module _ (u : Setup) (s : State) (c : Passes (openingChecks u s)) where
   m = mid-all (plan .n)
 
   abbrev P : Processors
-  P = record { clock = λ q. getD (all .clocks) q 0; view = λ q. getD (all .views) q 0; entered = λ w q. eqb w 0 && correct plan (u .faulty) q }
+  P = record { clock = λ q. getD (all .clocks) q 0; view = λ q. getD (all .views) q 0; entered = λ w q. eqb w 0 && correct plan faulty q }
 
   abbrev L : Tally
   L = record { heard = λ q w p. false; formed = λ q w. false }
@@ -224,13 +242,13 @@ module _ (u : Setup) (s : State) (c : Passes (openingChecks u s)) where
 
   books : Books plan (all .clocks) (all .views) (all .tally) P L
   books = record {
-    clocks-long = rw (m .clocks-same, length-listed (λ p. cond (correct plan (u .faulty) p) (getD (u .clocks) p 0) 0) nMost) (ok .n-most);
+    clocks-long = rw (m .clocks-same, length-listed (λ p. cond (correct plan faulty p) (getD (u .clocks) p 0) 0) nMost) (ok .n-most);
     views-long = rw (m .views-same, length-replicate {A = ℕ} nMost 0) (ok .n-most);
     rows = rw (m .tally-length) tally-long;
     clock = λ p. refl;
     view = λ p. refl;
-    entered = λ w p l. T-iff (eqb w 0 && correct plan (u .faulty) p) (member (word (all .tally) w enteredWord) p)
-        (λ t. let cp = T-right (eqb w 0) _ t in let e : w ≡ 0 = eqb→eq w 0 (T-left (eqb w 0) _ t) in rw e (m .member-of p (correct-below plan (u .faulty) p cp) cp))
+    entered = λ w p l. T-iff (eqb w 0 && correct plan faulty p) (member (word (all .tally) w enteredWord) p)
+        (λ t. let cp = T-right (eqb w 0) _ t in let e : w ≡ 0 = eqb→eq w 0 (T-left (eqb w 0) _ t) in rw e (m .member-of p (correct-below plan faulty p cp) cp))
         (λ t. let y = m .member-is w enteredWord p l (omega arith) t in T-and (eqb w 0) _ (eq→eqb w 0 (y .0)) (y .2));
     heard = λ q w p l. no-member w (heardWord q) p l (heard-low q .0) (omega (arith, heard-low q));
     formed = λ q w l. no-member w marksWord (markBit q) l (omega arith) (omega arith);
@@ -238,30 +256,33 @@ module _ (u : Setup) (s : State) (c : Passes (openingChecks u s)) where
   }
 
   -- the clock of a correct processor is its start clock
-  start-clock : (p : ℕ) → T (correct plan (u .faulty) p) → getD (all .clocks) p 0 ≡ getD (u .clocks) p 0
-  start-clock p cp = rw (m .clocks-same) (getD-listed (λ q. cond (correct plan (u .faulty) q) (getD (u .clocks) q 0) 0) nMost p (omega (arith, correct-below plan (u .faulty) p cp, ok .n-most))
-      ∙ ap (λ (x : Bool). cond x (getD (u .clocks) p 0) 0) (T-true (correct plan (u .faulty) p) cp))
+  start-clock : (p : ℕ) → T (correct plan faulty p) → getD (all .clocks) p 0 ≡ getD (u .clocks) p 0
+  start-clock p cp = rw (m .clocks-same) (getD-listed (λ q. cond (correct plan faulty q) (getD (u .clocks) q 0) 0) nMost p
+      (omega (arith, correct-below plan faulty p cp, ok .n-most))
+      ∙ ap (λ (x : Bool). cond x (getD (u .clocks) p 0) 0) (T-true (correct plan faulty p) cp))
 
-  starts-low : (p : ℕ) → T (correct plan (u .faulty) p) → getD (all .clocks) p 0 < startLimit plan
+  starts-low : (p : ℕ) → T (correct plan faulty p) → getD (all .clocks) p 0 < startLimit plan
   unfolding startTooHigh
   starts-low p cp = rw (start-clock p cp) (not-leb _ _ (λ t. c .1 .1 .1 .1 .1 .0
-      (some-by (λ q. correct plan (u .faulty) q && leb (startLimit plan) (getD (u .clocks) q 0)) (plan .n) p (correct-below plan (u .faulty) p cp) (T-and (correct plan (u .faulty) p) _ cp t))))
+      (some-by (λ q. correct plan faulty q && leb (startLimit plan) (getD (u .clocks) q 0)) (plan .n) p (correct-below plan faulty p cp)
+      (T-and (correct plan faulty p) _ cp t))))
 
-  starts-near : (p : ℕ) → T (correct plan (u .faulty) p) → tolerated plan < count (plan .n) (nearby (params plan (u .faulty) ok) P (P .clock p))
+  starts-near : (p : ℕ) → T (correct plan faulty p) → tolerated plan < count (plan .n) (nearby (π) P (P .clock p))
   unfolding tooFarAhead
   starts-near p cp =
-      let g : tolerated plan + 1 ≤ closeBehind plan (u .faulty) (u .clocks) (getD (u .clocks) p 0) = not-ltb _ _ (λ t. c .1 .1 .1 .1 .1 .1 .0
-      (some-by (λ q. correct plan (u .faulty) q && ltb (closeBehind plan (u .faulty) (u .clocks) (getD (u .clocks) q 0)) (tolerated plan + 1)) (plan .n) p (correct-below plan (u .faulty) p cp) (T-and (correct plan (u .faulty) p) _ cp t))) in
+      let g : tolerated plan + 1 ≤ closeBehind plan faulty (u .clocks) (getD (u .clocks) p 0) = not-ltb _ _ (λ t. c .1 .1 .1 .1 .1 .1 .0
+      (some-by (λ q. correct plan faulty q && ltb (closeBehind plan faulty (u .clocks) (getD (u .clocks) q 0)) (tolerated plan + 1)) (plan .n) p
+      (correct-below plan faulty p cp) (T-and (correct plan faulty p) _ cp t))) in
       omega (
         arith,
-        count-mono (plan .n) (λ q. correct plan (u .faulty) q && leb (getD (u .clocks) p 0) (getD (u .clocks) q 0 + plan .gamma)) (nearby (params plan (u .faulty) ok) P (P .clock p))
-            (λ q l t. let cq = T-left (correct plan (u .faulty) q) _ t in
-            let h : getD (u .clocks) p 0 ≤ getD (u .clocks) q 0 + plan .gamma = leb→le _ _ (T-right (correct plan (u .faulty) q) _ t) in
+        count-mono (plan .n) (λ q. correct plan faulty q && leb (getD (u .clocks) p 0) (getD (u .clocks) q 0 + plan .gamma)) (nearby (π) P (P .clock p))
+            (λ q l t. let cq = T-left (correct plan faulty q) _ t in
+            let h : getD (u .clocks) p 0 ≤ getD (u .clocks) q 0 + plan .gamma = leb→le _ _ (T-right (correct plan faulty q) _ t) in
             let h' : P .clock p ≤ P .clock q + plan .gamma = rw (start-clock p cp, start-clock q cq) h in
-            T-and (correct plan (u .faulty) q) _ cq (le→leb _ _ h')),
+            T-and (correct plan faulty q) _ cq (le→leb _ _ h')),
       )
 
-  is-open : Open (params plan (u .faulty) ok) P L (flight (stamped 0 (all .sent)))
+  is-open : Open (π) P L (flight (stamped 0 (all .sent)))
   unfolding proto.lead proto.row
   is-open = record {
     view-zero = λ p cp. rw (m .views-same) (zeros p);
@@ -280,14 +301,16 @@ module _ (u : Setup) (s : State) (c : Passes (openingChecks u s)) where
         let a = in-stamped (certificate q w p) t 0 (all .sent) i in
         let y = m .sent-is (certificate q w p) (a .1) in
         apart (y .0) q 0 w (y .1) p (sym (y .2));
-    sent = λ q cl p cp. stamped-in (signature q 0 p) 0 (all .sent) (m .sent-of q p (correct-below plan (u .faulty) p cp) cp cl);
+    sent = λ q cl p cp. stamped-in (signature q 0 p) 0 (all .sent) (m .sent-of q p (correct-below plan faulty p cp) cp cl);
   }
 
   -- the post holds them: two messages at most of each processor
   room : T (ltb (capacity (replicate (length (s .network)) 0)) (0 + length (all .sent))) → ⊥
   room t =
-      let a = neither (ltb (length (s .tally)) (rowWords * plan .views) || ltb (length (s .network)) (8 * plan .n)) (ltb 524288 (length (s .network))) (c .1 .1 .1 .1 .0) in
-      let l : 8 * plan .n ≤ length (s .network) = not-ltb _ _ (neither (ltb (length (s .tally)) (rowWords * plan .views)) (ltb (length (s .network)) (8 * plan .n)) (a .0) .1) in
+      let a = neither (ltb (length (s .tally)) (rowWords * plan .views) || ltb (length (s .network)) (8 * plan .n)) (ltb 524288 (length (s .network)))
+      (c .1 .1 .1 .1 .0) in
+      let l : 8 * plan .n ≤ length (s .network) = not-ltb _ _
+      (neither (ltb (length (s .tally)) (rowWords * plan .views)) (ltb (length (s .network)) (8 * plan .n)) (a .0) .1) in
       let g : length (replicate {A = ℕ} (length (s .network)) 0) / 4 < 0 + length (all .sent) = ltb→lt _ _ t in
       omega (arith, m .sent-few, length-replicate {A = ℕ} (length (s .network)) 0)
 
@@ -298,7 +321,7 @@ module _ (u : Setup) (s : State) (c : Passes (openingChecks u s)) where
   unfolding opened blank made
   opened-lengths = (m .tally-length, length-posted first-wire 0 (all .sent) room ∙ length-replicate {A = ℕ} (length (s .network)) 0)
 
-  pub opened-tracked : Tracked plan (u .faulty) ok (opened u s)
+  pub opened-tracked : Tracked plan faulty ok (opened u s)
   unfolding opened blank made proto.next proto.row
   opened-tracked = record {
     plan-is = refl;
@@ -313,10 +336,12 @@ module _ (u : Setup) (s : State) (c : Passes (openingChecks u s)) where
     below = λ p cp. omega (arith, starts-low p cp, mul-le-mul-right (plan .gamma) limit-reached);
     early = λ p cp. omega arith;
     unsettled = λ t. refl;
-    limits = T-false _ (nor (nOutside plan || delaysOutside plan || viewsOutside plan || faultyOutside plan (u .faulty)) _
-        (nor (nOutside plan || delaysOutside plan || viewsOutside plan) (faultyOutside plan (u .faulty))
-        (nor (nOutside plan || delaysOutside plan) (viewsOutside plan) (nor (nOutside plan) (delaysOutside plan) (c .0) (c .1 .0)) (c .1 .1 .0)) (c .1 .1 .1 .0))
-        (subst (λ (x : ℕ). T (ltb x (rowWords * plan .views) || ltb (length (opened u s .network)) (8 * plan .n) || ltb 524288 (length (opened u s .network))) → ⊥) (sym (opened-lengths .0))
+    limits = T-false _ (nor (nOutside plan || delaysOutside plan || viewsOutside plan || faultyOutside plan faulty) _
+        (nor (nOutside plan || delaysOutside plan || viewsOutside plan) (faultyOutside plan faulty)
+        (nor (nOutside plan || delaysOutside plan) (viewsOutside plan) (nor (nOutside plan) (delaysOutside plan) (c .0) (c .1 .0)) (c .1 .1 .0))
+        (c .1 .1 .1 .0))
+        (subst (λ (x : ℕ). T (ltb x (rowWords * plan .views) || ltb (length (opened u s .network)) (8 * plan .n) || ltb 524288
+        (length (opened u s .network))) → ⊥) (sym (opened-lengths .0))
         (subst (λ (x : ℕ). T (ltb (length (s .tally)) (rowWords * plan .views) || ltb x (8 * plan .n) || ltb 524288 x) → ⊥)
         (sym (opened-lengths .1)) (c .1 .1 .1 .1 .0))));
   }
@@ -327,6 +352,6 @@ module _ (u : Setup) (s : State) (c : Passes (openingChecks u s)) where
       limit-reached : perLeader plan ≤ plan .views
       limit-reached = omega (
         arith,
-        proto.initial-gap (params plan (u .faulty) ok) 0 (plan .views) (to-initial plan (u .faulty) ok 0 (at-zero false))
-            (to-initial plan (u .faulty) ok (plan .views) (ok .views-initial)) views-positive,
+        proto.initial-gap (π) 0 (plan .views) (to-initial plan faulty ok 0 (at-zero false))
+            (to-initial plan faulty ok (plan .views) (ok .views-initial)) views-positive,
       )

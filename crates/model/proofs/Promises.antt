@@ -1,39 +1,39 @@
 -- The promises of specs/Promises.antt, proved. Assumes nothing.
 use mathlib.Core.Path.{_≡_, refl, sym, ap, _∙_, subst}
-use mathlib.Core.Bool.{Bool, true, false, not, _&&_, cond}
-use mathlib.Core.Logic.{_⊎_, inl, inr, _≢_, ⊎-elim}
-use mathlib.Core.List.{List, [], _∷_, _++_}
-use Prim.Native.Nat.{ℕ, zero, suc, _+_, _*_, _≤_, _<_}
+use mathlib.Core.Bool.{Bool, true, false, _&&_, cond}
+use mathlib.Core.Logic.{_⊎_, inl, inr, _≢_}
+use mathlib.Core.List.{List, [], _∷_}
+use Prim.Native.Nat.{ℕ, _+_, _*_, _≤_, _<_}
 use native.Mathlib.Omega.{arith}
 use native.Mathlib.Nat.{lt-of-mul-lt-mul-right}
-use lib.Dec.{T, leb, ltb, leb→le, le→leb, ltb→lt}
-use lib.ListN.{length, getD, take}
-use Rattle.base.specs.Tests.{passes?, T-left, T-right, T-and}
-use Rattle.base.specs.Count.{count, count-mono}
+use lib.Dec.{T, leb, leb→le, le→leb, ltb→lt}
+use lib.ListN.{length, take}
+use Rattle.base.specs.Tests.{T-left, T-right, T-and}
+use Rattle.base.specs.Count.{count-mono}
 use Rattle.base.specs.ScanLaws.{some-none}
-use Rattle.base.specs.Sets.{member, size}
+use Rattle.base.specs.Sets.{size}
 use Rattle.protocol.specs.Params as proto
+use Rattle.protocol.specs.Params.{Params}
 use Rattle.protocol.specs.State.{nearby}
 use Rattle.protocol.specs.Quorum.{some-correct}
-use Rattle.protocol.specs.Runs.{Steps, steps-kept, steps-flag, steps-view-up, steps-clock-up}
+use Rattle.protocol.specs.Runs.{steps-kept, steps-flag, steps-view-up, steps-clock-up}
 use Rattle.protocol.specs.Runs as runs
 use Rattle.protocol.specs.End.{settle-holds, Reached, reached}
 use Rattle.model.specs.declared.Plan.{Plan}
-use Rattle.model.specs.declared.Message.{Message}
 use Rattle.model.specs.declared.Event.{Event}
 use Rattle.model.specs.declared.Event.the-variants.{Deliver, Sign, Show, Settle, Tick}
 use Rattle.model.specs.declared.Setup.{Setup}
 use Rattle.model.specs.Quantities.{perLeader, tolerated, lead, correct}
 use Rattle.model.specs.State.{State, After, clockOf, viewOf, checkOf, accepted, refused, done}
-use Rattle.model.specs.Checks.{judged, closeBehind, tooFarAhead, unsound}
+use Rattle.model.specs.Checks.{closeBehind, tooFarAhead, unsound}
 use Rattle.model.specs.Opening.{opened, openingChecks, opening}
-use Rattle.model.specs.Events.{settled, Ticks, ticks, ticksAnswer, ticked, checks, effect, applied}
+use Rattle.model.specs.Events.{settled, ticks, ticked, checks, effect, applied}
 use Rattle.model.specs.Lists.{after, ClockCondition, Since, since, sinceSettling, ticksDone, ticksSince, formedSince}
-use Rattle.model.specs.Promises.{settlingBound, Certified, DemandThree, StaysSound, Same, StaysSame, NeverBack}
-use Rattle.model.proofs.Link.{Planned, params, correct-count, third, gamma-positive}
-use Rattle.model.proofs.Tracks.{Tracked, state-of, Leads, stays, leads-on}
+use Rattle.model.specs.Promises.{settlingBound, Certified, DemandThree, StaysSound, StaysSame, NeverBack}
+use Rattle.model.proofs.Link.{Planned, params, correct-count, third}
+use Rattle.model.proofs.Tracks.{Tracked, Leads, stays, leads-on}
 use Rattle.model.proofs.Judging.{Passes, by-judged, by-judged-each}
-use Rattle.model.proofs.Events.{at-own-plan, Moving, event-leads}
+use Rattle.model.proofs.Events.{at-own-plan, event-leads}
 use Rattle.model.proofs.Opens.{planned, opened-tracked, opened-lengths}
 use Rattle.model.proofs.Sound.{tracked-sound}
 use Rattle.model.proofs.History.{list-law, ticks-are-time, ticks-not-nine, answered-check}
@@ -45,13 +45,15 @@ own-clocks : (s : State) (ok : Planned (s .run .plan) (s .run .faulty)) → Trac
 unfolding tooFarAhead
 own-clocks s ok x = some-none _ (s .run .plan .n) (λ q l t.
     let c = T-left (correct (s .run .plan) (s .run .faulty) q) _ t in
-    let few : closeBehind (s .run .plan) (s .run .faulty) (s .run .clocks) (clockOf (s .run) q) < tolerated (s .run .plan) + 1 = ltb→lt _ _ (T-right (correct (s .run .plan) (s .run .faulty) q) _ t) in
+    let few : closeBehind (s .run .plan) (s .run .faulty) (s .run .clocks) (clockOf (s .run) q) < tolerated (s .run .plan) + 1 =
+    ltb→lt _ _ (T-right (correct (s .run .plan) (s .run .faulty) q) _ t) in
     omega (
       arith,
       x .holds .processors .near q c,
       count-mono (s .run .plan .n) (nearby (params (s .run .plan) (s .run .faulty) ok) (x .processors) (x .processors .clock q))
           (λ r. correct (s .run .plan) (s .run .faulty) r && leb (clockOf (s .run) q) (clockOf (s .run) r + s .run .plan .gamma)) (λ r l' y.
-          let h : x .processors .clock q ≤ x .processors .clock r + s .run .plan .gamma = leb→le _ _ (T-right (correct (s .run .plan) (s .run .faulty) r) _ y) in
+          let h : x .processors .clock q ≤ x .processors .clock r + s .run .plan .gamma =
+          leb→le _ _ (T-right (correct (s .run .plan) (s .run .faulty) r) _ y) in
           let h' : clockOf (s .run) q ≤ clockOf (s .run) r + s .run .plan .gamma = omega (arith, x .books .clock q, x .books .clock r) in
           T-and (correct (s .run .plan) (s .run .faulty) r) _ (T-left (correct (s .run .plan) (s .run .faulty) r) _ y) (le→leb _ _ h')),
     ))
@@ -62,6 +64,9 @@ clocks-near = at-own-plan (λ plan' faulty' ok' s x. ClockCondition (s .run)) ow
 -- ---- whole lists
 
 module _ (plan : Plan) (faulty : ℕ) (ok : Planned plan faulty) where
+  abbrev π : Params
+  π = params plan faulty ok
+
   -- the network settles
   settled-tracked : (s : State) → Tracked plan faulty ok s → Tracked plan faulty ok (settled s)
   unfolding settled
@@ -106,8 +111,8 @@ module _ (plan : Plan) (faulty : ℕ) (ok : Planned plan faulty) where
     tracked = l .to;
     tally-length = l .tally-length;
     network-length = l .network-length;
-    view-up = λ p c. omega (arith, steps-view-up (params plan faulty ok) (l .way) p c, x .books .view p, l .to .books .view p);
-    clock-up = λ p c. omega (arith, steps-clock-up (params plan faulty ok) (l .way) p c, x .books .clock p, l .to .books .clock p);
+    view-up = λ p c. omega (arith, steps-view-up (π) (l .way) p c, x .books .view p, l .to .books .view p);
+    clock-up = λ p c. omega (arith, steps-clock-up (π) (l .way) p c, x .books .clock p, l .to .books .clock p);
   }
 
   follows-event : (e : Event) (s : State) → Tracked plan faulty ok s → Follows s (applied e s .state)
@@ -122,7 +127,8 @@ module _ (plan : Plan) (faulty : ℕ) (ok : Planned plan faulty) where
   follows : (es : List Event) (s : State) → Tracked plan faulty ok s → Follows s (after s es)
   unfolding after
   follows [] s x = follows-none s x
-  follows (e ∷ es) s x = let a = follows-event e s x in follows-both s (applied e s .state) (after (applied e s .state) es) a (follows es (applied e s .state) (a .tracked))
+  follows (e ∷ es) s x = let a = follows-event e s x in follows-both s (applied e s .state) (after (applied e s .state) es) a
+      (follows es (applied e s .state) (a .tracked))
 
   -- ---- after settling
 
@@ -132,7 +138,8 @@ module _ (plan : Plan) (faulty : ℕ) (ok : Planned plan faulty) where
   leads-settled (Deliver m) s x z = event-leads plan faulty ok (Deliver m) tt s x
   leads-settled (Sign m) s x z = event-leads plan faulty ok (Sign m) tt s x
   leads-settled (Show m) s x z = event-leads plan faulty ok (Show m) tt s x
-  leads-settled Settle s x z = by-judged (λ (a : After). Leads plan faulty ok s x (a .state)) (refused s) (checks Settle s) (effect Settle s) (λ r. stays plan faulty ok s x) (λ c. absurd (c .1 .0 z))
+  leads-settled Settle s x z = by-judged (λ (a : After). Leads plan faulty ok s x (a .state)) (refused s) (checks Settle s) (effect Settle s)
+      (λ r. stays plan faulty ok s x) (λ c. absurd (c .1 .0 z))
   leads-settled (Tick m) s x z = event-leads plan faulty ok (Tick m) tt s x
 
   leads-all : (es : List Event) (s : State) (x : Tracked plan faulty ok s) → T (s .run .settled) → Leads plan faulty ok s x (after s es)
@@ -140,7 +147,7 @@ module _ (plan : Plan) (faulty : ℕ) (ok : Planned plan faulty) where
   leads-all [] s x z = stays plan faulty ok s x
   leads-all (e ∷ es) s x z =
       let a = leads-settled e s x z in
-      leads-on plan faulty ok a (leads-all es (applied e s .state) (a .to) (subst T (sym (steps-flag (params plan faulty ok) (a .way))) z))
+      leads-on plan faulty ok a (leads-all es (applied e s .state) (a .to) (subst T (sym (steps-flag (π) (a .way))) z))
 
   -- views stay below the limit
   view-limit : (s : State) (x : Tracked plan faulty ok s) (p : ℕ) → T (correct plan faulty p) → x .processors .view p < plan .views
@@ -152,17 +159,17 @@ module _ (plan : Plan) (faulty : ℕ) (ok : Planned plan faulty) where
     unfolding settled
     way = leads-all es (settled s) (settled-tracked s x) tt
 
-    long : perLeader plan * (size faulty + 1) * plan .gamma + plan .gamma + 4 * plan .delta < runs.ticks (params plan faulty ok) (way .way)
+    long : perLeader plan * (size faulty + 1) * plan .gamma + plan .gamma + 4 * plan .delta < runs.ticks (π) (way .way)
     unfolding perLeader
-    long = omega (arith, far, steps-kept (params plan faulty ok) (way .way) .0, ticks-are-time (settled s) es)
+    long = omega (arith, far, steps-kept (π) (way .way) .0, ticks-are-time (settled s) es)
 
-    found : Reached (params plan faulty ok) (x .tally) (way .to .processors) (way .to .tally)
+    found : Reached (π) (x .tally) (way .to .processors) (way .to .tally)
     unfolding settled settled-tracked
     found = reached (x .holds) (way .way) long
 
     found-low : found .v < plan .views
     found-low =
-        let r = some-correct (params plan faulty ok) (correct plan faulty) (omega (arith, correct-count plan faulty ok, ok .faulty-few, third plan faulty ok)) in
+        let r = some-correct (π) (correct plan faulty) (omega (arith, correct-count plan faulty ok, ok .faulty-few, third plan faulty ok)) in
         omega (arith, found .later (r .0) (r .1), view-limit (after (settled s) es) (way .to) (r .0) (r .1))
 
     formed-then : Marked (after (settled s) es .tally) (found .v)
@@ -175,9 +182,11 @@ module _ (plan : Plan) (faulty : ℕ) (ok : Planned plan faulty) where
 -- ---- demand 3
 
 -- a settle is accepted and settles, or is refused
-settle-cases : (s : State) → ((accepted (applied Settle s .answer) ≡ true) × (applied Settle s .state ≡ settled s)) ⊎ (accepted (applied Settle s .answer) ≡ false)
+settle-cases : (s : State) → ((accepted (applied Settle s .answer) ≡ true) × (applied Settle s .state ≡ settled s))
+    ⊎ (accepted (applied Settle s .answer) ≡ false)
 unfolding applied effect
-settle-cases s = by-judged (λ (a : After). ((accepted (a .answer) ≡ true) × (a .state ≡ settled s)) ⊎ (accepted (a .answer) ≡ false)) (refused s) (checks Settle s) (effect Settle s)
+settle-cases s = by-judged (λ (a : After). ((accepted (a .answer) ≡ true) × (a .state ≡ settled s)) ⊎ (accepted (a .answer) ≡ false)) (refused s)
+    (checks Settle s) (effect Settle s)
     (λ r. inr refl) (λ c. inl (refl, refl))
 
 module _ (u : Setup) (ok : Planned (u .plan) (u .faulty)) where
@@ -197,24 +206,30 @@ module _ (u : Setup) (ok : Planned (u .plan) (u .faulty)) where
       }
 
   -- an event before it
-  onward : (e : Event) (es : List Event) (s : State) → sinceSettling s (e ∷ es) ≡ sinceSettling (applied e s .state) es → Certified u (applied e s .state) es → Certified u s (e ∷ es)
+  onward : (e : Event) (es : List Event) (s : State) → sinceSettling s (e ∷ es) ≡ sinceSettling (applied e s .state) es
+      → Certified u (applied e s .state) es → Certified u s (e ∷ es)
   unfolding after
   onward e es s i x = record { view = x .view; led = x .led; formed = subst (λ (j : Since). T (formedSince j (x .view))) (sym i) (x .formed); later = x .later }
 
   certified : (es : List Event) (s : State) → Tracked (u .plan) (u .faulty) ok s → settlingBound u < ticksSince (sinceSettling s es) → Certified u s es
   unfolding sinceSettling
   certified [] s x far = absurd (omega arith)
-  certified (Deliver m ∷ es) s x far = onward (Deliver m) es s refl (certified es (applied (Deliver m) s .state) (follows-event (u .plan) (u .faulty) ok (Deliver m) s x .tracked) far)
-  certified (Sign m ∷ es) s x far = onward (Sign m) es s refl (certified es (applied (Sign m) s .state) (follows-event (u .plan) (u .faulty) ok (Sign m) s x .tracked) far)
-  certified (Show m ∷ es) s x far = onward (Show m) es s refl (certified es (applied (Show m) s .state) (follows-event (u .plan) (u .faulty) ok (Show m) s x .tracked) far)
-  certified (Tick m ∷ es) s x far = onward (Tick m) es s refl (certified es (applied (Tick m) s .state) (follows-event (u .plan) (u .faulty) ok (Tick m) s x .tracked) far)
+  certified (Deliver m ∷ es) s x far = onward (Deliver m) es s refl
+      (certified es (applied (Deliver m) s .state) (follows-event (u .plan) (u .faulty) ok (Deliver m) s x .tracked) far)
+  certified (Sign m ∷ es) s x far = onward (Sign m) es s refl
+      (certified es (applied (Sign m) s .state) (follows-event (u .plan) (u .faulty) ok (Sign m) s x .tracked) far)
+  certified (Show m ∷ es) s x far = onward (Show m) es s refl
+      (certified es (applied (Show m) s .state) (follows-event (u .plan) (u .faulty) ok (Show m) s x .tracked) far)
+  certified (Tick m ∷ es) s x far = onward (Tick m) es s refl
+      (certified es (applied (Tick m) s .state) (follows-event (u .plan) (u .faulty) ok (Tick m) s x .tracked) far)
   certified (Settle ∷ es) s x far = go (settle-cases s) (certified es (applied Settle s .state) (follows-event (u .plan) (u .faulty) ok Settle s x .tracked))
     where
       go : ((accepted (applied Settle s .answer) ≡ true) × (applied Settle s .state ≡ settled s)) ⊎ (accepted (applied Settle s .answer) ≡ false)
           → (settlingBound u < ticksSince (sinceSettling (applied Settle s .state) es) → Certified u (applied Settle s .state) es) → Certified u s (Settle ∷ es)
       go (inl y) ih =
           let i : sinceSettling s (Settle ∷ es) ≡ since (settled s) es =
-          ap (λ (b : Bool). cond b (since (applied Settle s .state) es) (sinceSettling (applied Settle s .state) es)) (y .0) ∙ ap (λ (a : State). since a es) (y .1) in
+          ap (λ (b : Bool). cond b (since (applied Settle s .state) es) (sinceSettling (applied Settle s .state) es)) (y .0)
+          ∙ ap (λ (a : State). since a es) (y .1) in
           at-settling s x es i (y .1) (subst (λ (j : Since). settlingBound u < ticksSince j) i far)
       go (inr y) ih =
           let i : sinceSettling s (Settle ∷ es) ≡ sinceSettling (applied Settle s .state) es =
@@ -222,9 +237,11 @@ module _ (u : Setup) (ok : Planned (u .plan) (u .faulty)) where
           onward Settle es s i (ih (subst (λ (j : Since). settlingBound u < ticksSince j) i far))
 
 -- what an accepted opening leaves
-pub opened-so : (u : Setup) (before : State) → T (accepted (opening u before .answer)) → Passes (openingChecks u before) × (opening u before .state ≡ opened u before)
+pub opened-so : (u : Setup) (before : State) → T (accepted (opening u before .answer)) → Passes (openingChecks u before)
+    × (opening u before .state ≡ opened u before)
 unfolding opening
-opened-so u before = by-judged (λ (a : After). T (accepted (a .answer)) → Passes (openingChecks u before) × (a .state ≡ opened u before)) (refused before) (openingChecks u before) (done (opened u before))
+opened-so u before = by-judged (λ (a : After). T (accepted (a .answer)) → Passes (openingChecks u before) × (a .state ≡ opened u before))
+    (refused before) (openingChecks u before) (done (opened u before))
     (λ r t. absurd t) (λ c t. (c, refl))
 
 module _ (u : Setup) (before : State) (t : T (accepted (opening u before .answer))) where
@@ -249,7 +266,8 @@ pub never-back : NeverBack
 never-back u before t xs ys p c =
     let x = tracked-after u before t xs in
     let f = follows (u .plan) (u .faulty) (planned u before (c₀ u before t)) ys (after (opening u before .state) xs) x in
-    subst (λ (s : State). (viewOf (after (opening u before .state) xs .run) p ≤ viewOf (s .run) p) × (clockOf (after (opening u before .state) xs .run) p ≤ clockOf (s .run) p))
+    subst (λ (s : State). (viewOf (after (opening u before .state) xs .run) p ≤ viewOf (s .run) p)
+    × (clockOf (after (opening u before .state) xs .run) p ≤ clockOf (s .run) p))
     (sym (list-law (opening u before .state) xs ys)) (f .view-up p c, f .clock-up p c)
 
 pub stays-same : StaysSame
@@ -268,9 +286,18 @@ unfolding applied checks effect ticked
 not-nine (Deliver m) s no' = by-judged-each (λ (a : After). checkOf (a .answer) ≢ 9) (refused s) (checks (Deliver m) s) (effect (Deliver m) s)
     (λ t. absurd (no' t), (λ t. omega arith, (λ t. omega arith, (λ t. omega arith, (λ t. omega arith, (λ t. omega arith, tt)))))) (λ c. omega arith)
 not-nine (Sign m) s no' = by-judged-each (λ (a : After). checkOf (a .answer) ≢ 9) (refused s) (checks (Sign m) s) (effect (Sign m) s)
-    (λ t. omega arith, (λ t. absurd (no' t), (λ t. omega arith, (λ t. omega arith, (λ t. omega arith, (λ t. omega arith, (λ t. omega arith, tt))))))) (λ c. omega arith)
-not-nine (Show m) s no' = by-judged-each (λ (a : After). checkOf (a .answer) ≢ 9) (refused s) (checks (Show m) s) (effect (Show m) s)
-    (λ t. omega arith, (λ t. absurd (no' t), (λ t. omega arith, (λ t. omega arith, (λ t. omega arith, (λ t. omega arith, (λ t. omega arith, (λ t. omega arith, tt)))))))) (λ c. omega arith)
+    (λ t. omega arith, (λ t. absurd (no' t), (λ t. omega arith, (λ t. omega arith, (λ t. omega arith, (λ t. omega arith, (λ t. omega arith, tt)))))))
+    (λ c. omega arith)
+not-nine (Show m) s no' = by-judged-each (λ (a : After). checkOf (a .answer) ≢ 9) (refused s) (checks (Show m) s) (effect (Show m) s) (
+  λ t. omega arith,
+  (
+    λ t. absurd (no' t),
+    (
+      λ t. omega arith,
+      (λ t. omega arith, (λ t. omega arith, (λ t. omega arith, (λ t. omega arith, (λ t. omega arith, tt))))),
+    ),
+  ),
+) (λ c. omega arith)
 not-nine Settle s no' = by-judged-each (λ (a : After). checkOf (a .answer) ≢ 9) (refused s) (checks Settle s) (effect Settle s)
     (λ t. absurd (no' t), (λ t. omega arith, tt)) (λ c. omega arith)
 not-nine (Tick m) s no' = by-judged-each (λ (a : After). checkOf (a .answer) ≢ 9) (refused s) (checks (Tick m) s) (effect (Tick m) s)

@@ -1,15 +1,15 @@
 -- Which messages the moves send. Assumes nothing.
-use mathlib.Core.Path.{_≡_, refl, sym, ap, _∙_, subst}
-use mathlib.Core.Bool.{Bool, true, false, cond}
+use mathlib.Core.Path.{_≡_, refl, ap}
+use mathlib.Core.Bool.{Bool, true, false}
 use mathlib.Core.Logic.{_⊎_, inl, inr, ⊎-elim}
 use mathlib.Core.List.{List, [], _∷_, _++_}
-use Prim.Native.Nat.{ℕ, zero, suc, _+_, _≤_, _<_}
+use Prim.Native.Nat.{ℕ, zero, suc, _+_, _<_}
 use native.Mathlib.Omega.{arith}
 use lib.Dec.{T}
 use Rattle.base.specs.Tests.{le?, by-cond}
 use Rattle.model.specs.declared.Plan.{Plan}
 use Rattle.model.specs.declared.Message.{Message}
-use Rattle.model.specs.declared.Message.the-variants.{View, Vote, Vc, Qc}
+use Rattle.model.specs.declared.Message.the-variants.{View, Vote}
 use Rattle.model.specs.declared.Run.{Run}
 use Rattle.model.specs.Quantities.{lead, initial}
 use Rattle.model.specs.State.{isCorrect, kindOf, viewIn, processorIn, addressee}
@@ -85,7 +85,8 @@ pub elem-correct : (r : Run) (m : Message) (ms : List Message) → Elem m (toCor
 unfolding toCorrect
 elem-correct r m [] i = absurd i
 elem-correct r m (x ∷ ms) i =
-    by-cond (λ (l : List Message). Elem m l → Elem m (x ∷ ms) × T (isCorrect r (meant (r .plan) m))) (isCorrect r (meant (r .plan) x)) (x ∷ toCorrect r ms) (toCorrect r ms)
+    by-cond (λ (l : List Message). Elem m l → Elem m (x ∷ ms) × T (isCorrect r (meant (r .plan) m))) (isCorrect r (meant (r .plan) x))
+    (x ∷ toCorrect r ms) (toCorrect r ms)
     (λ t j. ⊎-elim (λ e. (inl e, rw e t)) (λ k. let y = elem-correct r m ms k in (inr (y .0), y .1)) j)
     (λ t j. let y = elem-correct r m ms j in (inr (y .0), y .1)) i
 

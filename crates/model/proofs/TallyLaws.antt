@@ -3,10 +3,10 @@ use mathlib.Core.Path.{_≡_, refl, sym, ap, _∙_, subst}
 use mathlib.Core.Bool.{Bool, true, false, _&&_, _||_}
 use mathlib.Core.Logic.{_⊎_, inl, inr, ⊎-elim, _≢_}
 use mathlib.Core.List.{List}
-use Prim.Native.Nat.{ℕ, zero, suc, _+_, _*_, _^_, _≤_, _<_}
+use Prim.Native.Nat.{ℕ, suc, _^_, _≤_, _<_}
 use native.Mathlib.Omega.{arith}
 use lib.Dec.{T, eqb, eqb→eq}
-use lib.ListN.{length, getD, set, length-set}
+use lib.ListN.{length, getD, length-set}
 use lib.Seq.{getD-set-same, getD-set-other, set-out}
 use Rattle.base.specs.Tests.{T-and, T-left, T-right, or-left, or-right, or-cases, T-iff, le?, eq?, eq→eqb}
 use Rattle.base.specs.Sets.{member, insert}
@@ -34,8 +34,10 @@ module _ (t : List ℕ) (w j p : ℕ) where
       here : place u i ≡ place w j → T (member (word t u i) q) ⊎ ((place u i ≡ place w j) × (q ≡ p))
       here e = ⊎-elim
           (λ (l : suc (place w j) ≤ length t). ⊎-elim (λ y. inl (subst (λ (z : ℕ). T (member (getD t z 0) q)) (sym e) y)) (λ y. inr (e, eqb→eq q p y))
-          (or-cases (member (word t w j) q) (eqb q p) (subst T (ap (λ (z : ℕ). member z q) (ap (λ (z : ℕ). getD (added t w j p) z 0) e ∙ added-same l) ∙ member-insert (word t w j) p q) x)))
-          (λ (l : length t < suc (place w j)). inl (subst (λ (z : List ℕ). T (member (word z u i) q)) (set-out t (place w j) (insert (word t w j) p) (omega arith)) x))
+          (or-cases (member (word t w j) q) (eqb q p) (subst T
+          (ap (λ (z : ℕ). member z q) (ap (λ (z : ℕ). getD (added t w j p) z 0) e ∙ added-same l) ∙ member-insert (word t w j) p q) x)))
+          (λ (l : length t < suc (place w j)). inl (subst (λ (z : List ℕ). T (member (word z u i) q))
+          (set-out t (place w j) (insert (word t w j) p) (omega arith)) x))
           (le? (suc (place w j)) (length t))
 
   module _ (j-low : j < 4) (long : place w j < length t) where
@@ -47,7 +49,8 @@ module _ (t : List ℕ) (w j p : ℕ) where
         elsewhere ne = T-iff (member (word (added t w j p) u i) q) (member (word t u i) q || (eqb u w && (eqb i j && eqb q p)))
             (λ x. or-left (member (word t u i) q) (eqb u w && (eqb i j && eqb q p)) (rw (added-other u i ne) at x))
             (λ x. ⊎-elim (λ y. rw (added-other u i ne) y)
-            (λ y. let a : u ≡ w = eqb→eq _ _ (T-left (eqb u w) _ y) in let b : i ≡ j = eqb→eq _ _ (T-left (eqb i j) _ (T-right (eqb u w) _ y)) in absurd (ne (rw (a, b) refl)))
+            (λ y. let a : u ≡ w = eqb→eq _ _ (T-left (eqb u w) _ y) in let b : i ≡ j = eqb→eq _ _ (T-left (eqb i j) _ (T-right (eqb u w) _ y)) in
+            absurd (ne (rw (a, b) refl)))
             (or-cases (member (word t u i) q) (eqb u w && (eqb i j && eqb q p)) x))
 
         here : place u i ≡ place w j → member (word (added t w j p) u i) q ≡ (member (word t u i) q || (eqb u w && (eqb i j && eqb q p)))
@@ -59,7 +62,8 @@ module _ (t : List ℕ) (w j p : ℕ) where
             last : (member (word t w j) q || eqb q p) ≡ (member (word t w j) q || (eqb w w && (eqb j j && eqb q p)))
             last = T-iff (member (word t w j) q || eqb q p) (member (word t w j) q || (eqb w w && (eqb j j && eqb q p)))
                 (λ x. ⊎-elim (λ y. or-left (member (word t w j) q) (eqb w w && (eqb j j && eqb q p)) y)
-                (λ y. or-right (member (word t w j) q) (eqb w w && (eqb j j && eqb q p)) (T-and (eqb w w) _ (eq→eqb w w refl) (T-and (eqb j j) _ (eq→eqb j j refl) y)))
+                (λ y. or-right (member (word t w j) q) (eqb w w && (eqb j j && eqb q p))
+                (T-and (eqb w w) _ (eq→eqb w w refl) (T-and (eqb j j) _ (eq→eqb j j refl) y)))
                 (or-cases (member (word t w j) q) (eqb q p) x))
                 (λ x. ⊎-elim (λ y. or-left (member (word t w j) q) (eqb q p) y)
                 (λ y. or-right (member (word t w j) q) (eqb q p) (T-right (eqb j j) _ (T-right (eqb w w) _ y)))
@@ -67,6 +71,7 @@ module _ (t : List ℕ) (w j p : ℕ) where
 
     pub added-below : (k u i : ℕ) → i < 4 → p < k → word t u i < 2 ^ k → word (added t w j p) u i < 2 ^ k
     added-below k u i i-low l h = ⊎-elim
-        (λ (e : place u i ≡ place w j). let a : u ≡ w = omega arith in let b : i ≡ j = omega arith in rw (a, b, added-same long) (insert-below k (word t w j) p l (rw (a, b) at h)))
+        (λ (e : place u i ≡ place w j). let a : u ≡ w = omega arith in let b : i ≡ j = omega arith in
+        rw (a, b, added-same long) (insert-below k (word t w j) p l (rw (a, b) at h)))
         (λ ne. rw (added-other u i ne) h)
         (eq? (place u i) (place w j))

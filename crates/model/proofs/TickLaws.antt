@@ -1,18 +1,17 @@
 -- What a tick does to the clocks, and that entries only raise them. Assumes nothing.
-use mathlib.Core.Path.{_≡_, refl, sym, ap, _∙_, subst}
-use mathlib.Core.Bool.{Bool, true, false, cond}
+use mathlib.Core.Path.{_≡_, refl, ap, _∙_}
+use mathlib.Core.Bool.{Bool, cond}
 use mathlib.Core.Logic.{_⊎_, inl, inr, ⊎-elim}
 use mathlib.Core.List.{List}
-use Prim.Native.Nat.{ℕ, zero, suc, _+_, _≤_, _<_, max}
+use Prim.Native.Nat.{ℕ, zero, suc, _+_, _≤_, _<_}
 use native.Mathlib.Omega.{arith}
 use lib.Dec.{T}
 use lib.ListN.{length, getD, set, length-set}
 use lib.Seq.{getD-set-same, getD-set-other, set-out}
 use Rattle.base.specs.Tests.{T-true, le?, eq?}
 use Rattle.model.specs.declared.Run.{Run}
-use Rattle.model.specs.Quantities.{clockTime}
 use Rattle.model.specs.State.{clockOf, isCorrect}
-use Rattle.model.specs.Moves.{Change, changed, Entry, stay, into, entryClock, entering, taking, entries, clocksOn}
+use Rattle.model.specs.Moves.{changed, Entry, stay, into, entryClock, entering, taking, entries, clocksOn}
 use Rattle.model.proofs.Enters.{entry-max}
 
 module _ (r : Run) where

@@ -1,32 +1,32 @@
 -- A single tick is the protocol's tick and the entries by clock that follow it. Assumes nothing.
 use mathlib.Core.Path.{_≡_, refl, sym, ap, _∙_, subst}
-use mathlib.Core.Bool.{Bool, true, false, _&&_, cond}
-use mathlib.Core.Logic.{_⊎_, inl, inr, _≢_, ⊎-elim}
+use mathlib.Core.Bool.{_&&_}
+use mathlib.Core.Logic.{_⊎_, inl, _≢_, ⊎-elim}
 use mathlib.Core.List.{List, [], _∷_, _++_, append-assoc, append-nil}
 use Prim.Native.Nat.{ℕ, zero, suc, _+_, _*_, _/_, _%_, _≤_, _<_, max}
 use native.Mathlib.Omega.{arith}
 use native.Mathlib.Nat.{div-add-mod', div-lt-iff-lt-mul, mul-mod-left, mul-div-cancel, mul-le-mul-right, lt-of-mul-lt-mul-right}
-use lib.Dec.{T, eqb, leb, ltb, eqb→eq, leb→le, le→leb, lt→ltb}
+use lib.Dec.{T, eqb, leb, eqb→eq, le→leb}
 use lib.ListN.{length, getD}
 use Rattle.base.specs.Tests.{T-left, T-right, T-and, le?, eq?, eq→eqb, by-cond}
-use Rattle.base.specs.Scan.{some}
 use Rattle.base.specs.ScanLaws.{some-by}
 use Rattle.protocol.specs.Params as proto
-use Rattle.protocol.specs.State.{Processors, Tally}
+use Rattle.protocol.specs.Params.{Params}
+use Rattle.protocol.specs.State.{Processors}
 use Rattle.protocol.specs.Moves.{Reason, by-clock, Enter, Tick, clocked}
 use Rattle.protocol.specs.Runs.{st, Steps, none, more, enters, ticks-on}
 use Rattle.protocol.specs.RunKeeps.{steps-holds}
 use Rattle.model.specs.declared.Plan.{Plan}
 use Rattle.model.specs.declared.Message.{Message}
 use Rattle.model.specs.declared.Run.{Run}
-use Rattle.model.specs.Quantities.{perLeader, initial, nextInitial, clockTime, endTime, correct}
-use Rattle.model.specs.State.{State, clockOf, viewOf, isCorrect, sentAt, capacity, enteredWord}
-use Rattle.model.specs.Moves.{Change, changed, still, also, Entry, stay, into, byClock, entering, taking, entries, clocksOn, advanced, arrival, ticking, made}
+use Rattle.model.specs.Quantities.{initial, nextInitial, clockTime, endTime}
+use Rattle.model.specs.State.{State, clockOf, viewOf, isCorrect, sentAt, enteredWord}
+use Rattle.model.specs.Moves.{Change, changed, still, also, Entry, stay, into, byClock, entering, taking, entries, advanced, arrival, ticking, made}
 use Rattle.model.specs.Checks.{overdueAt, overdue, reachesEnd, overfull}
 use Rattle.model.proofs.TallyLaws.{length-added}
-use Rattle.model.proofs.Flight.{Sent, In, laid, stamped, stands-at}
-use Rattle.model.proofs.Link.{Planned, params, correct-below, gamma-positive, to-initial, from-initial, flight, Wire, wire-posted, length-posted, Books, Ready, Below}
-use Rattle.model.proofs.Enters.{clocks-to, views-to, entrants, enter-books, sent-to, entered}
+use Rattle.model.proofs.Flight.{Sent, In, stamped, stands-at}
+use Rattle.model.proofs.Link.{Planned, params, correct-below, gamma-positive, to-initial, from-initial, flight, Wire, wire-posted, length-posted, Books, Below}
+use Rattle.model.proofs.Enters.{entrants, enter-books, sent-to, entered}
 use Rattle.model.proofs.TickLaws.{length-clocks, clock-up, entries-up}
 use Rattle.model.proofs.Tracks.{Tracked, state-of, Leads, arrives}
 
@@ -63,6 +63,12 @@ module _ (s : State) (ok : Planned (s .run .plan) (s .run .faulty)) (x : Tracked
   abbrev plan : Plan
   plan = s .run .plan
 
+  abbrev faulty : ℕ
+  faulty = s .run .faulty
+
+  abbrev π : Params
+  π = params plan faulty ok
+
   abbrev now : ℕ
   now = s .run .time + 1
 
@@ -70,13 +76,13 @@ module _ (s : State) (ok : Planned (s .run .plan) (s .run .faulty)) (x : Tracked
   abbrev a : Run
   a = advanced s .run
 
-  long : s .run .plan .n ≤ length (s .run .clocks)
+  long : plan .n ≤ length (s .run .clocks)
   long = x .books .clocks-long
 
   up : (q : ℕ) → T (isCorrect (s .run) q) → clockOf a q ≡ clockOf (s .run) q + 1
-  up q c = clock-up (s .run) (s .run .plan .n) q long (correct-below plan (s .run .faulty) q c) c
+  up q c = clock-up (s .run) (plan .n) q long (correct-below plan faulty q c) c
 
-  passed : Tick (params plan (s .run .faulty) ok) (x .processors) (λ p. clockOf a p) (flight (x .messages)) (s .run .time) (s .run .gst) (s .run .settled)
+  passed : Tick (π) (x .processors) (λ p. clockOf a p) (flight (x .messages)) (s .run .time) (s .run .gst) (s .run .settled)
   unfolding proto.next proto.row
   passed = record {
     ready = λ p c. rw (x .books .clock p, x .books .view p) (x .ready p c);
@@ -92,7 +98,7 @@ module _ (s : State) (ok : Planned (s .run .plan) (s .run .faulty)) (x : Tracked
     messages-are : messages ≡ x .messages ++ stamped now (c .sent)
     books : Books plan (c .clocks) (c .views) (c .tally) P (x .tally)
     tally-length : length (c .tally) ≡ length (s .tally)
-    way : Steps (params plan (s .run .faulty) ok) (state-of plan (s .run .faulty) ok s x) (st P (x .tally) (flight messages) now (s .run .gst) (s .run .settled))
+    way : Steps (π) (state-of plan faulty ok s x) (st P (x .tally) (flight messages) now (s .run .gst) (s .run .settled))
     moved : (q : ℕ) → T (isCorrect a q) → q < k → getD (c .clocks) q 0 < clockTime plan (nextInitial plan (getD (c .views) q 0))
     clock-kept : (q : ℕ) → k ≤ q → getD (c .clocks) q 0 ≡ clockOf a q
     view-kept : (q : ℕ) → k ≤ q → getD (c .views) q 0 ≡ viewOf (s .run) q
@@ -103,7 +109,7 @@ module _ (s : State) (ok : Planned (s .run .plan) (s .run .faulty)) (x : Tracked
     messages = x .messages;
     messages-are = sym (append-nil (x .messages));
     books = record {
-      clocks-long = rw (length-clocks (s .run) (s .run .plan .n)) long;
+      clocks-long = rw (length-clocks (s .run) (plan .n)) long;
       views-long = x .books .views-long;
       rows = x .books .rows;
       clock = λ p. refl;
@@ -123,7 +129,7 @@ module _ (s : State) (ok : Planned (s .run .plan) (s .run .faulty)) (x : Tracked
   -- the clocks before the entries are below the end
   room : (q : ℕ) → T (isCorrect a q) → clockOf a q < endTime plan
   unfolding ticking
-  room q c = omega (arith, not-ended (advanced s .run) (ticking (advanced s)) not-end q c, entries-up (arrival a) a (s .tally) (s .run .plan .n) q)
+  room q c = omega (arith, not-ended (advanced s .run) (ticking (advanced s)) not-end q c, entries-up (arrival a) a (s .tally) (plan .n) q)
 
   -- processor k moves
   module _ (k : ℕ) (c : Change) (m : Mid k c) where
@@ -131,31 +137,40 @@ module _ (s : State) (ok : Planned (s .run .plan) (s .run .faulty)) (x : Tracked
     r = changed a c
 
     abbrev w : ℕ
-    w = clockOf a k / s .run .plan .gamma
+    w = clockOf a k / plan .gamma
 
     here : clockOf r k ≡ clockOf a k
     here = m .clock-kept k (omega arith)
 
-    module _ (ck : T (isCorrect a k)) (standing : T (eqb (clockOf a k % s .run .plan .gamma) 0 && initial plan w)) where
+    module _ (ck : T (isCorrect a k)) (standing : T (eqb (clockOf a k % plan .gamma) 0 && initial plan w)) where
       at-time : clockOf a k ≡ clockTime plan w
       at-time =
-          let e : clockOf a k % s .run .plan .gamma ≡ 0 = eqb→eq _ _ (T-left (eqb (clockOf a k % s .run .plan .gamma) 0) _ standing) in
-          omega (arith, div-add-mod' (clockOf a k) (s .run .plan .gamma))
+          let e : clockOf a k % plan .gamma ≡ 0 = eqb→eq _ _ (T-left (eqb (clockOf a k % plan .gamma) 0) _ standing) in
+          omega (arith, div-add-mod' (clockOf a k) (plan .gamma))
 
-      in-row : w < s .run .plan .views
-      in-row = div-lt-iff-lt-mul (gamma-positive plan (s .run .faulty) ok) .1 (room k ck)
+      in-row : w < plan .views
+      in-row = div-lt-iff-lt-mul (gamma-positive plan faulty ok) .1 (room k ck)
 
       above : viewOf (s .run) k < w
-      above = lt-of-mul-lt-mul-right (s .run .plan .gamma) (omega (arith, at-time, up k ck, x .holds .processors .low k ck, x .books .clock k, ap (λ (y : ℕ). y * s .run .plan .gamma) (x .books .view k)))
+      above = lt-of-mul-lt-mul-right (plan .gamma) (omega (
+        arith,
+        at-time,
+        up k ck,
+        x .holds .processors .low k ck,
+        x .books .clock k,
+        ap
+            (λ (y : ℕ). y * plan .gamma) (x .books .view k),
+      ))
 
-      why : Reason (params plan (s .run .faulty) ok) (m .P) (x .tally) k w
-      why = by-clock (to-initial plan (s .run .faulty) ok w (T-right (eqb (clockOf a k % s .run .plan .gamma) 0) _ standing))
+      why : Reason (π) (m .P) (x .tally) k w
+      why = by-clock (to-initial plan faulty ok w (T-right (eqb (clockOf a k % plan .gamma) 0) _ standing))
           (omega (arith, m .books .view k, m .view-kept k (omega arith), above)) (m .books .clock k ∙ here ∙ at-time)
 
       abbrev sent-now : List Message
       sent-now = sent-to r (c .tally) ok (m .books) k w ck in-row now (m .messages) (m .messages) (λ m' t i. i) (λ m' t i. inl i) why
 
-      h : Enter (params plan (s .run .faulty) ok) (m .P) (entrants r (c .tally) ok (m .books) k w ck in-row) (x .tally) (flight (m .messages)) (flight (m .messages ++ stamped now sent-now)) now k w
+      h : Enter (π) (m .P) (entrants r (c .tally) ok (m .books) k w ck in-row) (x .tally) (flight (m .messages))
+          (flight (m .messages ++ stamped now sent-now)) now k w
       h = entered r (c .tally) ok (m .books) k w ck in-row now (m .messages) (m .messages) (λ m' t i. i) (λ m' t i. inl i) why
 
       goes : Mid (suc k) (also c (entering r (c .tally) k w))
@@ -171,14 +186,23 @@ module _ (s : State) (ok : Planned (s .run .plan) (s .run .faulty)) (x : Tracked
         way = more (m .way) (enters k w h);
         moved = λ q cq l. ⊎-elim
             (λ (e : q ≡ k). rw e (rw (h .view-to)
-            (omega (arith, h .clock-to, m .books .clock k, here, at-time, mul-le-mul-right (s .run .plan .gamma) (proto.next-above (params plan (s .run .faulty) ok) w), gamma-positive plan (s .run .faulty) ok))))
+            (omega (
+              arith,
+              h .clock-to,
+              m .books .clock k,
+              here,
+              at-time,
+              mul-le-mul-right (plan .gamma) (proto.next-above (π) w),
+              gamma-positive plan
+                  faulty ok,
+            ))))
             (λ ne. rw (h .view-else q ne, m .books .view q) (omega (arith, h .clock-else q ne, m .books .clock q, m .moved q cq (omega arith))))
             (eq? q k);
         clock-kept = λ q l. let ne : q ≢ k = omega arith in h .clock-else q ne ∙ m .books .clock q ∙ m .clock-kept q (omega arith);
         view-kept = λ q l. let ne : q ≢ k = omega arith in h .view-else q ne ∙ m .books .view q ∙ m .view-kept q (omega arith);
       }
 
-    waits : (T (isCorrect a k) → T (eqb (clockOf a k % s .run .plan .gamma) 0 && initial plan w) → ⊥) → Mid (suc k) (also c (still r (c .tally)))
+    waits : (T (isCorrect a k) → T (eqb (clockOf a k % plan .gamma) 0 && initial plan w) → ⊥) → Mid (suc k) (also c (still r (c .tally)))
     unfolding proto.next proto.row
     waits not-standing = record {
       P = m .P;
@@ -196,22 +220,22 @@ module _ (s : State) (ok : Planned (s .run .plan) (s .run .faulty)) (x : Tracked
         last ck =
             let u : ℕ = nextInitial plan (viewOf r k) in
             let ne : clockOf r k ≢ clockTime plan u = λ (e : clockOf r k ≡ clockTime plan u).
-            let e' : clockOf a k ≡ u * s .run .plan .gamma = sym here ∙ e in
-            let rem : clockOf a k % s .run .plan .gamma ≡ 0 = ap (λ (y : ℕ). y % s .run .plan .gamma) e' ∙ mul-mod-left u (s .run .plan .gamma) in
-            let quo : clockOf a k / s .run .plan .gamma ≡ u = ap (λ (y : ℕ). y / s .run .plan .gamma) e' ∙ mul-div-cancel u (gamma-positive plan (s .run .faulty) ok) in
-            not-standing ck (T-and (eqb (clockOf a k % s .run .plan .gamma) 0) _ (eq→eqb _ _ rem)
-            (rw quo (from-initial plan (s .run .faulty) ok u (proto.next-initial (params plan (s .run .faulty) ok) (viewOf r k))))) in
+            let e' : clockOf a k ≡ u * plan .gamma = sym here ∙ e in
+            let rem : clockOf a k % plan .gamma ≡ 0 = ap (λ (y : ℕ). y % plan .gamma) e' ∙ mul-mod-left u (plan .gamma) in
+            let quo : clockOf a k / plan .gamma ≡ u = ap (λ (y : ℕ). y / plan .gamma) e' ∙ mul-div-cancel u (gamma-positive plan faulty ok) in
+            not-standing ck (T-and (eqb (clockOf a k % plan .gamma) 0) _ (eq→eqb _ _ rem)
+            (rw quo (from-initial plan faulty ok u (proto.next-initial (π) (viewOf r k))))) in
             omega (
               arith,
-              steps-holds (params plan (s .run .faulty) ok) (m .way) (x .holds) .processors .high k ck,
+              steps-holds (π) (m .way) (x .holds) .processors .high k ck,
               m .books .clock k,
-              ap (λ (y : ℕ). nextInitial plan y * s .run .plan .gamma) (m .books .view k),
+              ap (λ (y : ℕ). nextInitial plan y * plan .gamma) (m .books .view k),
             )
 
     mid-more : Mid (suc k) (also c (taking r (c .tally) k (arrival a k)))
     unfolding taking
     mid-more = by-cond (λ (e : Entry). Mid (suc k) (also c (taking r (c .tally) k e))) (isCorrect a k) (byClock plan (clockOf a k)) stay
-        (λ ck. by-cond (λ (e : Entry). Mid (suc k) (also c (taking r (c .tally) k e))) (eqb (clockOf a k % s .run .plan .gamma) 0 && initial plan w) (into w) stay
+        (λ ck. by-cond (λ (e : Entry). Mid (suc k) (also c (taking r (c .tally) k e))) (eqb (clockOf a k % plan .gamma) 0 && initial plan w) (into w) stay
         (λ t. goes ck t) (λ t. waits (λ _ t'. t t')))
         (λ nc. waits (λ ck _. nc ck))
 
@@ -221,13 +245,14 @@ module _ (s : State) (ok : Planned (s .run .plan) (s .run .faulty)) (x : Tracked
   mid-all (suc k) = mid-more k (entries (arrival a) a (s .tally) k) (mid-all k)
 
   -- the whole tick
-  pub tick-leads : (T (overfull (advanced s) (ticking (advanced s))) → ⊥) → Leads plan (s .run .faulty) ok s x (made (advanced s) (ticking (advanced s)))
+  pub tick-leads : (T (overfull (advanced s) (ticking (advanced s))) → ⊥) → Leads plan faulty ok s x (made (advanced s) (ticking (advanced s)))
   unfolding ticking made
   tick-leads fits =
-      let m = mid-all (s .run .plan .n) in
+      let m = mid-all (plan .n) in
       let c = ticking (advanced s) in
-      arrives plan (s .run .faulty) ok x (made (advanced s) c) refl refl (x .messages ++ stamped now (c .sent)) (m .P) (x .tally)
+      arrives plan faulty ok x (made (advanced s) c) refl refl (x .messages ++ stamped now (c .sent)) (m .P) (x .tally)
       (wire-posted (x .wire) now (c .sent) fits) (m .books)
-      (subst (λ (l : List Sent). Steps (params plan (s .run .faulty) ok) (state-of plan (s .run .faulty) ok s x) (st (m .P) (x .tally) (flight l) now (s .run .gst) (s .run .settled))) (m .messages-are) (m .way))
-      (λ q cq. m .moved q cq (correct-below plan (s .run .faulty) q cq)) (not-ended (advanced s .run) c not-end)
+      (subst (λ (l : List Sent). Steps (π) (state-of plan faulty ok s x) (st (m .P) (x .tally) (flight l) now (s .run .gst) (s .run .settled)))
+      (m .messages-are) (m .way))
+      (λ q cq. m .moved q cq (correct-below plan faulty q cq)) (not-ended (advanced s .run) c not-end)
       (m .tally-length) (length-posted (x .wire) now (c .sent) fits)

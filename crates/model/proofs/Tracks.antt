@@ -1,14 +1,15 @@
 -- Between events: what holds of a run that the protocol tracks, and where an event leads it. Assumes nothing.
-use mathlib.Core.Path.{_≡_, refl, sym, ap, _∙_, subst}
-use mathlib.Core.Bool.{Bool, true, false, not, _||_}
+use mathlib.Core.Path.{_≡_, refl, _∙_, subst}
+use mathlib.Core.Bool.{Bool, false, not, _||_}
 use mathlib.Core.List.{List}
-use Prim.Native.Nat.{ℕ, _+_, _*_, _≤_, _<_}
+use Prim.Native.Nat.{ℕ, _*_, _≤_}
 use native.Mathlib.Omega.{arith}
 use lib.Dec.{T, ltb}
 use lib.ListN.{length}
-use Rattle.protocol.specs.State.{Processors, Tally, Flight}
+use Rattle.protocol.specs.Params.{Params}
+use Rattle.protocol.specs.State.{Processors, Tally}
 use Rattle.protocol.specs.Base.{Base}
-use Rattle.protocol.specs.Runs.{St, st, Steps, none, steps-trans, ticks, steps-kept, steps-flag, steps-clock-up}
+use Rattle.protocol.specs.Runs.{St, st, Steps, none, steps-trans, steps-kept, steps-flag, steps-clock-up}
 use Rattle.protocol.specs.RunKeeps.{steps-holds}
 use Rattle.model.specs.declared.Plan.{Plan}
 use Rattle.model.specs.Quantities.{rowWords, networkLeast, networkMost, correct}
@@ -24,6 +25,9 @@ limitsFor p faulty a b =
     || (ltb a (rowWords * p .views) || ltb b (networkLeast p) || ltb networkMost b)
 
 module _ (plan : Plan) (faulty : ℕ) (ok : Planned plan faulty) where
+  abbrev π : Params
+  π = params plan faulty ok
+
   -- a state of the protocol agrees with the run and the buffers, and the invariants hold
   pub record Tracked (s : State) : Type 0 where
     pub plan-is : s .run .plan ≡ plan
@@ -33,7 +37,7 @@ module _ (plan : Plan) (faulty : ℕ) (ok : Planned plan faulty) where
     pub tally : Tally
     pub wire : Wire (s .network) (s .run .held) messages
     pub books : Books plan (s .run .clocks) (s .run .views) (s .tally) processors tally
-    pub holds : Base (params plan faulty ok) processors tally (flight messages) (s .run .time) (s .run .gst) (s .run .settled)
+    pub holds : Base (π) processors tally (flight messages) (s .run .time) (s .run .gst) (s .run .settled)
     pub ready : Ready plan faulty (s .run .clocks) (s .run .views)
     pub below : Below plan faulty (s .run .clocks)
     -- no correct clock is behind the time
@@ -48,7 +52,7 @@ module _ (plan : Plan) (faulty : ℕ) (ok : Planned plan faulty) where
   -- an event that does not settle the network leads from s to s'
   pub record Leads (s : State) (x : Tracked s) (s' : State) : Type 1 where
     pub to : Tracked s'
-    pub way : Steps (params plan faulty ok) (state-of s x) (state-of s' to)
+    pub way : Steps (π) (state-of s x) (state-of s' to)
     pub tally-length : length (s' .tally) ≡ length (s .tally)
     pub network-length : length (s' .network) ≡ length (s .network)
 
@@ -67,12 +71,12 @@ module _ (plan : Plan) (faulty : ℕ) (ok : Planned plan faulty) where
   module _ {s : State} (x : Tracked s) (s' : State) (plan-to : s' .run .plan ≡ s .run .plan) (faulty-to : s' .run .faulty ≡ s .run .faulty)
       (messages-to : List Sent) (P : Processors) (L : Tally) (wire-to : Wire (s' .network) (s' .run .held) messages-to)
       (books-to : Books plan (s' .run .clocks) (s' .run .views) (s' .tally) P L)
-      (way-to : Steps (params plan faulty ok) (state-of s x) (st P L (flight messages-to) (s' .run .time) (s' .run .gst) (s' .run .settled)))
+      (way-to : Steps (π) (state-of s x) (st P L (flight messages-to) (s' .run .time) (s' .run .gst) (s' .run .settled)))
       (ready-to : Ready plan faulty (s' .run .clocks) (s' .run .views)) (below-to : Below plan faulty (s' .run .clocks))
       (tally-to : length (s' .tally) ≡ length (s .tally)) (network-to : length (s' .network) ≡ length (s .network)) where
     still-early : (p : ℕ) → T (correct plan faulty p) → s' .run .time ≤ clockOf (s' .run) p
     still-early p c =
-        omega (arith, x .early p c, steps-kept (params plan faulty ok) way-to .0, steps-clock-up (params plan faulty ok) way-to p c, x .books .clock p, books-to .clock p)
+        omega (arith, x .early p c, steps-kept (π) way-to .0, steps-clock-up (π) way-to p c, x .books .clock p, books-to .clock p)
 
     pub arrives : Leads s x s'
     arrives = record {
@@ -84,11 +88,11 @@ module _ (plan : Plan) (faulty : ℕ) (ok : Planned plan faulty) where
         tally = L;
         wire = wire-to;
         books = books-to;
-        holds = steps-holds (params plan faulty ok) way-to (x .holds);
+        holds = steps-holds (π) way-to (x .holds);
         ready = ready-to;
         below = below-to;
         early = still-early;
-        unsettled = λ t. steps-kept (params plan faulty ok) way-to .1 ∙ x .unsettled (subst (λ (b : Bool). T (not b)) (steps-flag (params plan faulty ok) way-to) t);
+        unsettled = λ t. steps-kept (π) way-to .1 ∙ x .unsettled (subst (λ (b : Bool). T (not b)) (steps-flag (π) way-to) t);
         limits = (λ i. limitsFor (plan-to i) (faulty-to i) (tally-to i) (network-to i)) ∙ x .limits;
       };
       way = way-to;

@@ -1,5 +1,6 @@
 -- Document 01 as definitions, in its order.
 pub mod Quantities
+pub mod Words
 pub mod State
 pub mod Moves
 pub mod Checks

@@ -1,7 +1,7 @@
 -- The opening.
-use mathlib.Core.Bool.{Bool, true, false, cond}
+use mathlib.Core.Bool.{false, cond}
 use mathlib.Core.List.{List, [], _∷_, _++_}
-use Prim.Native.Nat.{ℕ, zero, suc, _*_}
+use Prim.Native.Nat.{ℕ, _*_}
 use lib.ListN.{length, getD, drop, replicate}
 use Rattle.base.specs.Scan.{listed}
 use Rattle.model.specs.declared.Run.{Run}

@@ -1,9 +1,9 @@
 -- What is promised of every run opened here and altered by events only: demand 3 first. Each is proved under the same name in
 -- proofs/Promises.antt.
 use mathlib.Core.Path.{_≡_}
-use mathlib.Core.Bool.{Bool, true, false, not, _&&_}
+use mathlib.Core.Bool.{true}
 use mathlib.Core.Logic.{_≢_}
-use mathlib.Core.List.{List, [], _∷_, _++_}
+use mathlib.Core.List.{List, _++_}
 use Prim.Native.Nat.{ℕ, _+_, _*_, _≤_, _<_}
 use lib.Dec.{T}
 use lib.ListN.{length, take}
@@ -11,7 +11,7 @@ use Rattle.base.specs.Sets.{member, size}
 use Rattle.model.specs.declared.Event.{Event}
 use Rattle.model.specs.declared.Setup.{Setup}
 use Rattle.model.specs.Quantities.{lead, correct}
-use Rattle.model.specs.State.{State, clockOf, viewOf, marksWord, markBit, word, checkOf, ticksOf, accepted, refused}
+use Rattle.model.specs.State.{State, clockOf, viewOf, marksWord, markBit, word, checkOf, accepted, refused}
 use Rattle.model.specs.Opening.{opening}
 use Rattle.model.specs.Events.{tickOnce, Ticks, ticks, applied}
 use Rattle.model.specs.Lists.{after, ClockCondition, sinceSettling, ticksDone, ticksSince, formedIn, formedSince}

@@ -1,28 +1,25 @@
 -- "Settings worth trying": the starred ones in one table, and the printed schedule, computed from the definitions. Assumes nothing.
 use mathlib.Core.Path.{_≡_, refl}
-use mathlib.Core.Bool.{Bool, true, false, cond}
-use mathlib.Core.List.{List, [], _∷_, _++_}
-use Prim.Native.Nat.{ℕ, zero, suc, _+_, _*_}
-use lib.ListN.{length, getD, replicate}
+use mathlib.Core.Bool.{false}
+use mathlib.Core.List.{List, [], _∷_}
+use Prim.Native.Nat.{ℕ}
+use lib.ListN.{replicate}
 use lib.Count.{ones, onesIn}
 use Rattle.base.specs.Count.{count}
 use Rattle.base.specs.Scan.{some, first, listed}
 use Rattle.base.specs.Sets.{member}
 use Rattle.model.specs.declared.Plan.{Plan}
-use Rattle.model.specs.declared.Message.the-variants.{View, Vote, Vc, Qc}
+use Rattle.model.specs.declared.Message.the-variants.{View}
 use Rattle.model.specs.declared.Event.{Event}
-use Rattle.model.specs.declared.Event.the-variants.{Deliver, Sign, Show, Settle, Tick}
-use Rattle.model.specs.declared.Setup.{Setup}
+use Rattle.model.specs.declared.Event.the-variants.{Deliver, Settle, Tick}
 use Rattle.model.specs.declared.Answer.{Answer}
-use Rattle.model.specs.declared.Answer.the-variants.{Done, Stopped, Refused}
-use Rattle.model.specs.declared.Input.the-variants as input
-use Rattle.model.specs.Quantities.{tolerated, perLeader, lead}
-use Rattle.model.specs.State.{State, After, runOf, clockOf, viewOf, posted, removed, checkOf}
-use Rattle.model.specs.Moves.{toCorrect, entering, taking, entries, forms, toEach, hearing, handling, clocksOn, advanced, ticking, made}
+use Rattle.model.specs.declared.Answer.the-variants.{Done, Stopped}
+use Rattle.model.specs.Quantities.{perLeader}
+use Rattle.model.specs.State.{State, After, runOf, posted, removed}
+use Rattle.model.specs.Moves.{toCorrect, entering, taking, entries, forms, toEach, hearing, handling, clocksOn, ticking, made}
 use Rattle.model.specs.Checks.{startTooHigh, tooFarAhead, heldUnsound, unsound, exists, overdue, reachesEnd}
 use Rattle.model.specs.Opening.{blank, opened, opening}
 use Rattle.model.specs.Events.{without, delivering, signing, settled, tickOnce, ticks, ticked, checks, effect, applied}
-use Rattle.model.specs.Lists.{after}
 
 -- "n=4, Δ=2, Γ=4, V=6, mask 0 unless said."
 abbrev pub planOf : ℕ → ℕ → Plan

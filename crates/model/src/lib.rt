@@ -1,4 +1,7 @@
-// The types of the product, declared once.
+// The types of the product, declared once, and the functions of the plan.
+ghost use mathlib.Core.Path.{_≡_};
+ghost use Rattle.model.specs.Quantities.{initial};
+ghost use Rattle.model.specs.Words.{leadWord, clockTimeWord};
 
 // The protocol's parameters (document 01: the plan): processors, delay, slot, view limit.
 pub struct Plan {
@@ -6,6 +9,45 @@ pub struct Plan {
     pub delta: u64,
     pub gamma: u64,
     pub views: u64,
+}
+
+impl Plan {
+    pub const VIEWS_PER_LEADER: u64 = 3;
+
+    // The leader of view w.
+    pub fn lead(self, w: u64) -> u64
+        ensures { λ r. ⌜ r ≡ leadWord self w ⌝ }
+    {
+        if self.n == 0 {
+            return 0;
+        }
+        w / Plan::VIEWS_PER_LEADER % self.n
+    }
+
+    // Whether view w is initial.
+    pub fn initial(self, w: u64) -> bool
+        ensures { λ r. ⌜ r ≡ initial self w ⌝ }
+    {
+        w % Plan::VIEWS_PER_LEADER == 0
+    }
+
+    // The clock time of view w. The first product cannot overflow; the division is left to numbers that no sound plan has.
+    pub fn clock_time(self, w: u64) -> u64
+        ensures { λ r. ⌜ r ≡ clockTimeWord self w ⌝ }
+    {
+        if w < 4294967296 {
+            if self.gamma < 4294967296 {
+                return w * self.gamma;
+            }
+        }
+        if self.gamma == 0 {
+            return 0;
+        }
+        if 18446744073709551615 / self.gamma < w {
+            return 18446744073709551615;
+        }
+        w * self.gamma
+    }
 }
 
 // A message: its view, then the processor, which is the sender of a view message or vote and the receiver of a certificate.

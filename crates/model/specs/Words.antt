@@ -1,0 +1,14 @@
+-- The plan's functions on 64-bit numbers: document 01's wherever its number fits, and a named one elsewhere.
+use mathlib.Core.Bool.{cond}
+use Prim.Native.Nat.{ℕ, _-_, _^_}
+use lib.Dec.{eqb, ltb}
+use Rattle.model.specs.declared.Plan.{Plan}
+use Rattle.model.specs.Quantities.{lead, clockTime}
+
+-- of no processors none leads: 0
+abbrev pub leadWord : Plan → ℕ → ℕ
+leadWord p w = cond (eqb (p .n) 0) 0 (lead p w)
+
+-- a clock time of 2^64 or more is the largest number
+abbrev pub clockTimeWord : Plan → ℕ → ℕ
+clockTimeWord p w = cond (ltb (clockTime p w) (2 ^ 64)) (clockTime p w) (2 ^ 64 - 1)

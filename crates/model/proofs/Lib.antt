@@ -1,19 +1,2 @@
--- Why the definitions keep demand 3.
+-- Why the plan's functions meet their contracts.
 pub mod PlanWords
-pub mod TallyLaws
-pub mod Flight
-pub mod Sending
-pub mod Link
-pub mod Enters
-pub mod Hears
-pub mod Tracks
-pub mod TickLaws
-pub mod Ticks
-pub mod Judging
-pub mod Events
-pub mod Opens
-pub mod Soundness
-pub mod Sound
-pub mod History
-pub mod Marks
-pub mod Promises

@@ -8,7 +8,7 @@ use borrow.Author.Tests.{lt-ltb, le-ltb}
 use Rattle.base.specs.Choice.{cond-yes, cond-no}
 use Rattle.model.specs.declared.Plan.{Plan}
 use Rattle.model.specs.Quantities.{clockTime}
-use Rattle.model.specs.Words.{clockTimeWord}
+use Rattle.model.specs.PlanFunctions.{clockTimeWord}
 
 pub small-fits : (w g : ℕ) → w < 4294967296 → g < 4294967296 → w * g < 2 ^ 64
 small-fits w g l h = let a : w ≤ 4294967295 = omega arith in let b : g ≤ 4294967295 = omega arith in omega (arith, mul-le-mul a b)

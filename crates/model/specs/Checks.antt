@@ -1,5 +1,5 @@
 -- "Checks, in order": each its own predicate, true where its sentence holds.
-use mathlib.Core.Bool.{Bool, true, false, not, _&&_, _||_, cond}
+use mathlib.Core.Bool.{Bool, false, not, _&&_, _||_, cond}
 use mathlib.Core.List.{List, [], _∷_}
 use Prim.Native.Nat.{ℕ, _+_, _*_, _^_, max}
 use lib.Dec.{eqb, leb, ltb}
@@ -9,10 +9,11 @@ use Rattle.base.specs.Scan.{some, first}
 use Rattle.base.specs.Sets.{member, size}
 use Rattle.model.specs.declared.Plan.{Plan}
 use Rattle.model.specs.declared.Message.{Message}
-use Rattle.model.specs.declared.Message.the-variants.{View, Vote, Vc, Qc}
+use Rattle.model.specs.declared.Event.{Event}
+use Rattle.model.specs.declared.Event.the-variants.{Deliver, Sign, Show, Settle, Tick}
 use Rattle.model.specs.declared.Run.{Run}
-use Rattle.model.specs.Quantities.{nLeast, nMost, deltaMost, gammaMost, viewsLeast, viewsMost, rowWords, messageWords, networkLeast, networkMost, tolerated, lead, initial, nextInitial, clockTime, endTime, startLimit, correct}
-use Rattle.model.specs.State.{State, clockOf, viewOf, isCorrect, enteredWord, marksWord, markBit, word, kindOf, viewIn, processorIn, addressee, kindAt, viewAt, processorAt, sentAt, capacity}
+use Rattle.model.specs.Quantities.{nLeast, nMost, deltaLeast, deltaMost, gammaLeast, gammaMost, viewsLeast, viewsMost, rowWords, messageWords, networkLeast, networkMost, tolerated, lead, initial, nextInitial, clockTime, endTime, startLimit, correct}
+use Rattle.model.specs.State.{State, clockOf, viewOf, isCorrect, enteredWord, marksWord, markBit, word, kindOf, viewIn, processorIn, kindLeast, kindMost, stageOf, isSignature, addressee, kindAt, viewAt, processorAt, sentAt, capacity}
 use Rattle.model.specs.Moves.{Change, needed}
 
 -- a check's number, and whether its sentence holds
@@ -24,17 +25,36 @@ abbrev pub judged : {A : Type 0} → (ℕ → A) → List Check → A → A
 judged refusal [] a = a
 judged refusal (c ∷ cs) a = cond (c .1) (refusal (c .0)) (judged refusal cs a)
 
+-- 1. "an event handed in has 0 ticks or a kind its form lacks"
+abbrev pub lacksForm : Event → Bool
+lacksForm (Deliver m) = false
+lacksForm (Sign m) = not (isSignature m)
+lacksForm (Show m) = isSignature m
+lacksForm Settle = false
+lacksForm (Tick m) = eqb m 0
+
+-- the two halves of 10
+abbrev pub noProcessor : Plan → ℕ → Bool
+noProcessor plan p = leb (plan .n) p
+
+abbrev pub noView : Plan → ℕ → Bool
+noView plan w = leb (plan .views) w
+
 -- 2. "n is outside 4 to 64."
 abbrev pub nOutside : Plan → Bool
 nOutside p = ltb (p .n) nLeast || ltb nMost (p .n)
 
 -- 3. "Δ or Γ is outside its range."
 abbrev pub delaysOutside : Plan → Bool
-delaysOutside p = ltb (p .delta) 1 || ltb deltaMost (p .delta) || ltb (p .gamma) (2 * p .delta) || ltb gammaMost (p .gamma)
+delaysOutside p = ltb (p .delta) deltaLeast || ltb deltaMost (p .delta) || ltb (p .gamma) (gammaLeast p) || ltb gammaMost (p .gamma)
 
--- 4. "V is outside its range or no multiple of 3."
+-- 4. "V is outside its range or no multiple of 3." A multiple is what an initial view is.
 abbrev pub viewsOutside : Plan → Bool
 viewsOutside p = ltb (p .views) viewsLeast || ltb viewsMost (p .views) || not (initial p (p .views))
+
+-- 2 to 4
+abbrev pub planOutside : Plan → Bool
+planOutside p = nOutside p || delaysOutside p || viewsOutside p
 
 -- 5. "The mask has a bit at n or above, or more than t ones."
 abbrev pub faultyOutside : Plan → ℕ → Bool
@@ -49,64 +69,78 @@ unfoldable pub startTooHigh : Plan → ℕ → List ℕ → Bool
 startTooHigh p faulty clocks = some (λ q. correct p faulty q && leb (startLimit p) (getD clocks q 0)) (p .n)
 
 -- 8. "A correct clock c has fewer than t+1 correct clocks c', its own counted, with c'+Γ ≥ c."
-abbrev pub closeBehind : Plan → ℕ → List ℕ → ℕ → ℕ
-closeBehind p faulty clocks c = count (p .n) (λ q. correct p faulty q && leb c (getD clocks q 0 + p .gamma))
+abbrev pub supporting : Plan → ℕ → List ℕ → ℕ → ℕ
+supporting p faulty clocks c = count (p .n) (λ q. correct p faulty q && leb c (getD clocks q 0 + p .gamma))
 
 unfoldable pub tooFarAhead : Plan → ℕ → List ℕ → Bool
-tooFarAhead p faulty clocks = some (λ q. correct p faulty q && ltb (closeBehind p faulty clocks (getD clocks q 0)) (tolerated p + 1)) (p .n)
+tooFarAhead p faulty clocks = some (λ q. correct p faulty q && ltb (supporting p faulty clocks (getD clocks q 0)) (tolerated p + 1)) (p .n)
 
--- 9. "The run handed in is unsound: a limit of 2 to 6 broken,
+-- 9. "The run handed in is unsound: a limit of 2 to 6 broken, a correct clock or the time at or above VΓ, a correct clock below its view's
+-- clock time or not below that of the next initial view, more messages than fit, a held message with kind, view or cabinet out of range or
+-- addressed to a faulty cabinet, a sending or settling time later than now, or a post word beyond the last message that is not 0."
+
 abbrev pub limitsBroken : State → Bool
-limitsBroken s =
-    let p = s .run .plan in
-    nOutside p || delaysOutside p || viewsOutside p || faultyOutside p (s .run .faulty) || buffersOutside p (s .tally) (s .network)
+limitsBroken s = planOutside (s .run .plan) || faultyOutside (s .run .plan) (s .run .faulty) || buffersOutside (s .run .plan) (s .tally) (s .network)
 
--- a correct clock .. at or above VΓ, a correct clock below its view's clock time or not below that of the next initial view,
+abbrev pub atEnd : Plan → ℕ → Bool
+atEnd p clock = leb (endTime p) clock
+
 abbrev pub clockOutside : Plan → ℕ → ℕ → Bool
-clockOutside p clock view = leb (endTime p) clock || ltb clock (clockTime p view) || leb (clockTime p (nextInitial p view)) clock
+clockOutside p clock view = atEnd p clock || ltb clock (clockTime p view) || leb (clockTime p (nextInitial p view)) clock
 
--- a held message with kind, view or cabinet out of range or addressed to a faulty cabinet, a sending .. time later than now
-unfoldable pub heldUnsound : State → ℕ → Bool
-heldUnsound s i =
+abbrev pub clocksUnsound : State → Bool
+clocksUnsound s = let r = s .run in some (λ p. isCorrect r p && clockOutside (r .plan) (clockOf r p) (viewOf r p)) (r .plan .n)
+
+abbrev pub timeUnsound : State → Bool
+timeUnsound s = atEnd (s .run .plan) (s .run .time)
+
+abbrev pub heldTooMany : State → Bool
+heldTooMany s = ltb (capacity (s .network)) (s .run .held)
+
+unfoldable pub messageUnsound : State → ℕ → Bool
+messageUnsound s i =
     let r = s .run in
     let kind = kindAt (s .network) i in
     let w = viewAt (s .network) i in
     let p = processorAt (s .network) i in
-    ltb kind 1 || ltb 4 kind || leb (r .plan .views) w || leb (r .plan .n) p || not (isCorrect r (addressee (r .plan) kind w p))
-    || ltb (r .time) (sentAt (s .network) i)
+    ltb kind kindLeast || ltb kindMost kind || noView (r .plan) w || noProcessor (r .plan) p
+    || not (isCorrect r (addressee (r .plan) kind w p)) || ltb (r .time) (sentAt (s .network) i)
 
--- a post word beyond the last message that is not 0."
+-- "(its settling time is kept as 0; check 9 refuses another value in an unsettled run)"
+abbrev pub settlingUnsound : State → Bool
+settlingUnsound s = ltb (s .run .time) (s .run .gst) || (not (s .run .settled) && not (eqb (s .run .gst) 0))
+
 abbrev pub someNonZero : List ℕ → Bool
 someNonZero [] = false
 someNonZero (x ∷ xs) = not (eqb x 0) || someNonZero xs
 
--- ".. the time at or above VΓ, .. more messages than fit, .. settling time later than now"; "check 9 refuses another value in an unsettled run"
+abbrev pub tailNotZero : State → Bool
+tailNotZero s = someNonZero (drop (messageWords * s .run .held) (s .network))
+
 unfoldable pub unsound : State → Bool
 unsound s =
-    let r = s .run in
-    limitsBroken s || some (λ p. isCorrect r p && clockOutside (r .plan) (clockOf r p) (viewOf r p)) (r .plan .n) || leb (endTime (r .plan)) (r .time)
-    || ltb (capacity (s .network)) (r .held) || some (heldUnsound s) (r .held) || ltb (r .time) (r .gst)
-    || (not (r .settled) && not (eqb (r .gst) 0)) || someNonZero (drop (messageWords * r .held) (s .network))
+    limitsBroken s || clocksUnsound s || timeUnsound s || heldTooMany s || some (messageUnsound s) (s .run .held) || settlingUnsound s || tailNotZero s
 
 -- 10. "A named cabinet is n or more, or a named view V or more."
 abbrev pub namedOutside : Plan → ℕ → ℕ → Bool
-namedOutside plan p w = leb (plan .n) p || leb (plan .views) w
-
--- the stage of a message: view messages and view certificates, or votes and quorum certificates
-abbrev pub stageOf : Message → Bool
-stageOf (View w p) = false
-stageOf (Vote w p) = true
-stageOf (Vc w p) = false
-stageOf (Qc w p) = true
+namedOutside plan p w = noProcessor plan p || noView plan w
 
 -- 11. "A view message or view certificate names a view that is not initial."
 abbrev pub notInitial : Plan → Bool → ℕ → Bool
 notInitial plan stage w = not stage && not (initial plan w)
 
--- the held message i is m; "the first, of equal ones" leaves
+-- 12. "The signer is correct, or the cabinet shown to is faulty."
+abbrev pub signerCorrect : State → Message → Bool
+signerCorrect s m = isCorrect (s .run) (processorIn m)
+
+abbrev pub receiverFaulty : State → Message → Bool
+receiverFaulty s m = not (isCorrect (s .run) (processorIn m))
+
+-- the held message i is m
 abbrev pub isAt : List ℕ → Message → ℕ → Bool
 isAt ws m i = eqb (kindAt ws i) (kindOf m) && eqb (viewAt ws i) (viewIn m) && eqb (processorAt ws i) (processorIn m)
 
+-- "the first, of equal ones"
 abbrev pub placeOf : State → Message → ℕ
 placeOf s m = first (isAt (s .network) m) (s .run .held)
 
@@ -125,6 +159,10 @@ exists stage r t w =
 abbrev pub notExisting : State → Message → Bool
 notExisting s m = not (exists (stageOf m) (s .run) (s .tally) (viewIn m))
 
+-- 15. "The network has settled before."
+abbrev pub settledBefore : State → Bool
+settledBefore s = s .run .settled
+
 -- "A message is overdue when settled and now is at or past the later of its sending and settling times, plus Δ."
 abbrev pub overdueAt : State → ℕ → Bool
 overdueAt s i = leb (max (sentAt (s .network) i) (s .run .gst) + s .run .plan .delta) (s .run .time)
@@ -133,14 +171,10 @@ overdueAt s i = leb (max (sentAt (s .network) i) (s .run .gst) + s .run .plan .d
 unfoldable pub overdue : State → Bool
 overdue s = s .run .settled && some (overdueAt s) (s .run .held)
 
--- 17. "A correct clock would reach VΓ."
+-- 17. "A correct clock would reach VΓ.", by the change c
 unfoldable pub reachesEnd : Run → Change → Bool
-reachesEnd r c = some (λ p. isCorrect r p && leb (endTime (r .plan)) (getD (c .clocks) p 0)) (r .plan .n)
+reachesEnd r c = some (λ p. isCorrect r p && atEnd (r .plan) (getD (c .clocks) p 0)) (r .plan .n)
 
--- 18. "The messages held after the event would exceed the post's words divided by 4, rounded down."
+-- 18. "The messages held after the event would exceed the post's words divided by 4, rounded down.", by the change c of s
 abbrev pub overfull : State → Change → Bool
 overfull s c = ltb (capacity (s .network)) (s .run .held + length (c .sent))
-
--- the two that judge what a change of s would leave
-abbrev pub outcomeChecks : State → Change → List Check
-outcomeChecks s c = (17, reachesEnd (s .run) c) ∷ (18, overfull s c) ∷ []

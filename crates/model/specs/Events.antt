@@ -1,28 +1,17 @@
 -- "Events": the five events, each with its checks in order and its effect.
-use mathlib.Core.Bool.{Bool, true, false, not, cond}
+use mathlib.Core.Bool.{cond}
 use mathlib.Core.List.{List, [], _∷_}
 use Prim.Native.Nat.{ℕ, zero, suc, _+_, _-_}
 use lib.Dec.{eqb}
 use Rattle.model.specs.declared.Message.{Message}
-use Rattle.model.specs.declared.Message.the-variants.{View, Vote, Vc, Qc}
 use Rattle.model.specs.declared.Event.{Event}
 use Rattle.model.specs.declared.Event.the-variants.{Deliver, Sign, Show, Settle, Tick}
 use Rattle.model.specs.declared.Answer.{Answer}
 use Rattle.model.specs.declared.Answer.the-variants.{Done, Stopped, Refused}
 use Rattle.model.specs.Quantities.{lead}
-use Rattle.model.specs.State.{State, After, withHeld, withSettling, isCorrect, viewIn, processorIn, removed, checkOf, refused, done}
-use Rattle.model.specs.Moves.{Change, still, handling, advanced, ticking, made}
-use Rattle.model.specs.Checks.{Check, judged, unsound, namedOutside, stageOf, notInitial, placeOf, notHeld, notExisting, overdue, outcomeChecks}
-
-abbrev pub isSignature : Message → Bool
-isSignature (View w p) = true
-isSignature (Vote w p) = true
-isSignature (Vc w p) = false
-isSignature (Qc w p) = false
-
--- checks 10 and 11 of a message that an event names, and those after them
-abbrev pub namedChecks : State → Message → List Check → List Check
-namedChecks s m cs = (10, namedOutside (s .run .plan) (processorIn m) (viewIn m)) ∷ (11, notInitial (s .run .plan) (stageOf m) (viewIn m)) ∷ cs
+use Rattle.model.specs.State.{State, After, withHeld, withGst, isCorrect, viewIn, processorIn, stageOf, removed, checkOf, refused, done}
+use Rattle.model.specs.Moves.{Change, still, handling, advanced, arrivals, made}
+use Rattle.model.specs.Checks.{Check, judged, lacksForm, unsound, namedOutside, notInitial, signerCorrect, receiverFaulty, placeOf, notHeld, notExisting, settledBefore, overdue, reachesEnd, overfull}
 
 -- ---- "It leaves the post (the first, of equal ones) and is handled."
 
@@ -41,23 +30,23 @@ delivering s m = handling (without s m .run) (s .tally) m
 unfoldable pub signing : State → Message → Change
 signing s m = cond (isCorrect (s .run) (lead (s .run .plan) (viewIn m))) (handling (s .run) (s .tally) m) (still (s .run) (s .tally))
 
--- ---- "correct p receives a certificate from the adversary."
-
-abbrev pub showing : State → Message → Change
-showing s m = handling (s .run) (s .tally) m
-
 -- ---- "from now on the network keeps Δ."
 
-unfoldable pub settled : State → State
-settled s = record { run = withSettling (s .run .time) (s .run); tally = s .tally; network = s .network }
+unfoldable pub nowSettled : State → State
+nowSettled s = record { run = withGst (s .run .time) (s .run); tally = s .tally; network = s .network }
 
 -- ---- "up to m single ticks"
 
+-- the checks of a single tick
+abbrev pub tickChecks : State → List Check
+tickChecks s =
+    let a = advanced s in
+    (16, overdue s) ∷ (17, reachesEnd (a .run) (arrivals a)) ∷ (18, overfull a (arrivals a)) ∷ []
+
 unfoldable pub tickOnce : State → After
 tickOnce s =
-    let a = advanced s in
-    let s' = made a (ticking a) in
-    judged (refused s) ((16, overdue s) ∷ outcomeChecks a (ticking a)) (record { state = s'; answer = Done 1 (s' .run .held) })
+    let s' = made (advanced s) (arrivals (advanced s)) in
+    judged (refused s) (tickChecks s) (record { state = s'; answer = Done 1 (s' .run .held) })
 
 -- what a run of ticks leaves, how many it did, and the check that the next one would meet, if that ended it
 pub record Ticks : Type 0 where
@@ -82,29 +71,34 @@ ticksAnswer x =
     cond (eqb (x .count) 0) (Refused (x .check))
     (cond (eqb (x .check) 0) (Done (x .count) (x .state .run .held)) (Stopped (x .count) (x .state .run .held) (x .check)))
 
-unfoldable pub ticked : ℕ → State → After
-ticked m s = let x = ticks m s in record { state = x .state; answer = ticksAnswer x }
+unfoldable pub tickRun : ℕ → State → After
+tickRun m s = let x = ticks m s in record { state = x .state; answer = ticksAnswer x }
 
 -- ---- each event
 
--- its checks in order: 1 "has 0 ticks or a kind its form lacks", 12 "The signer is correct, or the cabinet shown to is faulty",
--- 15 "The network has settled before"
+-- its checks, in order
 unfoldable pub checks : Event → State → List Check
-checks (Deliver m) s = (9, unsound s) ∷ namedChecks s m ((13, notHeld s m) ∷ outcomeChecks (without s m) (delivering s m))
-checks (Sign m) s = (1, not (isSignature m)) ∷ (9, unsound s) ∷ namedChecks s m ((12, isCorrect (s .run) (processorIn m)) ∷ outcomeChecks s (signing s m))
+checks (Deliver m) s =
+    (9, unsound s) ∷ (10, namedOutside (s .run .plan) (processorIn m) (viewIn m)) ∷ (11, notInitial (s .run .plan) (stageOf m) (viewIn m))
+    ∷ (13, notHeld s m) ∷ (17, reachesEnd (s .run) (delivering s m)) ∷ (18, overfull (without s m) (delivering s m)) ∷ []
+checks (Sign m) s =
+    (1, lacksForm (Sign m)) ∷ (9, unsound s) ∷ (10, namedOutside (s .run .plan) (processorIn m) (viewIn m))
+    ∷ (11, notInitial (s .run .plan) (stageOf m) (viewIn m)) ∷ (12, signerCorrect s m)
+    ∷ (17, reachesEnd (s .run) (signing s m)) ∷ (18, overfull s (signing s m)) ∷ []
 checks (Show m) s =
-    (1, isSignature m) ∷ (9, unsound s)
-    ∷ namedChecks s m ((12, not (isCorrect (s .run) (processorIn m))) ∷ (14, notExisting s m) ∷ outcomeChecks s (showing s m))
-checks Settle s = (9, unsound s) ∷ (15, s .run .settled) ∷ []
-checks (Tick m) s = (1, eqb m 0) ∷ (9, unsound s) ∷ []
+    (1, lacksForm (Show m)) ∷ (9, unsound s) ∷ (10, namedOutside (s .run .plan) (processorIn m) (viewIn m))
+    ∷ (11, notInitial (s .run .plan) (stageOf m) (viewIn m)) ∷ (12, receiverFaulty s m) ∷ (14, notExisting s m)
+    ∷ (17, reachesEnd (s .run) (handling (s .run) (s .tally) m)) ∷ (18, overfull s (handling (s .run) (s .tally) m)) ∷ []
+checks Settle s = (9, unsound s) ∷ (15, settledBefore s) ∷ []
+checks (Tick m) s = (1, lacksForm (Tick m)) ∷ (9, unsound s) ∷ []
 
--- what it does where none of them refuses
+-- what it does where none of them refuses; shown, "correct p receives a certificate from the adversary"
 unfoldable pub effect : Event → State → After
 effect (Deliver m) s = done (made (without s m) (delivering s m))
 effect (Sign m) s = done (made s (signing s m))
-effect (Show m) s = done (made s (showing s m))
-effect Settle s = done (settled s)
-effect (Tick m) s = ticked m s
+effect (Show m) s = done (made s (handling (s .run) (s .tally) m))
+effect Settle s = done (nowSettled s)
+effect (Tick m) s = tickRun m s
 
 -- an event applied to a run and lent buffers, whatever they hold
 unfoldable pub applied : Event → State → After

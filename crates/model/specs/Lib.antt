@@ -1,6 +1,5 @@
--- Document 01 as definitions, in its order.
+-- Document 01 as definitions, grouped by its headings, and what they give when they are computed.
 pub mod Quantities
-pub mod Words
 pub mod State
 pub mod Moves
 pub mod Checks
@@ -8,5 +7,8 @@ pub mod Opening
 pub mod Events
 pub mod Processors
 pub mod Lists
-pub mod Promises
+pub mod PlanFunctions
+pub mod Rows
 pub mod Settings
+pub mod Vectors
+pub mod Refusals

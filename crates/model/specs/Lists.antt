@@ -10,7 +10,7 @@ use Rattle.model.specs.declared.Event.{Event}
 use Rattle.model.specs.declared.Event.the-variants.{Deliver, Sign, Show, Settle, Tick}
 use Rattle.model.specs.declared.Run.{Run}
 use Rattle.model.specs.Quantities.{lead}
-use Rattle.model.specs.State.{State, isCorrect, ticksOf, accepted}
+use Rattle.model.specs.State.{State, voteStage, isCorrect, ticksOf, accepted}
 use Rattle.model.specs.Moves.{forms}
 use Rattle.model.specs.Checks.{tooFarAhead}
 use Rattle.model.specs.Events.{applied}
@@ -42,6 +42,10 @@ unfoldable pub sinceSettling : State → List Event → Since
 sinceSettling s [] = never
 sinceSettling s (e ∷ es) = let s' = applied e s .state in cond (settles e s) (since s' es) (sinceSettling s' es)
 
+abbrev pub hasSettled : Since → Bool
+hasSettled never = false
+hasSettled (since s es) = true
+
 -- ---- "Ticks accepted since then, by some event, are the single ticks that the tick events after that (settle) did, up to and with this
 -- event; a refused one did none."
 
@@ -58,7 +62,7 @@ ticksSince (since s es) = ticksDone s es
 -- rule 5 forms it when the message reaches a correct leader
 abbrev pub formsQuorum : Run → List ℕ → Message → ℕ → Bool
 formsQuorum r t (View v p) w = false
-formsQuorum r t (Vote v p) w = eqb v w && isCorrect r (lead (r .plan) w) && forms true r t w p
+formsQuorum r t (Vote v p) w = eqb v w && isCorrect r (lead (r .plan) w) && forms voteStage r t w p
 formsQuorum r t (Vc v p) w = false
 formsQuorum r t (Qc v p) w = false
 

@@ -1,4 +1,4 @@
--- "How a cabinet moves": entering a view, and rules 1 to 5. No move knows the post's words.
+-- "How a cabinet moves": entering a view, and rules 1 to 5. No move knows the network's words.
 use mathlib.Core.Bool.{Bool, true, false, not, _&&_, _||_, cond}
 use mathlib.Core.List.{List, [], _∷_, _++_}
 use Prim.Native.Nat.{ℕ, zero, suc, _+_, _-_, _/_, _%_}
@@ -10,7 +10,7 @@ use Rattle.model.specs.declared.Message.{Message}
 use Rattle.model.specs.declared.Message.the-variants.{View, Vote, Vc, Qc}
 use Rattle.model.specs.declared.Run.{Run}
 use Rattle.model.specs.Quantities.{tolerated, lead, initial, clockTime}
-use Rattle.model.specs.State.{State, withHeld, withTime, withClocks, withViews, clockOf, viewOf, isCorrect, enteredWord, heardWord, marksWord, markBit, word, added, kindOf, viewIn, processorIn, addressee, posted}
+use Rattle.model.specs.State.{State, viewStage, voteStage, withHeld, withTime, withClocks, withViews, clockOf, viewOf, isCorrect, enteredWord, heardWord, marksWord, markBit, word, added, kindOf, viewIn, processorIn, addressee, posted}
 
 -- what a move leaves of clocks, views and tally, and the messages that it sends, in order; nothing else of the run moves
 pub record Change : Type 0 where
@@ -29,7 +29,7 @@ still r t = record { clocks = r .clocks; views = r .views; tally = t; sent = [] 
 abbrev pub also : Change → Change → Change
 also c d = record { clocks = d .clocks; views = d .views; tally = d .tally; sent = c .sent ++ d .sent }
 
--- "messages sent to correct cabinets": those that go into the post; "Messages to a faulty leader are not posted."
+-- "messages sent to correct cabinets": those that go into the network; "Messages to a faulty leader are not posted."
 unfoldable pub toCorrect : Run → List Message → List Message
 toCorrect r [] = []
 toCorrect r (m ∷ ms) = cond (isCorrect r (addressee (r .plan) (kindOf m) (viewIn m) (processorIn m))) (m ∷ toCorrect r ms) (toCorrect r ms)
@@ -57,7 +57,7 @@ pub data Entry : Type 0 where
   stay : Entry
   into : ℕ → Entry
 
--- 1. "Clock: a tick that brings the clock to wΓ, w initial, enters w."
+-- 1. "Clock: a tick that brings the clock to wΓ, w initial, enters w.", the clock being that after the tick
 abbrev pub byClock : Plan → ℕ → Entry
 byClock plan clock =
     let w = clock / plan .gamma in
@@ -103,8 +103,8 @@ unfoldable pub toEach : Bool → ℕ → ℕ → List Message
 toEach stage w zero = []
 toEach stage w (suc k) = toEach stage w k ++ (certificate stage w k ∷ [])
 
--- "A correct leader that hears a view message for w adds the signer." "A formed certificate is sent to every correct cabinet, the leader
--- included."
+-- "A correct leader that hears a view message for w adds the signer." (That it is correct is tested by `signing`, and by check 9 for what
+-- is delivered.) "A formed certificate is sent to every correct cabinet, the leader included."
 unfoldable pub hearing : Bool → Run → List ℕ → ℕ → ℕ → Change
 hearing stage r t w p =
     let heard = added t w (heardWord stage) p in
@@ -118,8 +118,8 @@ hearing stage r t w p =
 
 -- a message that reaches whom it is for
 unfoldable pub handling : Run → List ℕ → Message → Change
-handling r t (View w p) = hearing false r t w p
-handling r t (Vote w p) = hearing true r t w p
+handling r t (View w p) = hearing viewStage r t w p
+handling r t (Vote w p) = hearing voteStage r t w p
 handling r t (Vc w p) = taking r t p (byView (r .plan) (viewOf r p) w)
 handling r t (Qc w p) = taking r t p (byQuorum (viewOf r p) w)
 
@@ -128,7 +128,7 @@ handling r t (Qc w p) = taking r t p (byQuorum (viewOf r p) w)
 -- one more on each correct clock below k
 unfoldable pub clocksOn : Run → ℕ → List ℕ
 clocksOn r zero = r .clocks
-clocksOn r (suc k) = set (clocksOn r k) k (cond (isCorrect r k) (clockOf r k + 1) (clockOf r k))
+clocksOn r (suc k) = cond (isCorrect r k) (set (clocksOn r k) k (clockOf r k + 1)) (clocksOn r k)
 
 abbrev pub advanced : State → State
 advanced s = record {
@@ -141,8 +141,8 @@ abbrev pub arrival : Run → ℕ → Entry
 arrival r p = cond (isCorrect r p) (byClock (r .plan) (clockOf r p)) stay
 
 -- the entries of a tick that has advanced time and clocks
-unfoldable pub ticking : State → Change
-ticking a = entries (arrival (a .run)) (a .run) (a .tally) (a .run .plan .n)
+unfoldable pub arrivals : State → Change
+arrivals a = entries (arrival (a .run)) (a .run) (a .tally) (a .run .plan .n)
 
 -- ---- a change made, and its messages posted
 

@@ -1,4 +1,4 @@
--- The opening.
+-- The opening: a setup, checked and entered.
 use mathlib.Core.Bool.{false, cond}
 use mathlib.Core.List.{List, [], _∷_, _++_}
 use Prim.Native.Nat.{ℕ, _*_}
@@ -6,18 +6,18 @@ use lib.ListN.{length, getD, drop, replicate}
 use Rattle.base.specs.Scan.{listed}
 use Rattle.model.specs.declared.Run.{Run}
 use Rattle.model.specs.declared.Setup.{Setup}
-use Rattle.model.specs.Quantities.{nMost, rowWords, correct}
+use Rattle.model.specs.Quantities.{tableClocks, rowWords, correct}
 use Rattle.model.specs.State.{State, After, runOf, refused, done}
 use Rattle.model.specs.Moves.{Entry, stay, into, entries, made}
 use Rattle.model.specs.Checks.{Check, judged, nOutside, delaysOutside, viewsOutside, faultyOutside, buffersOutside, startTooHigh, tooFarAhead}
 
 -- "A table holds 64 start clocks; those of faulty cabinets and from n on are not read": they are 0 in the run.
 abbrev pub startClocks : Setup → List ℕ
-startClocks u = listed (λ p. cond (correct (u .plan) (u .faulty) p) (getD (u .clocks) p 0) 0) nMost
+startClocks u = listed (λ p. cond (correct (u .plan) (u .faulty) p) (getD (u .clocks) p 0) 0) tableClocks
 
 -- "At opening, time is 0, .. and the network is unsettled (its settling time is kept as 0 ..)."
 abbrev pub blankRun : Setup → Run
-blankRun u = runOf (u .plan) (u .faulty) 0 false 0 0 (startClocks u) (replicate nMost 0)
+blankRun u = runOf (u .plan) (u .faulty) 0 false 0 0 (startClocks u) (replicate tableClocks 0)
 
 -- "Opening zeroes the first 4V ledger words and the whole post before entering view 0; ledger words beyond are untouched."
 unfoldable pub blank : Setup → State → State

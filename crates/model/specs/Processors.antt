@@ -1,8 +1,7 @@
 -- "At the cabinet's own face": one processor moved by rules 1 to 3.
-use mathlib.Core.Bool.{true, false, _||_}
-use mathlib.Core.List.{List, [], _∷_, _++_}
+use mathlib.Core.Bool.{_||_}
+use mathlib.Core.List.{List, [], _∷_}
 use Prim.Native.Nat.{ℕ, _+_}
-use lib.Dec.{leb}
 use Rattle.model.specs.declared.Plan.{Plan}
 use Rattle.model.specs.declared.Message.{Message}
 use Rattle.model.specs.declared.Message.the-variants.{View, Vote}
@@ -11,9 +10,11 @@ use Rattle.model.specs.declared.Input.{Input}
 use Rattle.model.specs.declared.Input.the-variants.{Tick, Vc, Qc}
 use Rattle.model.specs.declared.Sends.{Sends}
 use Rattle.model.specs.declared.Sends.the-variants.{Nothing, Vote as VoteFor, ViewAndVote}
-use Rattle.model.specs.Quantities.{endTime}
+use Rattle.model.specs.declared.Stepped.{Stepped}
+use Rattle.model.specs.declared.Stepped.the-variants.{Sent, Refused}
+use Rattle.model.specs.State.{viewStage, voteStage}
 use Rattle.model.specs.Moves.{Entry, stay, into, entryClock, entryMessages, byClock, byQuorum, byView}
-use Rattle.model.specs.Checks.{Check, judged, nOutside, delaysOutside, viewsOutside, clockOutside, namedOutside, notInitial}
+use Rattle.model.specs.Checks.{Check, judged, planOutside, clockOutside, noProcessor, namedOutside, notInitial, atEnd}
 
 -- what a call leaves of the processor, the messages it sends, "for leaders faulty or not", and the check that refused it, or 0
 pub record Moved : Type 0 where
@@ -21,11 +22,22 @@ pub record Moved : Type 0 where
   pub sent : List Message
   pub check : ℕ
 
--- the messages that an answer stands for, p being the sender
+-- ---- the answer: which messages it stands for, p being the sender, and which check
+
 abbrev pub messagesOf : ℕ → Sends → List Message
 messagesOf p Nothing = []
 messagesOf p (VoteFor w) = Vote w p ∷ []
 messagesOf p (ViewAndVote w) = View w p ∷ Vote w p ∷ []
+
+abbrev pub sentIn : ℕ → Stepped → List Message
+sentIn p (Sent x) = messagesOf p x
+sentIn p (Refused r) = []
+
+abbrev pub checkIn : Stepped → ℕ
+checkIn (Sent x) = 0
+checkIn (Refused r) = r
+
+-- ---- its move
 
 -- the clock at which an input finds the processor: a tick has added 1
 abbrev pub clockAt : Processor → Input → ℕ
@@ -47,16 +59,18 @@ moving plan p clock view (into w) = record {
   check = 0;
 }
 
--- checks 10 and 11 of an input, p being the processor's own number
-abbrev pub inputChecks : Plan → ℕ → Input → List Check
-inputChecks plan p Tick = (10, leb (plan .n) p) ∷ []
-inputChecks plan p (Vc w) = (10, namedOutside plan p w) ∷ (11, notInitial plan false w) ∷ []
-inputChecks plan p (Qc w) = (10, namedOutside plan p w) ∷ (11, notInitial plan true w) ∷ []
+-- "The cabinet's face uses 9 (limits 2 to 4, its own clock and view), 10, 11 and 17.": the checks of an input that would leave the clock
+abbrev pub stepChecks : Plan → Processor → Input → ℕ → List Check
+stepChecks plan c Tick clock =
+    (9, planOutside plan || clockOutside plan (c .clock) (c .view)) ∷ (10, noProcessor plan (c .number)) ∷ (17, atEnd plan clock) ∷ []
+stepChecks plan c (Vc w) clock =
+    (9, planOutside plan || clockOutside plan (c .clock) (c .view)) ∷ (10, namedOutside plan (c .number) w) ∷ (11, notInitial plan viewStage w)
+    ∷ (17, atEnd plan clock) ∷ []
+stepChecks plan c (Qc w) clock =
+    (9, planOutside plan || clockOutside plan (c .clock) (c .view)) ∷ (10, namedOutside plan (c .number) w) ∷ (11, notInitial plan voteStage w)
+    ∷ (17, atEnd plan clock) ∷ []
 
--- "The cabinet's face uses 9 (limits 2 to 4, its own clock and view), 10, 11 and 17."
 unfoldable pub stepped : Plan → Processor → Input → Moved
 stepped plan c i =
     let next = moving plan (c .number) (clockAt c i) (c .view) (entryBy plan c i) in
-    judged (λ r. record { processor = c; sent = []; check = r })
-    ((9, nOutside plan || delaysOutside plan || viewsOutside plan || clockOutside plan (c .clock) (c .view))
-    ∷ inputChecks plan (c .number) i ++ ((17, leb (endTime plan) (next .processor .clock)) ∷ [])) next
+    judged (λ r. record { processor = c; sent = []; check = r }) (stepChecks plan c i (next .processor .clock)) next

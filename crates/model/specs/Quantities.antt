@@ -13,8 +13,14 @@ abbrev pub nMost : ℕ
 nMost = 64
 
 -- "Δ, the delay: 1 to 1,000 ticks. Γ, the slot: 2Δ to 10,000 ticks."
+abbrev pub deltaLeast : ℕ
+deltaLeast = 1
+
 abbrev pub deltaMost : ℕ
 deltaMost = 1000
+
+abbrev pub gammaLeast : Plan → ℕ
+gammaLeast p = 2 * p .delta
 
 abbrev pub gammaMost : ℕ
 gammaMost = 10000
@@ -39,6 +45,10 @@ networkLeast p = 8 * p .n
 
 abbrev pub networkMost : ℕ
 networkMost = 524288
+
+-- "A table holds 64 start clocks"
+abbrev pub tableClocks : ℕ
+tableClocks = 64
 
 -- "t = (n−1)/3 rounded down"
 abbrev pub tolerated : Plan → ℕ
@@ -68,7 +78,7 @@ clockTime p w = w * p .gamma
 abbrev pub endTime : Plan → ℕ
 endTime p = clockTime p (p .views)
 
--- 3Γ, which no start clock reaches (check 7)
+-- 3Γ, which no correct start clock reaches (check 7)
 abbrev pub startLimit : Plan → ℕ
 startLimit p = clockTime p (perLeader p)
 

@@ -1,45 +1,61 @@
--- "Settings worth trying": the starred ones in one table, and the printed schedule, computed from the definitions. Assumes nothing.
+-- "Settings worth trying": the starred ones in one table with one proof, and the printed schedule, computed from the definitions.
+-- Assumes nothing.
 use mathlib.Core.Path.{_≡_, refl}
-use mathlib.Core.Bool.{false}
 use mathlib.Core.List.{List, [], _∷_}
-use Prim.Native.Nat.{ℕ}
-use lib.ListN.{replicate}
-use lib.Count.{ones, onesIn}
-use Rattle.base.specs.Count.{count}
-use Rattle.base.specs.Scan.{some, first, listed}
-use Rattle.base.specs.Sets.{member}
-use Rattle.model.specs.declared.Plan.{Plan}
+use lib.ListN.{length, replicate}
 use Rattle.model.specs.declared.Message.the-variants.{View}
-use Rattle.model.specs.declared.Event.{Event}
 use Rattle.model.specs.declared.Event.the-variants.{Deliver, Settle, Tick}
-use Rattle.model.specs.declared.Answer.{Answer}
-use Rattle.model.specs.declared.Answer.the-variants.{Done, Stopped}
-use Rattle.model.specs.Quantities.{perLeader}
-use Rattle.model.specs.State.{State, After, runOf, posted, removed}
-use Rattle.model.specs.Moves.{toCorrect, entering, taking, entries, forms, toEach, hearing, handling, clocksOn, ticking, made}
-use Rattle.model.specs.Checks.{startTooHigh, tooFarAhead, heldUnsound, unsound, exists, overdue, reachesEnd}
-use Rattle.model.specs.Opening.{blank, opened, opening}
-use Rattle.model.specs.Events.{without, delivering, signing, settled, tickOnce, ticks, ticked, checks, effect, applied}
+use Rattle.model.specs.declared.Input.the-variants.{Vc, Qc}
+use Rattle.model.specs.declared.Answer.the-variants.{Done, Stopped, Refused}
+use Rattle.model.specs.Quantities.{tolerated, lead}
+use Rattle.model.specs.Rows.{definitions, planOf, standard, zeroes, setupOf, lent, Row, agreeing, number, schedule, fullSchedule, oneMove}
 
--- "n=4, Δ=2, Γ=4, V=6, mask 0 unless said."
-abbrev pub planOf : ℕ → ℕ → Plan
-planOf n views = record { n = n; delta = 2; gamma = 4; views = views }
+-- ---- the starred settings
 
--- buffers as the program lends them, with no run yet
-abbrev pub lent : State
-lent = record { run = runOf (planOf 0 0) 0 0 false 0 0 [] []; tally = replicate 24 0; network = replicate 2048 0 }
+pub settings : List Row
+settings =
+    -- "t is 1 for n=4 and 6, 2 for 7, 21 for 64."
+    number (tolerated (planOf 4 2 4 6)) 1
+    ∷ number (tolerated (planOf 6 2 4 6)) 1
+    ∷ number (tolerated (planOf 7 2 4 6)) 2
+    ∷ number (tolerated (planOf 64 2 4 6)) 21
+    -- "View 3 is led by 1, view 12 (V=15) by 0."
+    ∷ number (lead standard 3) 1
+    ∷ number (lead (planOf 4 2 4 15) 12) 0
+    -- "Start clocks 4 0 0 0: opened."
+    ∷ schedule (lent 24 64) (setupOf standard 0 (4 ∷ 0 ∷ 0 ∷ 0 ∷ [])) [] (Done 0 8 ∷ [])
+    -- "5 0 0 0: check 8."
+    ∷ schedule (lent 24 64) (setupOf standard 0 (5 ∷ 0 ∷ 0 ∷ 0 ∷ [])) [] (Refused 8 ∷ [])
+    -- "9 9 0 0: opened."
+    ∷ schedule (lent 24 64) (setupOf standard 0 (9 ∷ 9 ∷ 0 ∷ 0 ∷ [])) [] (Done 0 8 ∷ [])
+    -- "The same with mask 2: check 8."
+    ∷ schedule (lent 24 64) (setupOf standard 2 (9 ∷ 9 ∷ 0 ∷ 0 ∷ [])) [] (Refused 8 ∷ [])
+    -- "Clocks 11 11 11 11 and one tick: all in view 3, 16 held."
+    ∷ fullSchedule (lent 24 64) (setupOf standard 0 (replicate 4 11)) (Tick 1 ∷ []) (Done 0 8 ∷ Done 1 16 ∷ [])
+    ((0 ∷ 3 ∷ 12 ∷ []) ∷ (1 ∷ 3 ∷ 12 ∷ []) ∷ (2 ∷ 3 ∷ 12 ∷ []) ∷ (3 ∷ 3 ∷ 12 ∷ []) ∷ [])
+    -- "View 0, clock 2, quorum certificate 2: view 3, clock 12, two messages."
+    ∷ oneMove 2 0 2 (Qc 2) ((0 ∷ []) ∷ (2 ∷ 3 ∷ 12 ∷ []) ∷ (1 ∷ 3 ∷ 2 ∷ []) ∷ (2 ∷ 3 ∷ 2 ∷ []) ∷ [])
+    -- "View 0, clock 6, quorum certificate 0: view 1, clock 6, one message."
+    ∷ oneMove 2 0 6 (Qc 0) ((0 ∷ []) ∷ (2 ∷ 1 ∷ 6 ∷ []) ∷ (2 ∷ 1 ∷ 2 ∷ []) ∷ [])
+    -- "View 3, view certificate 3: nothing."
+    ∷ oneMove 2 3 13 (Vc 3) ((0 ∷ []) ∷ (2 ∷ 3 ∷ 13 ∷ []) ∷ [])
+    -- "Quorum certificate 5: check 17."
+    ∷ oneMove 2 3 13 (Qc 5) ((17 ∷ []) ∷ (2 ∷ 3 ∷ 13 ∷ []) ∷ [])
+    ∷ []
 
-abbrev pub opens : ℕ → List ℕ → After
-opens faulty clocks = opening (record { plan = planOf 4 6; faulty = faulty; clocks = clocks }) lent
+pub settings-hold : agreeing 0 settings ≡ length settings
+unfolding settings definitions
+settings-hold = refl
 
--- the answers to events in turn
-abbrev pub answers : State → List Event → List Answer
-answers s [] = []
-answers s (e ∷ es) = let a = applied e s in a .answer ∷ answers (a .state) es
+-- ---- "A schedule and its printout", with 3,600 tally and 2,048 network words lent
 
-abbrev schedule : List Event
-schedule = Deliver (View 0 0) ∷ Deliver (View 0 1) ∷ Tick 3 ∷ Settle ∷ Tick 3 ∷ []
+pub printedSchedule : List Row
+printedSchedule =
+    fullSchedule (lent 3600 2048) (setupOf standard 0 zeroes) (Deliver (View 0 0) ∷ Deliver (View 0 1) ∷ Tick 3 ∷ Settle ∷ Tick 3 ∷ [])
+    (Done 0 8 ∷ Done 0 7 ∷ Done 0 10 ∷ Done 3 10 ∷ Done 0 10 ∷ Stopped 2 10 16 ∷ [])
+    ((0 ∷ 0 ∷ 5 ∷ []) ∷ (1 ∷ 0 ∷ 5 ∷ []) ∷ (2 ∷ 0 ∷ 5 ∷ []) ∷ (3 ∷ 0 ∷ 5 ∷ []) ∷ [])
+    ∷ []
 
-printed : (opens 0 (0 ∷ 0 ∷ 0 ∷ 0 ∷ []) .answer ∷ answers (opens 0 (0 ∷ 0 ∷ 0 ∷ 0 ∷ []) .state) schedule) ≡ (Done 0 8 ∷ Done 0 7 ∷ Done 0 10 ∷ Done 3 10 ∷ Done 0 10 ∷ Stopped 2 10 16 ∷ [])
-unfolding applied checks effect ticked ticks tickOnce settled signing delivering without opening opened blank reachesEnd overdue exists unsound heldUnsound tooFarAhead startTooHigh made ticking clocksOn handling hearing toEach forms entries taking entering toCorrect removed posted perLeader count some first listed member ones onesIn
+pub printed : agreeing 0 printedSchedule ≡ length printedSchedule
+unfolding printedSchedule definitions
 printed = refl

@@ -1,4 +1,4 @@
--- "Quantities", continued: the run, the ledger and the post as they are lent, word by word, and what an answer says.
+-- "Quantities", continued: the run, the tally and the network as they are lent, word by word, and what an answer says.
 use mathlib.Core.Bool.{Bool, true, false, cond}
 use mathlib.Core.List.{List, [], _∷_, _++_}
 use Prim.Native.Nat.{ℕ, _+_, _*_, _/_}
@@ -14,7 +14,7 @@ use Rattle.model.specs.declared.Answer.{Answer}
 use Rattle.model.specs.declared.Answer.the-variants.{Done, Stopped, Refused}
 use Rattle.model.specs.Quantities.{correct, lead, rowWords, messageWords}
 
--- the run, and the two lent buffers: the ledger's words and the post's
+-- the run, and the two lent buffers: tally ("The ledger") and network ("The post")
 pub record State : Type 0 where
   pub run : Run
   pub tally : List ℕ
@@ -40,8 +40,8 @@ withHeld h r = runOf (r .plan) (r .faulty) (r .time) (r .settled) (r .gst) h (r 
 abbrev pub withTime : ℕ → Run → Run
 withTime t r = runOf (r .plan) (r .faulty) t (r .settled) (r .gst) (r .held) (r .clocks) (r .views)
 
-abbrev pub withSettling : ℕ → Run → Run
-withSettling g r = runOf (r .plan) (r .faulty) (r .time) true g (r .held) (r .clocks) (r .views)
+abbrev pub withGst : ℕ → Run → Run
+withGst g r = runOf (r .plan) (r .faulty) (r .time) true g (r .held) (r .clocks) (r .views)
 
 abbrev pub withClocks : List ℕ → Run → Run
 withClocks l r = runOf (r .plan) (r .faulty) (r .time) (r .settled) (r .gst) (r .held) l (r .views)
@@ -58,9 +58,16 @@ viewOf r p = getD (r .views) p 0
 abbrev pub isCorrect : Run → ℕ → Bool
 isCorrect r p = correct (r .plan) (r .faulty) p
 
+-- ---- the two stages of a view: view messages make a view certificate, votes make a quorum certificate
+
+abbrev pub viewStage : Bool
+viewStage = false
+
+abbrev pub voteStage : Bool
+voteStage = true
+
 -- ---- the tally: "four 64-bit words a view, being the correct cabinets that entered it, those whose view message its leader heard,
--- those whose vote it heard, and two marks (1 view certificate formed, 2 quorum certificate formed)". Here and below a stage is false for
--- view messages and view certificates, true for votes and quorum certificates. "A mark is one bit of its word".
+-- those whose vote it heard, and two marks (1 view certificate formed, 2 quorum certificate formed)"; "A mark is one bit of its word"
 
 abbrev pub enteredWord : ℕ
 enteredWord = 0
@@ -76,15 +83,15 @@ abbrev pub markBit : Bool → ℕ
 markBit false = 0
 markBit true = 1
 
-abbrev pub place : ℕ → ℕ → ℕ
-place w j = rowWords * w + j
+abbrev pub slot : ℕ → ℕ → ℕ
+slot w j = rowWords * w + j
 
 abbrev pub word : List ℕ → ℕ → ℕ → ℕ
-word t w j = getD t (place w j) 0
+word t w j = getD t (slot w j) 0
 
 -- word j of view w with bit p set
 abbrev pub added : List ℕ → ℕ → ℕ → ℕ → List ℕ
-added t w j p = set t (place w j) (insert (word t w j) p)
+added t w j p = set t (slot w j) (insert (word t w j) p)
 
 -- ---- the network: "kind (1 view, 2 vote, 3 view certificate, 4 quorum certificate), view, cabinet, sending time"
 
@@ -106,9 +113,32 @@ processorIn (Vote w p) = p
 processorIn (Vc w p) = p
 processorIn (Qc w p) = p
 
+abbrev pub kindLeast : ℕ
+kindLeast = 1
+
+abbrev pub kindMost : ℕ
+kindMost = 4
+
+-- the stage that a message belongs to
+abbrev pub stageOf : Message → Bool
+stageOf (View w p) = viewStage
+stageOf (Vote w p) = voteStage
+stageOf (Vc w p) = viewStage
+stageOf (Qc w p) = voteStage
+
+-- a view message or a vote, and no certificate
+abbrev pub isSignature : Message → Bool
+isSignature (View w p) = true
+isSignature (Vote w p) = true
+isSignature (Vc w p) = false
+isSignature (Qc w p) = false
+
 -- "The cabinet is the sender for kinds 1 and 2, the receiver for 3 and 4": whom a stored message is for
+abbrev pub lastSignatureKind : ℕ
+lastSignatureKind = 2
+
 abbrev pub addressee : Plan → ℕ → ℕ → ℕ → ℕ
-addressee plan kind w p = cond (leb kind 2) (lead plan w) p
+addressee plan kind w p = cond (leb kind lastSignatureKind) (lead plan w) p
 
 abbrev pub kindAt : List ℕ → ℕ → ℕ
 kindAt ws i = getD ws (messageWords * i) 0
@@ -152,6 +182,12 @@ abbrev pub ticksOf : Answer → ℕ
 ticksOf (Done a h) = a
 ticksOf (Stopped a h r) = a
 ticksOf (Refused r) = 0
+
+-- the messages held afterwards; a refusal tells none
+abbrev pub heldOf : Answer → ℕ
+heldOf (Done a h) = h
+heldOf (Stopped a h r) = h
+heldOf (Refused r) = 0
 
 abbrev pub accepted : Answer → Bool
 accepted (Done a h) = true

@@ -1,7 +1,7 @@
 // The types of the product, declared once, and the functions of the plan.
 ghost use mathlib.Core.Path.{_≡_};
 ghost use Rattle.model.specs.Quantities.{initial};
-ghost use Rattle.model.specs.Words.{leadWord, clockTimeWord};
+ghost use Rattle.model.specs.PlanFunctions.{leadWord, clockTimeWord};
 
 // The protocol's parameters (document 01: the plan): processors, delay, slot, view limit.
 pub struct Plan {
@@ -13,13 +13,19 @@ pub struct Plan {
 
 impl Plan {
     pub const VIEWS_PER_LEADER: u64 = 3;
+    // What `lead` answers where there are no processors.
+    pub const NO_LEADER: u64 = 0;
+    // What `clock_time` answers where the product does not fit.
+    pub const LARGEST: u64 = 18446744073709551615;
+    // Two numbers below this have a product that fits.
+    pub const HALF: u64 = 4294967296;
 
     // The leader of view w.
     pub fn lead(self, w: u64) -> u64
         ensures { λ r. ⌜ r ≡ leadWord self w ⌝ }
     {
         if self.n == 0 {
-            return 0;
+            return Plan::NO_LEADER;
         }
         w / Plan::VIEWS_PER_LEADER % self.n
     }
@@ -31,20 +37,20 @@ impl Plan {
         w % Plan::VIEWS_PER_LEADER == 0
     }
 
-    // The clock time of view w. The first product cannot overflow; the division is left to numbers that no sound plan has.
+    // The clock time of view w. The division is left to numbers that no sound plan has.
     pub fn clock_time(self, w: u64) -> u64
         ensures { λ r. ⌜ r ≡ clockTimeWord self w ⌝ }
     {
-        if w < 4294967296 {
-            if self.gamma < 4294967296 {
+        if w < Plan::HALF {
+            if self.gamma < Plan::HALF {
                 return w * self.gamma;
             }
         }
         if self.gamma == 0 {
             return 0;
         }
-        if 18446744073709551615 / self.gamma < w {
-            return 18446744073709551615;
+        if Plan::LARGEST / self.gamma < w {
+            return Plan::LARGEST;
         }
         w * self.gamma
     }
@@ -58,7 +64,8 @@ pub enum Message {
     Qc(u64, u64),
 }
 
-// What a network and lying processors can do next (document 01: the forms of a line, but for the opening).
+// What happens next (document 01: the forms of a line, but for the opening): a message is delivered, a faulty processor signs or shows, the
+// network settles, time passes.
 pub enum Event {
     Deliver(Message),
     Sign(Message),
@@ -87,7 +94,7 @@ pub struct Run {
 }
 
 // The answer to an opening or an event. Done: ticks done, messages held. Stopped: the same, and the check that ended the ticks.
-// Refused: the first check that fails.
+// Refused: the first check whose sentence holds.
 pub enum Answer {
     Done(u64, usize),
     Stopped(u64, usize, u64),

@@ -1,0 +1,20 @@
+-- Why the definitions keep what is promised, in the order in which it is shown.
+pub mod TallyLaws
+pub mod Flight
+pub mod Sending
+pub mod Link
+pub mod Enters
+pub mod Hears
+pub mod Tracks
+pub mod TickLaws
+pub mod Ticks
+pub mod Judging
+pub mod Events
+pub mod Opens
+pub mod Soundness
+pub mod Sound
+pub mod History
+pub mod Answers
+pub mod Settling
+pub mod Marks
+pub mod Promises

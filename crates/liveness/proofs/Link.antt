@@ -1,0 +1,199 @@
+-- What ties a run and its lent buffers to a state of the protocol: the network's words to the messages in flight, and clocks, views and
+-- tally to processors and tally. Assumes nothing.
+use mathlib.Core.Path.{_≡_, refl, ap, _∙_}
+use mathlib.Core.Bool.{Bool, true, false, not, _&&_}
+use mathlib.Core.Logic.{_⊎_, ⊎-elim}
+use mathlib.Core.List.{List, _∷_, _++_}
+use Prim.Native.Nat.{ℕ, _+_, _-_, _*_, _%_, _^_, _≤_, _<_}
+use native.Mathlib.Omega.{arith}
+use lib.Dec.{T, ltb, eqb→eq, ltb→lt, lt→ltb}
+use lib.ListN.{length, getD, length-append}
+use Rattle.base.specs.Tests.{T-left, T-true, le?, eq→eqb}
+use Rattle.base.specs.Count.{count, count-ext, count-both}
+use Rattle.base.specs.Sets.{member, size}
+use Rattle.base.specs.SetLaws.{size-count}
+use Rattle.protocol.specs.Params as proto
+use Rattle.protocol.specs.Params.{Params}
+use Rattle.protocol.specs.State.{Processors, Tally, Flight, Starts}
+use Rattle.model.specs.declared.Plan.{Plan}
+use Rattle.model.specs.declared.Message.{Message}
+use Rattle.model.specs.Quantities.{nLeast, nMost, viewsLeast, rowWords, messageWords, tolerated, perLeader, lead, initial, nextInitial, clockTime, endTime, correct}
+use Rattle.model.specs.State.{enteredWord, heardWord, marksWord, markBit, word, posted, removed, capacity}
+use Rattle.model.specs.Moves.{certificate}
+use Rattle.liveness.proofs.Flight.{Sent, In, laid, stamped, length-laid, length-stamped, posted-laid, removed-laid, Found}
+use Rattle.liveness.proofs.Sending.{signature, At}
+
+-- ---- the plan as the protocol's parameters
+
+-- a plan and a set of faulty processors within the limits of checks 2 to 5
+pub record Planned (plan : Plan) (faulty : ℕ) : Type 0 where
+  pub n-least : nLeast ≤ plan .n
+  pub n-most : plan .n ≤ nMost
+  pub delta-least : 1 ≤ plan .delta
+  pub gamma-least : 2 * plan .delta ≤ plan .gamma
+  pub views-least : viewsLeast ≤ plan .views
+  pub views-initial : T (initial plan (plan .views))
+  pub faulty-below : faulty < 2 ^ plan .n
+  pub faulty-few : size faulty ≤ tolerated plan
+
+-- what the proof knows of the views per leader
+pub per-leader-positive : (plan : Plan) → 0 < perLeader plan
+unfolding perLeader
+per-leader-positive plan = omega arith
+
+pub per-leader-roomy : (plan : Plan) (faulty : ℕ) → Planned plan faulty → 3 * plan .delta + plan .gamma < perLeader plan * plan .gamma
+unfolding perLeader
+per-leader-roomy plan faulty ok = omega (arith, ok .delta-least, ok .gamma-least)
+
+module _ (plan : Plan) (faulty : ℕ) where
+  pub correct-below : (p : ℕ) → T (correct plan faulty p) → p < plan .n
+  correct-below p c = ltb→lt p (plan .n) (T-left (ltb p (plan .n)) _ c)
+
+  pub correct-count : Planned plan faulty → size faulty + count (plan .n) (correct plan faulty) ≡ plan .n
+  correct-count ok =
+      let e : count (plan .n) (correct plan faulty) ≡ count (plan .n) (λ p. not (member faulty p)) =
+      count-ext (plan .n) (correct plan faulty) (λ p. not (member faulty p))
+      (λ p l. ap (λ (b : Bool). b && not (member faulty p)) (T-true (ltb p (plan .n)) (lt→ltb p (plan .n) l))) in
+      omega (arith, size-count (plan .n) faulty (ok .faulty-below), count-both (plan .n) (member faulty))
+
+  pub third : Planned plan faulty → 3 * tolerated plan + 1 ≤ plan .n
+  third ok = omega (arith, ok .n-least)
+
+  pub gamma-positive : Planned plan faulty → 0 < plan .gamma
+  gamma-positive ok = omega (arith, ok .delta-least, ok .gamma-least)
+
+  abbrev pub params : Planned plan faulty → Params
+  params ok = record {
+    n = plan .n;
+    t = tolerated plan;
+    f = size faulty;
+    k = perLeader plan;
+    gamma = plan .gamma;
+    delta = plan .delta;
+    correct = correct plan faulty;
+    correct-below = correct-below;
+    correct-count = correct-count ok;
+    few-faulty = ok .faulty-few;
+    enough = third ok;
+    delta-positive = ok .delta-least;
+    k-positive = per-leader-positive plan;
+    gamma-positive = gamma-positive ok;
+    roomy = per-leader-roomy plan faulty ok;
+  }
+
+  -- the leader, the initial views and the stages are the protocol's
+  module _ (ok : Planned plan faulty) where
+    pub lead-is : (w : ℕ) → proto.lead (params ok) w ≡ lead plan w
+    unfolding proto.lead proto.row
+    lead-is w = refl
+
+    pub next-is : (w : ℕ) → proto.next (params ok) w ≡ nextInitial plan w
+    unfolding proto.next proto.row
+    next-is w = refl
+
+    pub to-initial : (w : ℕ) → T (initial plan w) → proto.Initial (params ok) w
+    unfolding proto.Initial
+    to-initial w t = eqb→eq (w % perLeader plan) 0 t
+
+    pub from-initial : (w : ℕ) → proto.Initial (params ok) w → T (initial plan w)
+    unfolding proto.Initial
+    from-initial w e = eq→eqb (w % perLeader plan) 0 e
+
+    pub to-starts : (q : Bool) (w : ℕ) → At plan q w → Starts (params ok) q w
+    to-starts false w t = to-initial w t
+    to-starts true w t = tt
+
+    pub from-starts : (q : Bool) (w : ℕ) → Starts (params ok) q w → At plan q w
+    from-starts false w t = from-initial w t
+    from-starts true w t = tt
+
+-- ---- the network's words
+
+abbrev pub flight : List Sent → Flight
+flight xs = record { signature = λ q w p s. In (signature q w p) s xs; certificate = λ q w p s. In (certificate q w p) s xs }
+
+-- the words are those of the messages in flight, with zeros beyond
+pub record Wire (ws : List ℕ) (held : ℕ) (xs : List Sent) : Type 0 where
+  pub spare : ℕ
+  pub words : ws ≡ laid xs spare
+  pub number : held ≡ length xs
+
+module _ {ws : List ℕ} {held : ℕ} {xs : List Sent} (wire : Wire ws held xs) where
+  pub wire-length : length ws ≡ messageWords * held + wire .spare
+  wire-length = ap length (wire .words) ∙ length-laid xs (wire .spare) ∙ omega (arith, wire .number)
+
+  module _ (now : ℕ) (ms : List Message) (fits : T (ltb (capacity ws) (held + length ms)) → ⊥) where
+    wire-room : messageWords * length ms ≤ wire .spare
+    wire-room = ⊎-elim (λ (l : held + length ms ≤ capacity ws). omega (arith, wire-length))
+        (λ (l : capacity ws < held + length ms). absurd (fits (lt→ltb _ _ l))) (le? (held + length ms) (capacity ws))
+
+    pub wire-posted : Wire (posted ws held now ms) (held + length ms) (xs ++ stamped now ms)
+    wire-posted = record {
+      spare = wire .spare - messageWords * length ms;
+      words =
+          let e : wire .spare ≡ messageWords * length ms + (wire .spare - messageWords * length ms) = omega (arith, wire-room) in
+          rw (wire .words, wire .number) (ap (λ (z : ℕ). posted (laid xs z) (length xs) now ms) e
+          ∙ posted-laid xs (wire .spare - messageWords * length ms) now ms);
+      number = omega (arith, wire .number, length-append xs (stamped now ms), length-stamped now ms);
+    }
+
+    pub length-posted : length (posted ws held now ms) ≡ length ws
+    unfolding wire-posted
+    length-posted =
+        ap length (wire-posted .words) ∙ length-laid (xs ++ stamped now ms) (wire-posted .spare)
+        ∙ omega (arith, length-append xs (stamped now ms), length-stamped now ms, wire-length, wire .number, wire-room)
+
+  module _ {m : Message} {i : ℕ} (found : Found xs m i) where
+    abbrev pub rest : List Sent
+    rest = found .ahead ++ found .behind
+
+    pub wire-removed : Wire (removed ws held i) (held - 1) rest
+    wire-removed = record {
+      spare = messageWords + wire .spare;
+      words =
+          rw (wire .words, wire .number, found .split, ← found .place)
+          (removed-laid (found .ahead) (found .behind) (record { message = m; time = found .time }) (wire .spare));
+      number = omega (
+        arith,
+        wire .number,
+        ap length (found .split),
+        length-append (found .ahead)
+            (record { message = m; time = found .time } ∷ found .behind),
+        length-append (found .ahead) (found .behind),
+      );
+    }
+
+    pub length-removed : length (removed ws held i) ≡ length ws
+    unfolding wire-removed
+    length-removed =
+        ap length (wire-removed .words) ∙ length-laid rest (messageWords + wire .spare)
+        ∙ omega (
+          arith,
+          length-append (found .ahead) (record { message = m; time = found .time } ∷ found .behind),
+          length-append (found .ahead)
+              (found .behind),
+          wire-length,
+          wire .number,
+          ap length (found .split),
+        )
+
+-- ---- clocks, views and tally
+
+-- the buffers are long enough, and what they hold is what the processors and leaders of the protocol have, for every view below the limit
+pub record Books (plan : Plan) (clocks views t : List ℕ) (P : Processors) (L : Tally) : Type 0 where
+  pub clocks-long : plan .n ≤ length clocks
+  pub views-long : plan .n ≤ length views
+  pub rows : rowWords * plan .views ≤ length t
+  pub clock : (p : ℕ) → P .clock p ≡ getD clocks p 0
+  pub view : (p : ℕ) → P .view p ≡ getD views p 0
+  pub entered : (w p : ℕ) → w < plan .views → P .entered w p ≡ member (word t w enteredWord) p
+  pub heard : (q : Bool) (w p : ℕ) → w < plan .views → L .heard q w p ≡ member (word t w (heardWord q)) p
+  pub formed : (q : Bool) (w : ℕ) → w < plan .views → L .formed q w ≡ member (word t w marksWord) (markBit q)
+  pub sets-below : (w j : ℕ) → w < plan .views → j < marksWord → word t w j < 2 ^ plan .n
+
+-- no correct clock stands at an initial view that is not entered, or at the end
+abbrev pub Ready : Plan → ℕ → List ℕ → List ℕ → Type 0
+Ready plan faulty clocks views = (p : ℕ) → T (correct plan faulty p) → getD clocks p 0 < clockTime plan (nextInitial plan (getD views p 0))
+
+abbrev pub Below : Plan → ℕ → List ℕ → Type 0
+Below plan faulty clocks = (p : ℕ) → T (correct plan faulty p) → getD clocks p 0 < endTime plan

@@ -1,0 +1,236 @@
+-- The mark of a quorum certificate turns only where rule 5 forms it. Assumes nothing.
+use mathlib.Core.Path.{_≡_, sym, subst}
+use mathlib.Core.Bool.{Bool, true, false, not, _&&_, _||_}
+use mathlib.Core.Logic.{_⊎_, ⊎-elim}
+use mathlib.Core.List.{List, [], _∷_}
+use Prim.Native.Nat.{ℕ, zero, suc, _*_, _≤_, _<_}
+use native.Mathlib.Omega.{arith}
+use lib.Dec.{T, eqb, leb, ltb, eqb→eq, T-not, not-T}
+use lib.ListN.{length}
+use Rattle.base.specs.Tests.{passes?, T-left, T-right, T-and, T-iff, or-left, or-right, not-not, eq→eqb, by-cond}
+use Rattle.base.specs.ScanLaws.{first-at}
+use Rattle.base.specs.Sets.{member, insert, size}
+use Rattle.base.specs.SetLaws.{member-insert}
+use Rattle.model.specs.declared.Message.{Message}
+use Rattle.model.specs.declared.Message.the-variants.{View, Vote, Vc, Qc}
+use Rattle.model.specs.declared.Event.{Event}
+use Rattle.model.specs.declared.Event.the-variants.{Deliver, Sign, Show, Settle, Tick}
+use Rattle.model.specs.declared.Run.{Run}
+use Rattle.model.specs.Quantities.{rowWords, lead}
+use Rattle.model.specs.State.{State, After, voteStage, isCorrect, viewOf, enteredWord, heardWord, marksWord, markBit, slot, word, added, kindOf, viewIn, processorIn, addressee, kindAt, viewAt, processorAt, sentAt, checkOf, accepted, refused}
+use Rattle.model.specs.Moves.{Change, changed, still, Entry, stay, into, byView, byQuorum, needed, forms, entering, taking, entries, hearing, handling, advanced, arrival, arrivals, made}
+use Rattle.model.specs.Checks.{isAt, placeOf, notHeld, limitsBroken, messageUnsound, unsound}
+use Rattle.model.specs.Events.{without, delivering, signing, nowSettled, tickChecks, tickOnce, continued, ticks, tickRun, checks, effect, applied}
+use Rattle.model.specs.Lists.{after, formsQuorum, formedIn, formedDuring}
+use Rattle.liveness.specs.Promises.{quorumMark, MarksAreFormed}
+use Rattle.liveness.proofs.TallyLaws.{heard-low, length-added, added-same, added-only}
+use Rattle.liveness.proofs.Soundness.{sound-of, rows-long}
+use Rattle.liveness.proofs.Judging.{place-inside, named-within, Passes, by-judged}
+
+-- the mark of w's quorum certificate
+abbrev pub Marked : List ℕ → ℕ → Type 0
+Marked t w = T (quorumMark t w)
+
+-- entries leave the marks alone
+entry-mark : (r : Run) (t : List ℕ) (p : ℕ) (e : Entry) (w : ℕ) → Marked (taking r t p e .tally) w → Marked t w
+unfolding taking entering
+entry-mark r t p stay w x = x
+entry-mark r t p (into u) w x = ⊎-elim (λ y. y) (λ y. absurd (omega (arith, y .0))) (added-only t u enteredWord p w marksWord (markBit true) x)
+
+entries-mark : (e : ℕ → Entry) (r : Run) (t : List ℕ) (k w : ℕ) → Marked (entries e r t k .tally) w → Marked t w
+unfolding entries
+entries-mark e r t zero w x = x
+entries-mark e r t (suc k) w x = let c = entries e r t k in entries-mark e r t k w (entry-mark (changed r c) (c .tally) k (e k) w x)
+
+-- hearing a signature sets the mark only where rule 5 forms the certificate
+signer-mark : (q : Bool) (t : List ℕ) (v p w : ℕ) → Marked (added t v (heardWord q) p) w → Marked t w
+signer-mark q t v p w x = ⊎-elim (λ y. y) (λ y. absurd (omega (arith, y .0, heard-low q))) (added-only t v (heardWord q) p w marksWord (markBit true) x)
+
+hearing-mark : (q : Bool) (r : Run) (t : List ℕ) (v p w : ℕ) → (Marked t w → ⊥) → Marked (hearing q r t v p .tally) w → T q × (v ≡ w) × T (forms q r t v p)
+unfolding hearing
+hearing-mark q r t v p w no' = by-cond (λ (l : List ℕ). Marked l w → T q × (v ≡ w) × T (forms q r t v p)) (forms q r t v p) _ _
+    (λ f x. ⊎-elim (λ y. absurd (no' (signer-mark q t v p w y))) (λ y. (stage q (y .1), omega (arith, y .0), f))
+    (added-only (added t v (heardWord q) p) v marksWord (markBit q) w marksWord (markBit true) x))
+    (λ f x. absurd (no' (signer-mark q t v p w x)))
+  where
+    stage : (d : Bool) → markBit true ≡ markBit d → T d
+    stage true e = tt
+    stage false e = absurd (omega arith)
+
+-- ticks leave the marks alone
+once-mark : (s : State) (w : ℕ) → Marked (tickOnce s .state .tally) w → Marked (s .tally) w
+unfolding tickOnce made arrivals
+once-mark s w = by-judged (λ (a : After). Marked (a .state .tally) w → Marked (s .tally) w) (refused s)
+    (tickChecks s) _
+    (λ r x. x) (λ c x. entries-mark (arrival (advanced s .run)) (advanced s .run) (s .tally) (s .run .plan .n) w x)
+
+ticks-mark : (m : ℕ) (s : State) (w : ℕ) → Marked (ticks m s .state .tally) w → Marked (s .tally) w
+unfolding ticks
+ticks-mark zero s w x = x
+ticks-mark (suc m) s w x = go (checkOf (tickOnce s .answer)) (λ y. once-mark s w (ticks-mark m (tickOnce s .state) w y)) x
+  where
+    go : (r : ℕ) → (Marked (ticks m (tickOnce s .state) .state .tally) w → Marked (s .tally) w)
+        → Marked (continued s r (ticks m (tickOnce s .state)) .state .tally) w → Marked (s .tally) w
+    go zero f x = f x
+    go (suc r) f x = x
+
+-- ---- a vote that is delivered was for a correct leader
+
+module _ (s : State) (m : Message) (sound : T (unsound s) → ⊥) (in-post : T (notHeld s m) → ⊥) where
+  addressed : T (isCorrect (s .run) (addressee (s .run .plan) (kindOf m) (viewIn m) (processorIn m)))
+  unfolding messageUnsound
+  addressed =
+      let i : ℕ = placeOf s m in
+      let inside : placeOf s m < s .run .held = place-inside s m in-post in
+      let t : T (isAt (s .network) m i) = first-at (isAt (s .network) m) (s .run .held) inside in
+      let both = T-left (eqb (kindAt (s .network) i) (kindOf m) && eqb (viewAt (s .network) i) (viewIn m)) _ t in
+      let kind : kindAt (s .network) i ≡ kindOf m = eqb→eq _ _ (T-left (eqb (kindAt (s .network) i) (kindOf m)) _ both) in
+      let view : viewAt (s .network) i ≡ viewIn m = eqb→eq _ _ (T-right (eqb (kindAt (s .network) i) (kindOf m)) _ both) in
+      let processor : processorAt (s .network) i ≡ processorIn m = eqb→eq _ _
+      (T-right (eqb (kindAt (s .network) i) (kindOf m) && eqb (viewAt (s .network) i) (viewIn m)) _ t) in
+      let k1 : Bool = ltb (kindAt (s .network) i) 1 in
+      let k2 : Bool = ltb 4 (kindAt (s .network) i) in
+      let v : Bool = leb (s .run .plan .views) (viewAt (s .network) i) in
+      let p : Bool = leb (s .run .plan .n) (processorAt (s .network) i) in
+      let to : Bool = isCorrect (s .run) (addressee (s .run .plan) (kindAt (s .network) i) (viewAt (s .network) i) (processorAt (s .network) i)) in
+      let time : Bool = ltb (s .run .time) (sentAt (s .network) i) in
+      rw (kind, view, processor) at (not-not to (λ x. sound-of s sound .messages (placeOf s m) inside
+      (or-left (k1 || k2 || v || p || not to) time (or-right (k1 || k2 || v || p) (not to) x))))
+
+-- ---- each event
+
+-- a vote that a correct leader hears, or nothing
+vote-mark : (q : Bool) (r : Run) (t : List ℕ) (v p w : ℕ) → (Marked t w → ⊥) → T (isCorrect r (lead (r .plan) v)) → Marked (hearing q r t v p .tally) w
+    → T q × T (eqb v w && isCorrect r (lead (r .plan) w) && forms q r t w p)
+vote-mark q r t v p w no' led x =
+    let y = hearing-mark q r t v p w no' x in (
+      y .0,
+      T-and (eqb v w && isCorrect r (lead (r .plan) w)) _ (T-and (eqb v w) _ (eq→eqb v w (y .1))
+          (subst (λ (u : ℕ). T (isCorrect r (lead (r .plan) u))) (y .1) led))
+          (subst (λ (u : ℕ). T (forms q r t u p)) (y .1) (y .2)),
+    )
+
+module _ (s : State) (w : ℕ) (no' : Marked (s .tally) w → ⊥) where
+  delivered-mark : (m : Message) → Passes (checks (Deliver m) s) → Marked (delivering s m .tally) w → T (formsQuorum (s .run) (s .tally) m w)
+  unfolding checks delivering without handling forms
+  delivered-mark (View v p) c x = absurd (vote-mark false (without s (View v p) .run) (s .tally) v p w no' (addressed s (View v p) (c .0) (c .1 .1 .1 .0)) x .0)
+  delivered-mark (Vote v p) c x = vote-mark true (without s (Vote v p) .run) (s .tally) v p w no' (addressed s (Vote v p) (c .0) (c .1 .1 .1 .0)) x .1
+  delivered-mark (Vc v p) c x = absurd (no' (entry-mark (without s (Vc v p) .run) (s .tally) p (byView (s .run .plan) (viewOf (s .run) p) v) w x))
+  delivered-mark (Qc v p) c x = absurd (no' (entry-mark (without s (Qc v p) .run) (s .tally) p (byQuorum (viewOf (s .run) p) v) w x))
+
+  signed-mark : (m : Message) → Passes (checks (Sign m) s) → Marked (signing s m .tally) w → T (formsQuorum (s .run) (s .tally) m w)
+  unfolding checks signing handling
+  signed-mark (View v p) c = by-cond (λ (d : Change). Marked (d .tally) w → ⊥) (isCorrect (s .run) (lead (s .run .plan) v))
+      (hearing false (s .run) (s .tally) v p) (still (s .run) (s .tally))
+      (λ l x. vote-mark false (s .run) (s .tally) v p w no' l x .0) (λ l x. no' x)
+  signed-mark (Vote v p) c = by-cond (λ (d : Change). Marked (d .tally) w → T (formsQuorum (s .run) (s .tally) (Vote v p) w))
+      (isCorrect (s .run) (lead (s .run .plan) v)) (hearing true (s .run) (s .tally) v p) (still (s .run) (s .tally))
+      (λ l x. vote-mark true (s .run) (s .tally) v p w no' l x .1) (λ l x. absurd (no' x))
+  signed-mark (Vc v p) c = absurd (c .0 tt)
+  signed-mark (Qc v p) c = absurd (c .0 tt)
+
+  shown-mark : (m : Message) → Passes (checks (Show m) s) → Marked (handling (s .run) (s .tally) m .tally) w → ⊥
+  unfolding checks handling
+  shown-mark (View v p) c x = c .0 tt
+  shown-mark (Vote v p) c x = c .0 tt
+  shown-mark (Vc v p) c x = no' (entry-mark (s .run) (s .tally) p (byView (s .run .plan) (viewOf (s .run) p) v) w x)
+  shown-mark (Qc v p) c x = no' (entry-mark (s .run) (s .tally) p (byQuorum (viewOf (s .run) p) v) w x)
+
+turned-formed : (s : State) (e : Event) (w : ℕ) → (Marked (s .tally) w → ⊥) → Marked (applied e s .state .tally) w → T (formedIn e s w)
+unfolding applied effect formedIn made nowSettled tickRun
+turned-formed s (Deliver m) w no' = by-judged (λ (a : After). Marked (a .state .tally) w
+    → T (accepted (a .answer) && formsQuorum (s .run) (s .tally) m w)) (refused s) (checks (Deliver m) s) (effect (Deliver m) s)
+    (λ r x. absurd (no' x)) (λ c x. delivered-mark s w no' m c x)
+turned-formed s (Sign m) w no' = by-judged (λ (a : After). Marked (a .state .tally) w
+    → T (accepted (a .answer) && formsQuorum (s .run) (s .tally) m w)) (refused s) (checks (Sign m) s) (effect (Sign m) s)
+    (λ r x. absurd (no' x)) (λ c x. signed-mark s w no' m c x)
+turned-formed s (Show m) w no' = by-judged (λ (a : After). Marked (a .state .tally) w → ⊥) (refused s) (checks (Show m) s) (effect (Show m) s)
+    (λ r x. no' x) (λ c x. shown-mark s w no' m c x)
+turned-formed s Settle w no' = by-judged (λ (a : After). Marked (a .state .tally) w → ⊥) (refused s) (checks Settle s) (effect Settle s)
+    (λ r x. no' x) (λ c x. no' x)
+turned-formed s (Tick m) w no' = by-judged (λ (a : After). Marked (a .state .tally) w → ⊥) (refused s) (checks (Tick m) s) (effect (Tick m) s)
+    (λ r x. no' x) (λ c x. no' (ticks-mark m s w x))
+
+-- ---- and where rule 5 forms it, the mark turns
+
+-- a vote that makes it is heard in a row of the tally
+formed-turned : (s : State) (r : Run) (v p w : ℕ) → (T (limitsBroken s) → ⊥) → v < s .run .plan .views → (v ≡ w) → T (forms voteStage r (s .tally) v p)
+    → (Marked (s .tally) w → ⊥) × Marked (hearing voteStage r (s .tally) v p .tally) w
+unfolding hearing forms
+formed-turned s r v p w limits low e f = (fresh, by-cond (λ (l : List ℕ). Marked l w) (forms voteStage r (s .tally) v p) _ _ (λ t. set-now) (λ t. absurd (t f)))
+  where
+    rows : rowWords * s .run .plan .views ≤ length (s .tally)
+    rows = rows-long s limits
+
+    long : slot v marksWord < length (added (s .tally) v (heardWord voteStage) p)
+    long = omega (arith, length-added (s .tally) v (heardWord voteStage) p, rows)
+
+    set-now : Marked (added (added (s .tally) v (heardWord voteStage) p) v marksWord (markBit voteStage)) w
+    set-now = subst (λ (u : ℕ). Marked (added (added (s .tally) v (heardWord voteStage) p) v marksWord (markBit voteStage)) u) e
+        (rw (
+          added-same (added (s .tally) v (heardWord voteStage) p) v marksWord (markBit voteStage) long,
+          member-insert (word (added (s .tally) v (heardWord voteStage) p) v marksWord) (markBit voteStage) (markBit voteStage),
+        )
+        (or-right (member (word (added (s .tally) v (heardWord voteStage) p) v marksWord) (markBit voteStage)) _ tt))
+
+    fresh : Marked (s .tally) w → ⊥
+    fresh x = T-not (member (word (s .tally) v marksWord) (markBit voteStage))
+        (T-right (leb (needed voteStage (r .plan)) (size (insert (word (s .tally) v (heardWord voteStage)) p))) _
+        (T-left (leb (needed voteStage (r .plan)) (size (insert (word (s .tally) v (heardWord voteStage)) p)) && not
+        (member (word (s .tally) v marksWord) (markBit voteStage))) _ f))
+        (subst (λ (u : ℕ). Marked (s .tally) u) (sym e) x)
+
+module _ (s : State) (w : ℕ) where
+  delivered-turned : (m : Message) → Passes (checks (Deliver m) s) → T (formsQuorum (s .run) (s .tally) m w)
+      → (Marked (s .tally) w → ⊥) × Marked (delivering s m .tally) w
+  unfolding checks delivering without handling forms
+  delivered-turned (View v p) c x = absurd x
+  delivered-turned (Vote v p) c x =
+      let e : v ≡ w = eqb→eq v w (T-left (eqb v w) _ (T-left (eqb v w && isCorrect (s .run) (lead (s .run .plan) w)) _ x)) in
+      formed-turned s (without s (Vote v p) .run) v p w (sound-of s (c .0) .limits) (named-within (s .run .plan) p v (c .1 .0) .1) e
+      (subst (λ (u : ℕ). T (forms voteStage (s .run) (s .tally) u p)) (sym e) (T-right (eqb v w && isCorrect (s .run) (lead (s .run .plan) w)) _ x))
+  delivered-turned (Vc v p) c x = absurd x
+  delivered-turned (Qc v p) c x = absurd x
+
+  signed-turned : (m : Message) → Passes (checks (Sign m) s) → T (formsQuorum (s .run) (s .tally) m w)
+      → (Marked (s .tally) w → ⊥) × Marked (signing s m .tally) w
+  unfolding checks signing handling
+  signed-turned (View v p) c x = absurd x
+  signed-turned (Vote v p) c x =
+      let both = T-left (eqb v w && isCorrect (s .run) (lead (s .run .plan) w)) _ x in
+      let e : v ≡ w = eqb→eq v w (T-left (eqb v w) _ both) in
+      by-cond (λ (d : Change). (Marked (s .tally) w → ⊥) × Marked (d .tally) w) (isCorrect (s .run) (lead (s .run .plan) v))
+      (hearing voteStage (s .run) (s .tally) v p) (still (s .run) (s .tally))
+      (λ l. formed-turned s (s .run) v p w (sound-of s (c .1 .0) .limits) (named-within (s .run .plan) p v (c .1 .1 .0) .1) e
+      (subst (λ (u : ℕ). T (forms voteStage (s .run) (s .tally) u p)) (sym e) (T-right (eqb v w && isCorrect (s .run) (lead (s .run .plan) w)) _ x)))
+      (λ l. absurd (l (subst (λ (u : ℕ). T (isCorrect (s .run) (lead (s .run .plan) u))) (sym e) (T-right (eqb v w) _ both))))
+  signed-turned (Vc v p) c x = absurd x
+  signed-turned (Qc v p) c x = absurd x
+
+  turn : (t : List ℕ) → (Marked (s .tally) w → ⊥) × Marked t w → T (not (quorumMark (s .tally) w) && quorumMark t w)
+  turn t x = T-and (not (quorumMark (s .tally) w)) _ (not-T (quorumMark (s .tally) w) (x .0)) (x .1)
+
+formed-turns : (s : State) (e : Event) (w : ℕ) → T (formedIn e s w) → T (not (quorumMark (s .tally) w) && quorumMark (applied e s .state .tally) w)
+unfolding applied effect formedIn made
+formed-turns s (Deliver m) w = by-judged (λ (a : After). T (accepted (a .answer) && formsQuorum (s .run) (s .tally) m w)
+    → T (not (quorumMark (s .tally) w) && quorumMark (a .state .tally) w)) (refused s) (checks (Deliver m) s) (effect (Deliver m) s)
+    (λ r x. absurd x) (λ c x. turn s w (delivering s m .tally) (delivered-turned s w m c x))
+formed-turns s (Sign m) w = by-judged (λ (a : After). T (accepted (a .answer) && formsQuorum (s .run) (s .tally) m w)
+    → T (not (quorumMark (s .tally) w) && quorumMark (a .state .tally) w)) (refused s) (checks (Sign m) s) (effect (Sign m) s)
+    (λ r x. absurd x) (λ c x. turn s w (signing s m .tally) (signed-turned s w m c x))
+formed-turns s (Show m) w = λ x. absurd x
+formed-turns s Settle w = λ x. absurd x
+formed-turns s (Tick m) w = λ x. absurd x
+
+pub marks-are-formed : MarksAreFormed
+marks-are-formed s e w = T-iff (formedIn e s w) (not (quorumMark (s .tally) w) && quorumMark (applied e s .state .tally) w) (formed-turns s e w)
+    (λ x. turned-formed s e w (T-not (quorumMark (s .tally) w) (T-left (not (quorumMark (s .tally) w)) _ x)) (T-right (not (quorumMark (s .tally) w)) _ x))
+
+-- a mark that a list of events turns is formed in one of them
+pub marked-during : (es : List Event) (s : State) (w : ℕ) → (Marked (s .tally) w → ⊥) → Marked (after s es .tally) w → T (formedDuring s es w)
+unfolding after formedDuring
+marked-during [] s w no' x = absurd (no' x)
+marked-during (e ∷ es) s w no' x = ⊎-elim
+    (λ y. or-left (formedIn e s w) (formedDuring (applied e s .state) es w) (turned-formed s e w no' y))
+    (λ y. or-right (formedIn e s w) (formedDuring (applied e s .state) es w) (marked-during es (applied e s .state) w y x))
+    (passes? (member (word (applied e s .state .tally) w marksWord) (markBit true)))

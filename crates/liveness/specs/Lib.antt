@@ -1,0 +1,3 @@
+-- What is promised of the definitions, and a run to which it applies.
+pub mod Promises
+pub mod Live

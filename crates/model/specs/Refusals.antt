@@ -1,0 +1,245 @@
+-- Computed vectors: which check refuses, and what none refuses. Each row, its right side taken from document 01, shuts out the wrong check or
+-- order that its comment is about. Assumes nothing.
+use mathlib.Core.Path.{_≡_, refl}
+use mathlib.Core.Bool.{true, false}
+use mathlib.Core.List.{List, [], _∷_, _++_}
+use lib.ListN.{length, replicate}
+use Rattle.model.specs.declared.Message.the-variants.{View, Vote, Vc, Qc}
+use Rattle.model.specs.declared.Event.the-variants.{Deliver, Sign, Show, Settle, Tick}
+use Rattle.model.specs.declared.Input.the-variants as input
+use Rattle.model.specs.declared.Answer.the-variants.{Done, Refused}
+use Rattle.model.specs.Rows.{definitions, planOf, standard, padded, zeroes, copies, setupOf, lent, buffers, handedIn, withTally, withNetwork, Row, agreeing, schedule, fullSchedule, handed, refusedWhole, oneMove}
+
+-- ---- checks 2 to 8
+
+openings : List Row
+openings =
+    -- n below 4; and 2 before 3
+    schedule buffers (setupOf (planOf 3 0 4 6) 0 zeroes) [] (Refused 2 ∷ [])
+    -- n above 64
+    ∷ schedule buffers (setupOf (planOf 65 2 4 6) 0 zeroes) [] (Refused 2 ∷ [])
+    -- no delay; and 3 before 4
+    ∷ schedule buffers (setupOf (planOf 4 0 4 7) 0 zeroes) [] (Refused 3 ∷ [])
+    -- a delay above 1,000
+    ∷ schedule buffers (setupOf (planOf 4 1001 2002 6) 0 zeroes) [] (Refused 3 ∷ [])
+    -- "Δ=4, Γ=7: check 3"
+    ∷ schedule buffers (setupOf (planOf 4 4 7 6) 0 zeroes) [] (Refused 3 ∷ [])
+    -- "Γ=8 passes"
+    ∷ schedule buffers (setupOf (planOf 4 4 8 6) 0 zeroes) [] (Done 0 8 ∷ [])
+    -- a slot above 10,000
+    ∷ schedule buffers (setupOf (planOf 4 2 10001 6) 0 zeroes) [] (Refused 3 ∷ [])
+    -- the largest delay and slot
+    ∷ schedule buffers (setupOf (planOf 4 1000 10000 6) 0 zeroes) [] (Done 0 8 ∷ [])
+    -- no views
+    ∷ schedule buffers (setupOf (planOf 4 2 4 0) 0 zeroes) [] (Refused 4 ∷ [])
+    -- no multiple of 3; and 4 before 5
+    ∷ schedule buffers (setupOf (planOf 4 2 4 7) 16 zeroes) [] (Refused 4 ∷ [])
+    -- above 6,000
+    ∷ schedule buffers (setupOf (planOf 4 2 4 6003) 0 zeroes) [] (Refused 4 ∷ [])
+    -- three views: one leader
+    ∷ schedule (lent 12 32) (setupOf (planOf 4 2 4 3) 0 zeroes) [] (Done 0 8 ∷ [])
+    -- a mask bit at n; and 5 before 6
+    ∷ schedule (lent 0 0) (setupOf standard 16 zeroes) [] (Refused 5 ∷ [])
+    -- one at 63
+    ∷ schedule buffers (setupOf standard 9223372036854775808 zeroes) [] (Refused 5 ∷ [])
+    -- more than t faulty
+    ∷ schedule buffers (setupOf standard 6 zeroes) [] (Refused 5 ∷ [])
+    -- n = 4, mask 8
+    ∷ schedule buffers (setupOf standard 8 zeroes) [] (Done 0 6 ∷ [])
+    -- n = 5, mask 16
+    ∷ schedule buffers (setupOf (planOf 5 2 4 6) 16 (replicate 5 0)) [] (Done 0 8 ∷ [])
+    -- n = 7, mask 96: two faulty
+    ∷ schedule buffers (setupOf (planOf 7 2 4 6) 96 (replicate 7 0)) [] (Done 0 10 ∷ [])
+    -- mask 112: three
+    ∷ schedule buffers (setupOf (planOf 7 2 4 6) 112 (replicate 7 0)) [] (Refused 5 ∷ [])
+    -- too few tally words; and 6 before 7
+    ∷ schedule (lent 23 32) (setupOf standard 0 (12 ∷ 0 ∷ 0 ∷ 0 ∷ [])) [] (Refused 6 ∷ [])
+    -- too few network words
+    ∷ schedule (lent 24 31) (setupOf standard 0 zeroes) [] (Refused 6 ∷ [])
+    -- just enough of both
+    ∷ schedule (lent 24 32) (setupOf standard 0 zeroes) [] (Done 0 8 ∷ [])
+    -- 7 before 8
+    ∷ schedule buffers (setupOf standard 0 (12 ∷ 0 ∷ 0 ∷ 0 ∷ [])) [] (Refused 7 ∷ [])
+    -- "Clocks all 12: check 7."
+    ∷ schedule buffers (setupOf standard 0 (replicate 4 12)) [] (Refused 7 ∷ [])
+    -- 11 passes 7
+    ∷ schedule buffers (setupOf standard 0 (11 ∷ 0 ∷ 0 ∷ 0 ∷ [])) [] (Refused 8 ∷ [])
+    -- a faulty clock is not read by 7 or 8
+    ∷ schedule buffers (setupOf standard 2 (0 ∷ 99 ∷ 0 ∷ 0 ∷ [])) [] (Done 0 6 ∷ [])
+    -- only clocks ahead are bounded: a single one far behind is no reason to refuse
+    ∷ schedule buffers (setupOf standard 0 (0 ∷ 9 ∷ 9 ∷ 9 ∷ [])) [] (Done 0 8 ∷ [])
+    -- c'+Γ equal to c counts
+    ∷ schedule buffers (setupOf standard 0 (5 ∷ 1 ∷ 0 ∷ 0 ∷ [])) [] (Done 0 8 ∷ [])
+    -- one less does not
+    ∷ schedule buffers (setupOf standard 0 (6 ∷ 1 ∷ 0 ∷ 0 ∷ [])) [] (Refused 8 ∷ [])
+    -- n = 7: t+1 is 3, and two are too few
+    ∷ schedule buffers (setupOf (planOf 7 2 4 6) 0 (9 ∷ 9 ∷ 0 ∷ 0 ∷ 0 ∷ 0 ∷ 0 ∷ [])) [] (Refused 8 ∷ [])
+    -- three equal clocks each count
+    ∷ schedule buffers (setupOf (planOf 7 2 4 6) 0 (9 ∷ 9 ∷ 9 ∷ 0 ∷ 0 ∷ 0 ∷ 0 ∷ [])) [] (Done 0 14 ∷ [])
+    -- n = 5: two, its own counted
+    ∷ schedule buffers (setupOf (planOf 5 2 4 6) 0 (9 ∷ 9 ∷ 0 ∷ 0 ∷ 0 ∷ [])) [] (Done 0 10 ∷ [])
+    -- n = 5 with the other one faulty
+    ∷ schedule buffers (setupOf (planOf 5 2 4 6) 2 (9 ∷ 9 ∷ 0 ∷ 0 ∷ 0 ∷ [])) [] (Refused 8 ∷ [])
+    ∷ []
+
+-- ---- checks 1 and 10 to 17
+
+naming : List Row
+naming =
+    -- 10 before 11, for any form
+    schedule buffers (setupOf standard 8 zeroes) (Deliver (View 7 0) ∷ Sign (View 7 3) ∷ Show (Vc 7 0) ∷ [])
+    (Done 0 6 ∷ Refused 10 ∷ Refused 10 ∷ Refused 10 ∷ [])
+    -- a view V or more, though the tally has words for it; the last view is not
+    ∷ schedule buffers (setupOf standard 0 zeroes) (Deliver (Vote 6 0) ∷ Deliver (Vote 5 0) ∷ []) (Done 0 8 ∷ Refused 10 ∷ Refused 13 ∷ [])
+    -- a view whose words would wrap round; a processor n or more
+    ∷ schedule buffers (setupOf standard 0 zeroes) (Deliver (Vote 4611686018427387904 0) ∷ Deliver (Vote 0 4) ∷ Show (Qc 0 4) ∷ Sign (Vote 0 4) ∷ [])
+    (Done 0 8 ∷ Refused 10 ∷ Refused 10 ∷ Refused 10 ∷ Refused 10 ∷ [])
+    -- 11 for view messages and view certificates alone
+    ∷ schedule buffers (setupOf standard 8 zeroes)
+    (Deliver (View 1 0) ∷ Sign (View 1 3) ∷ Show (Vc 1 0) ∷ Deliver (Vote 1 0) ∷ Show (Qc 1 0) ∷ Sign (Vote 1 3) ∷ [])
+    (Done 0 6 ∷ Refused 11 ∷ Refused 11 ∷ Refused 11 ∷ Refused 13 ∷ Refused 14 ∷ Done 0 6 ∷ [])
+    -- 11 before 12
+    ∷ schedule buffers (setupOf standard 8 zeroes) (Sign (View 1 0) ∷ Show (Vc 1 3) ∷ []) (Done 0 6 ∷ Refused 11 ∷ Refused 11 ∷ [])
+    -- a correct signer; a faulty processor shown to, before 14
+    ∷ schedule buffers (setupOf standard 2 zeroes) (Sign (View 0 0) ∷ Sign (Vote 0 2) ∷ Show (Vc 0 1) ∷ Show (Qc 0 1) ∷ [])
+    (Done 0 6 ∷ Refused 12 ∷ Refused 12 ∷ Refused 12 ∷ Refused 12 ∷ [])
+    -- a delivered message is gone; a certificate for a faulty processor never was there
+    ∷ schedule buffers (setupOf standard 8 zeroes)
+    (Deliver (Vote 0 0) ∷ Deliver (Vote 0 0) ∷ Deliver (Vote 0 1) ∷ Deliver (Vote 0 2) ∷ Deliver (Qc 0 3) ∷ Deliver (Qc 0 0) ∷ [])
+    (Done 0 6 ∷ Done 0 5 ∷ Refused 13 ∷ Done 0 4 ∷ Done 0 6 ∷ Refused 13 ∷ Done 0 6 ∷ [])
+    -- a correct leader's certificate exists if formed, whoever entered
+    ∷ schedule buffers (setupOf standard 0 zeroes)
+    (Show (Qc 0 0) ∷ Show (Vc 0 0) ∷ Deliver (View 0 0) ∷ Deliver (View 0 1) ∷ Show (Vc 0 0) ∷ Show (Qc 0 0) ∷ [])
+    (Done 0 8 ∷ Refused 14 ∷ Refused 14 ∷ Done 0 7 ∷ Done 0 10 ∷ Done 0 10 ∷ Refused 14 ∷ [])
+    -- a faulty leader's quorum certificate: f and two that entered are n−t
+    ∷ fullSchedule buffers (setupOf standard 1 zeroes) (Show (Qc 0 1) ∷ Show (Qc 1 1) ∷ Show (Qc 0 2) ∷ Show (Qc 1 1) ∷ [])
+    (Done 0 0 ∷ Done 0 0 ∷ Refused 14 ∷ Done 0 0 ∷ Done 0 0 ∷ []) ((1 ∷ 2 ∷ 8 ∷ []) ∷ (2 ∷ 1 ∷ 4 ∷ []) ∷ (3 ∷ 0 ∷ 0 ∷ []) ∷ [])
+    -- its view certificate: f and one that entered are t+1; then the quorum certificate
+    ∷ fullSchedule buffers (setupOf standard 2 (11 ∷ 0 ∷ 10 ∷ 0 ∷ [])) (Show (Vc 3 3) ∷ Tick 1 ∷ Show (Qc 3 2) ∷ Show (Vc 3 3) ∷ Show (Qc 3 2) ∷ [])
+    (Done 0 6 ∷ Refused 14 ∷ Done 1 6 ∷ Refused 14 ∷ Done 0 6 ∷ Done 0 6 ∷ []) ((0 ∷ 3 ∷ 12 ∷ []) ∷ (2 ∷ 4 ∷ 16 ∷ []) ∷ (3 ∷ 3 ∷ 12 ∷ []) ∷ [])
+    -- entries by tick count
+    ∷ fullSchedule buffers (setupOf standard 2 (11 ∷ 0 ∷ 11 ∷ 11 ∷ [])) (Tick 1 ∷ Show (Vc 3 0) ∷ Show (Qc 3 0) ∷ [])
+    (Done 0 6 ∷ Done 1 6 ∷ Done 0 6 ∷ Done 0 6 ∷ []) ((0 ∷ 4 ∷ 16 ∷ []) ∷ (2 ∷ 3 ∷ 12 ∷ []) ∷ (3 ∷ 3 ∷ 12 ∷ []) ∷ [])
+    -- a certificate below the present view is accepted and does nothing
+    ∷ fullSchedule buffers (setupOf standard 1 zeroes) (Show (Qc 0 1) ∷ Show (Qc 0 1) ∷ Show (Vc 0 1) ∷ []) (Done 0 0 ∷ Done 0 0 ∷ Done 0 0 ∷ Done 0 0 ∷ [])
+    ((1 ∷ 1 ∷ 4 ∷ []) ∷ (2 ∷ 0 ∷ 0 ∷ []) ∷ (3 ∷ 0 ∷ 0 ∷ []) ∷ [])
+    -- a quorum certificate for V−1, shown
+    ∷ refusedWhole (handedIn standard 0 5 false 0 1 (replicate 4 5) zeroes (replicate 23 0 ++ (2 ∷ [])) (4 ∷ 5 ∷ 0 ∷ 0 ∷ [])) (Show (Qc 5 1)) 17
+    -- or delivered
+    ∷ refusedWhole (handedIn standard 0 5 false 0 1 (replicate 4 5) zeroes (replicate 23 0 ++ (2 ∷ [])) (4 ∷ 5 ∷ 0 ∷ 0 ∷ [])) (Deliver (Qc 5 0)) 17
+    ∷ []
+
+-- ---- check 9, and 1 before it
+
+handedInRuns : List Row
+handedInRuns =
+    -- no run yet: 9 to every event, but 1 to what has no form
+    handed (lent 24 32) (Deliver (View 0 0) ∷ Sign (View 0 0) ∷ Show (Vc 0 0) ∷ Settle ∷ Tick 1 ∷ [])
+    (Refused 9 ∷ Refused 9 ∷ Refused 9 ∷ Refused 9 ∷ Refused 9 ∷ [])
+    -- 0 ticks, a certificate signed, a signature shown
+    ∷ handed (lent 24 32) (Tick 0 ∷ Sign (Vc 0 0) ∷ Sign (Qc 0 0) ∷ Show (View 0 0) ∷ Show (Vote 0 0) ∷ [])
+    (Refused 1 ∷ Refused 1 ∷ Refused 1 ∷ Refused 1 ∷ Refused 1 ∷ [])
+    -- sound: a message sent now
+    ∷ handed (handedIn standard 0 5 false 0 1 (replicate 4 5) zeroes [] (2 ∷ 0 ∷ 1 ∷ 5 ∷ [])) (Settle ∷ []) (Done 0 1 ∷ [])
+    -- sound: a faulty sender
+    ∷ handed (handedIn standard 2 5 false 0 1 (replicate 4 5) zeroes [] (2 ∷ 0 ∷ 1 ∷ 5 ∷ [])) (Settle ∷ []) (Done 0 1 ∷ [])
+    -- sound: a faulty processor's clock and view
+    ∷ handed (handedIn standard 8 5 false 0 1 (5 ∷ 5 ∷ 5 ∷ 999 ∷ []) (0 ∷ 0 ∷ 0 ∷ 50 ∷ []) [] (2 ∷ 0 ∷ 1 ∷ 5 ∷ [])) (Settle ∷ []) (Done 0 1 ∷ [])
+    -- sound: a clock condition that does not hold
+    ∷ handed (handedIn standard 0 5 false 0 1 (11 ∷ 0 ∷ 0 ∷ 0 ∷ []) zeroes [] (2 ∷ 0 ∷ 1 ∷ 5 ∷ [])) (Settle ∷ []) (Done 0 1 ∷ [])
+    -- sound: a settled run with settling time 0
+    ∷ handed (handedIn standard 0 5 true 0 0 (replicate 4 5) zeroes [] []) (Tick 1 ∷ []) (Done 1 0 ∷ [])
+    -- sound: a held view message for a view that is not initial; 11 refuses its delivery
+    ∷ handed (handedIn standard 0 5 false 0 1 (replicate 4 5) zeroes [] (1 ∷ 1 ∷ 0 ∷ 0 ∷ [])) (Settle ∷ Deliver (View 1 0) ∷ [])
+    (Done 0 1 ∷ Refused 11 ∷ [])
+    -- unsound: kind 0
+    ∷ handed (handedIn standard 0 5 false 0 1 (replicate 4 5) zeroes [] (0 ∷ 0 ∷ 1 ∷ 5 ∷ [])) (Settle ∷ []) (Refused 9 ∷ [])
+    -- unsound: kind 5
+    ∷ handed (handedIn standard 0 5 false 0 1 (replicate 4 5) zeroes [] (5 ∷ 0 ∷ 1 ∷ 5 ∷ [])) (Settle ∷ []) (Refused 9 ∷ [])
+    -- unsound: a view V
+    ∷ handed (handedIn standard 0 5 false 0 1 (replicate 4 5) zeroes [] (2 ∷ 6 ∷ 1 ∷ 5 ∷ [])) (Settle ∷ []) (Refused 9 ∷ [])
+    -- unsound: a processor n
+    ∷ handed (handedIn standard 0 5 false 0 1 (replicate 4 5) zeroes [] (2 ∷ 0 ∷ 4 ∷ 5 ∷ [])) (Settle ∷ []) (Refused 9 ∷ [])
+    -- unsound: a message to a faulty leader
+    ∷ handed (handedIn standard 1 5 false 0 1 (replicate 4 5) zeroes [] (2 ∷ 0 ∷ 1 ∷ 5 ∷ [])) (Settle ∷ []) (Refused 9 ∷ [])
+    -- unsound: a certificate to a faulty processor
+    ∷ handed (handedIn standard 2 5 false 0 1 (replicate 4 5) zeroes [] (4 ∷ 0 ∷ 1 ∷ 5 ∷ [])) (Settle ∷ []) (Refused 9 ∷ [])
+    -- unsound: sent later than now
+    ∷ handed (handedIn standard 0 5 false 0 1 (replicate 4 5) zeroes [] (2 ∷ 0 ∷ 1 ∷ 6 ∷ [])) (Settle ∷ []) (Refused 9 ∷ [])
+    -- unsound: a second message out of range
+    ∷ handed (handedIn standard 0 5 false 0 2 (replicate 4 5) zeroes [] (2 ∷ 0 ∷ 1 ∷ 5 ∷ 2 ∷ 0 ∷ 1 ∷ 6 ∷ [])) (Settle ∷ []) (Refused 9 ∷ [])
+    -- unsound: a word beyond the last message
+    ∷ handed (handedIn standard 0 5 false 0 1 (replicate 4 5) zeroes [] (2 ∷ 0 ∷ 1 ∷ 5 ∷ 0 ∷ 0 ∷ 0 ∷ 1 ∷ [])) (Settle ∷ []) (Refused 9 ∷ [])
+    -- unsound: the last of the words that no message can use
+    ∷ handed (withNetwork (replicate 34 0 ++ (1 ∷ [])) (handedIn standard 0 5 false 0 0 (replicate 4 5) zeroes [] [])) (Settle ∷ []) (Refused 9 ∷ [])
+    -- unsound: more messages than fit
+    ∷ handed (withNetwork (copies 8 (2 ∷ 0 ∷ 0 ∷ 0 ∷ []) ++ (2 ∷ 0 ∷ 0 ∷ [])) (handedIn standard 0 5 false 0 9 (replicate 4 5) zeroes [] [])) (Settle ∷ [])
+    (Refused 9 ∷ [])
+    -- unsound: a number of them that would wrap round
+    ∷ handed (handedIn standard 0 5 false 0 4611686018427387904 (replicate 4 5) zeroes [] (2 ∷ 0 ∷ 1 ∷ 5 ∷ [])) (Settle ∷ []) (Refused 9 ∷ [])
+    -- unsound: a settling time in an unsettled run
+    ∷ handed (handedIn standard 0 5 false 1 1 (replicate 4 5) zeroes [] (2 ∷ 0 ∷ 1 ∷ 5 ∷ [])) (Settle ∷ []) (Refused 9 ∷ [])
+    -- unsound: one later than now
+    ∷ handed (handedIn standard 0 5 true 6 1 (replicate 4 5) zeroes [] (2 ∷ 0 ∷ 1 ∷ 5 ∷ [])) (Tick 1 ∷ []) (Refused 9 ∷ [])
+    -- unsound: a correct clock at VΓ, in a view V
+    ∷ handed (handedIn standard 0 5 false 0 1 (5 ∷ 5 ∷ 5 ∷ 24 ∷ []) (0 ∷ 0 ∷ 0 ∷ 6 ∷ []) [] (2 ∷ 0 ∷ 1 ∷ 5 ∷ [])) (Settle ∷ []) (Refused 9 ∷ [])
+    -- unsound: the time at VΓ
+    ∷ handed (handedIn standard 0 24 false 0 1 (replicate 4 5) zeroes [] (2 ∷ 0 ∷ 1 ∷ 5 ∷ [])) (Settle ∷ []) (Refused 9 ∷ [])
+    -- sound: the time below it
+    ∷ handed (handedIn standard 0 23 false 0 1 (replicate 4 5) zeroes [] (2 ∷ 0 ∷ 1 ∷ 5 ∷ [])) (Settle ∷ []) (Done 0 1 ∷ [])
+    -- unsound: a clock below its view's clock time
+    ∷ handed (handedIn standard 0 5 false 0 1 (5 ∷ 5 ∷ 5 ∷ 7 ∷ []) (0 ∷ 0 ∷ 0 ∷ 2 ∷ []) [] (2 ∷ 0 ∷ 1 ∷ 5 ∷ [])) (Settle ∷ []) (Refused 9 ∷ [])
+    -- sound: a clock at it
+    ∷ handed (handedIn standard 0 5 false 0 1 (5 ∷ 5 ∷ 5 ∷ 8 ∷ []) (0 ∷ 0 ∷ 0 ∷ 2 ∷ []) [] (2 ∷ 0 ∷ 1 ∷ 5 ∷ [])) (Settle ∷ []) (Done 0 1 ∷ [])
+    -- unsound: a clock at that of the next initial view
+    ∷ handed (handedIn standard 0 5 false 0 1 (5 ∷ 5 ∷ 5 ∷ 12 ∷ []) (0 ∷ 0 ∷ 0 ∷ 2 ∷ []) [] (2 ∷ 0 ∷ 1 ∷ 5 ∷ [])) (Settle ∷ []) (Refused 9 ∷ [])
+    -- unsound: a view whose clock time would wrap round to 0
+    ∷ handed (handedIn standard 0 5 false 0 1 zeroes (0 ∷ 0 ∷ 0 ∷ 4611686018427387904 ∷ []) [] (2 ∷ 0 ∷ 1 ∷ 5 ∷ [])) (Settle ∷ []) (Refused 9 ∷ [])
+    -- unsound: n out of range
+    ∷ handed (handedIn (planOf 3 2 4 6) 0 5 false 0 1 (replicate 4 5) zeroes [] (2 ∷ 0 ∷ 1 ∷ 5 ∷ [])) (Settle ∷ []) (Refused 9 ∷ [])
+    -- unsound: Γ below 2Δ
+    ∷ handed (handedIn (planOf 4 2 3 6) 0 5 false 0 1 (replicate 4 5) zeroes [] (2 ∷ 0 ∷ 1 ∷ 5 ∷ [])) (Settle ∷ []) (Refused 9 ∷ [])
+    -- unsound: no multiple of 3
+    ∷ handed (handedIn (planOf 4 2 4 5) 0 5 false 0 1 (replicate 4 5) zeroes [] (2 ∷ 0 ∷ 1 ∷ 5 ∷ [])) (Settle ∷ []) (Refused 9 ∷ [])
+    -- unsound: more than t faulty
+    ∷ handed (handedIn standard 12 5 false 0 1 (replicate 4 5) zeroes [] (2 ∷ 0 ∷ 1 ∷ 5 ∷ [])) (Settle ∷ []) (Refused 9 ∷ [])
+    -- unsound: too few tally words
+    ∷ handed (withTally (padded 23 []) (handedIn standard 0 5 false 0 1 (replicate 4 5) zeroes [] (2 ∷ 0 ∷ 1 ∷ 5 ∷ []))) (Settle ∷ []) (Refused 9 ∷ [])
+    -- unsound: too few network words
+    ∷ handed (withNetwork (padded 31 (2 ∷ 0 ∷ 1 ∷ 5 ∷ [])) (handedIn standard 0 5 false 0 1 (replicate 4 5) zeroes [] [])) (Settle ∷ []) (Refused 9 ∷ [])
+    ∷ []
+
+-- ---- one processor by itself
+
+oneProcessor : List Row
+oneProcessor =
+    -- a tick to the clock time of an initial view
+    oneMove 2 0 11 input.Tick ((0 ∷ []) ∷ (2 ∷ 3 ∷ 12 ∷ []) ∷ (1 ∷ 3 ∷ 2 ∷ []) ∷ (2 ∷ 3 ∷ 2 ∷ []) ∷ [])
+    -- a tick to that of another view
+    ∷ oneMove 2 0 3 input.Tick ((0 ∷ []) ∷ (2 ∷ 0 ∷ 4 ∷ []) ∷ [])
+    -- a view certificate above the present view
+    ∷ oneMove 2 0 2 (input.Vc 3) ((0 ∷ []) ∷ (2 ∷ 3 ∷ 12 ∷ []) ∷ (1 ∷ 3 ∷ 2 ∷ []) ∷ (2 ∷ 3 ∷ 2 ∷ []) ∷ [])
+    -- a quorum certificate above it, for a view that is not initial
+    ∷ oneMove 2 0 2 (input.Qc 1) ((0 ∷ []) ∷ (2 ∷ 2 ∷ 8 ∷ []) ∷ (2 ∷ 2 ∷ 2 ∷ []) ∷ [])
+    -- below it
+    ∷ oneMove 2 2 9 (input.Qc 1) ((0 ∷ []) ∷ (2 ∷ 2 ∷ 9 ∷ []) ∷ [])
+    -- a clock below its view's clock time; and 9 before 10
+    ∷ oneMove 2 1 3 (input.Qc 9) ((9 ∷ []) ∷ (2 ∷ 1 ∷ 3 ∷ []) ∷ [])
+    -- 10 before 11
+    ∷ oneMove 2 0 2 (input.Vc 7) ((10 ∷ []) ∷ (2 ∷ 0 ∷ 2 ∷ []) ∷ [])
+    -- a view that is not initial
+    ∷ oneMove 2 0 2 (input.Vc 1) ((11 ∷ []) ∷ (2 ∷ 0 ∷ 2 ∷ []) ∷ [])
+    -- a tick to VΓ
+    ∷ oneMove 2 5 23 input.Tick ((17 ∷ []) ∷ (2 ∷ 5 ∷ 23 ∷ []) ∷ [])
+    -- a number n or more, also with a tick
+    ∷ oneMove 4 0 2 input.Tick ((10 ∷ []) ∷ (4 ∷ 0 ∷ 2 ∷ []) ∷ [])
+    ∷ []
+
+-- ---- all of them
+
+pub refusals : List Row
+refusals = openings ++ naming ++ handedInRuns ++ oneProcessor
+
+pub refusals-hold : agreeing 0 refusals ≡ length refusals
+unfolding refusals openings naming handedInRuns oneProcessor definitions
+refusals-hold = refl

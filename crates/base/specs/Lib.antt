@@ -2,6 +2,7 @@
 pub mod Tests
 pub mod Choice
 pub mod Count
+pub mod Members
 pub mod Scan
 pub mod ScanLaws
 pub mod Sets

@@ -9,6 +9,7 @@ use native.Mathlib.Nat.{mul-le-mul-right}
 use lib.Dec.{T, eqb, ltb, eqb→eq, ltb→lt, lt→ltb}
 use lib.ListN.{length, getD, set, length-set}
 use lib.Seq.{getD-set-same, getD-set-other}
+use Rattle.base.specs.Members.{elem-left, elem-right, elem-cases}
 use Rattle.base.specs.Tests.{T-left, T-right, T-and, or-left, or-right, or-cases, le?, eq?, eq→eqb, by-cond}
 use Rattle.base.specs.Sets.{member}
 use Rattle.protocol.specs.Params as proto
@@ -23,7 +24,7 @@ use Rattle.model.specs.Quantities.{lead, nextInitial, clockTime, endTime}
 use Rattle.model.specs.State.{clockOf, viewOf, isCorrect, enteredWord, heardWord, marksWord, markBit, slot, added}
 use Rattle.model.specs.Moves.{toCorrect, entryClock, entryMessages, certificate}
 use Rattle.liveness.proofs.TallyLaws.{heard-low, length-added, added-other, added-member, added-below}
-use Rattle.liveness.proofs.Flight.{Sent, In, stamped, in-left, in-right, in-cases}
+use Rattle.liveness.proofs.Flight.{Sent, In, stamped, sentAs}
 use Rattle.liveness.proofs.Sending.{signature, signature-is, certificate-is, apart, meant, signature-meant, in-stamped, stamped-in, elem-correct, correct-elem, At, entry-sends, entry-sent}
 use Rattle.liveness.proofs.Link.{Planned, params, correct-below, gamma-positive, to-starts, from-starts, flight, Books, Ready, Below}
 
@@ -113,20 +114,20 @@ module _ (r : Run) (t : List ℕ) (ok : Planned (r .plan) (r .faulty)) {P : Proc
       entered-old = λ u q x. or-left (P .entered u q) (eqb u w && eqb q p) x;
       entered-new = λ u q x. ⊎-elim (λ y. inl y) (λ y. inr (eqb→eq u w (T-left (eqb u w) _ y), eqb→eq q p (T-right (eqb u w) _ y)))
           (or-cases (P .entered u q) (eqb u w && eqb q p) x);
-      sent = λ d l i. in-right (signature d w p) now ys (stamped now sent-to) (stamped-in (signature d w p) now sent-to
+      sent = λ d l i. elem-right (sentAs (signature d w p) now) ys (stamped now sent-to) (stamped-in (signature d w p) now sent-to
           (correct-elem r (signature d w p) (entryMessages (r .plan) p w) (entry-sends (r .plan) d w p (from-starts (r .plan) (r .faulty) ok d w i))
           (subst (λ (x : ℕ). T (isCorrect r x)) (sym (signature-meant (r .plan) d w p)) l)));
-      signature-old = λ d u q s x. ⊎-elim (λ y. in-left (signature d u q) s ys (stamped now sent-to) y)
+      signature-old = λ d u q s x. ⊎-elim (λ y. elem-left (sentAs (signature d u q) s) ys (stamped now sent-to) y)
           (λ y. absurd (apart d (y .0) u (y .1) q p (y .2))) (gone (signature d u q) s x);
       signature-new = λ d u q s x. ⊎-elim (λ y. inl (kept (signature d u q) s y))
           (λ y. let a = sent-is (signature d u q) s y in let e = signature-is d (a .0) u w q p (a .1) in
           inr (e .1, e .2, a .2, a .3, to-starts (r .plan) (r .faulty) ok d w (subst (λ (b : Bool). At (r .plan) b w) (sym (e .0)) (a .4))))
-          (in-cases (signature d u q) s ys (stamped now sent-to) x);
-      certificate-old = λ d u q s x. ⊎-elim (λ y. inl (in-left (certificate d u q) s ys (stamped now sent-to) y))
+          (elem-cases (sentAs (signature d u q) s) ys (stamped now sent-to) x);
+      certificate-old = λ d u q s x. ⊎-elim (λ y. inl (elem-left (sentAs (certificate d u q) s) ys (stamped now sent-to) y))
           (λ y. let e = certificate-is d (y .0) u (y .1) q p (y .2) in inr (e .2, rw (e .0, e .1) (y .3))) (gone (certificate d u q) s x);
       certificate-new = λ d u q s x. ⊎-elim (λ y. kept (certificate d u q) s y)
           (λ y. let a = sent-is (certificate d u q) s y in absurd (apart (a .0) d w u p q (sym (a .1))))
-          (in-cases (certificate d u q) s ys (stamped now sent-to) x);
+          (elem-cases (sentAs (certificate d u q) s) ys (stamped now sent-to) x);
     }
 
     -- no clock is left standing at an initial view that is not entered

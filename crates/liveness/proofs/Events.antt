@@ -1,5 +1,5 @@
 -- Each event that does not settle the network is a run of the protocol. Assumes nothing.
-use mathlib.Core.Path.{_≡_, refl, sym, _∙_, subst, pathJ}
+use mathlib.Core.Path.{_≡_, refl, sym, _∙_, subst, pathJ, ap}
 use mathlib.Core.Bool.{Bool, true, false, _&&_, cond}
 use mathlib.Core.Logic.{_⊎_, inl, inr, ⊎-elim}
 use mathlib.Core.List.{List, [], _∷_, _++_}
@@ -9,6 +9,7 @@ use native.Mathlib.Nat.{lt-of-mul-lt-mul-right}
 use lib.Dec.{T, leb, ltb, leb→le, le→leb, ltb→lt, lt→ltb}
 use lib.ListN.{length}
 use lib.Seq.{getD-set-same}
+use Rattle.base.specs.Members.{elem-left, elem-right, elem-cases, elem-without, elem-with}
 use Rattle.base.specs.Tests.{T-right, T-and, not-not, le?, by-cond}
 use Rattle.base.specs.Count.{count, count-ext}
 use Rattle.base.specs.ScanLaws.{first-at}
@@ -25,12 +26,12 @@ use Rattle.model.specs.declared.Message.the-variants.{View, Vote, Vc, Qc}
 use Rattle.model.specs.declared.Event.{Event}
 use Rattle.model.specs.declared.Event.the-variants.{Deliver, Sign, Show, Settle, Tick}
 use Rattle.model.specs.Quantities.{lead, initial}
-use Rattle.model.specs.State.{State, After, withHeld, clockOf, viewOf, isCorrect, enteredWord, word, checkOf, refused}
+use Rattle.model.specs.State.{State, removed, After, withHeld, clockOf, viewOf, isCorrect, enteredWord, word, checkOf, refused}
 use Rattle.model.specs.Moves.{Change, still, entryClock, Entry, stay, into, needed, certificate, entering, taking, hearing, handling, made}
 use Rattle.model.specs.Checks.{isAt, placeOf, notHeld, exists, reachesEnd, overfull}
 use Rattle.model.specs.Events.{without, delivering, signing, tickChecks, tickOnce, continued, ticks, tickRun, checks, effect, applied}
 use Rattle.liveness.proofs.TallyLaws.{length-added}
-use Rattle.liveness.proofs.Flight.{Sent, In, stamped, in-left, in-cases, in-without, in-with, in-right, Found, found-at}
+use Rattle.liveness.proofs.Flight.{Sent, In, stamped, sentAs, Found, found-at}
 use Rattle.liveness.proofs.Sending.{signature, apart, certificate-is, At}
 use Rattle.liveness.proofs.Link.{Planned, params, correct-below, to-starts, flight, Wire, wire-posted, length-posted, rest, wire-removed, length-removed}
 use Rattle.liveness.proofs.Enters.{entrants, enter-books, enter-below, sent-to, entered, enter-ready, entry-max}
@@ -83,10 +84,10 @@ module _ (s : State) (ok : Planned (s .run .plan) (s .run .faulty)) (x : Tracked
         arrives plan faulty ok x (made s₁ (still (s₁ .run) (s .tally))) refl refl (ys ++ []) (x .processors) (x .tally)
         (wire-posted wire (s .run .time) [] fits) (x .books)
         (more none (passes (record {
-          signature-old = λ d u r t i. ⊎-elim (λ y. in-left (signature d u r) t ys [] y) (λ y. absurd (apart d (y .0) u (y .1) r (y .2) (y .3)))
+          signature-old = λ d u r t i. ⊎-elim (λ y. elem-left (sentAs (signature d u r) t) ys [] y) (λ y. absurd (apart d (y .0) u (y .1) r (y .2) (y .3)))
               (gone (signature d u r) t i);
           signature-new = λ d u r t i. kept (signature d u r) t (back (signature d u r) t i);
-          certificate-old = λ d u r t i. ⊎-elim (λ y. inl (in-left (certificate d u r) t ys [] y))
+          certificate-old = λ d u r t i. ⊎-elim (λ y. inl (elem-left (sentAs (certificate d u r) t) ys [] y))
               (λ y. let e = certificate-is d (y .0) u (y .1) r (y .2) (y .3) in
               inr (rw (e .0, e .1, e .2) (omega (arith, x .books .view (y .2), y .4)))) (gone (certificate d u r) t i);
           certificate-new = λ d u r t i. kept (certificate d u r) t (back (certificate d u r) t i);
@@ -94,7 +95,7 @@ module _ (s : State) (ok : Planned (s .run .plan) (s .run .faulty)) (x : Tracked
         (x .ready) (x .below) refl (length-posted wire (s .run .time) [] fits ∙ same-length)
       where
         back : (m : Message) (t : ℕ) → In m t (ys ++ []) → In m t ys
-        back m t i = ⊎-elim (λ y. y) (λ y. absurd y) (in-cases m t ys [] i)
+        back m t i = ⊎-elim (λ y. y) (λ y. absurd y) (elem-cases (sentAs m t) ys [] i)
 
     -- a certificate that exists reaches a correct processor, which enters a view or is past it
     module _ (q : Bool) (w p : ℕ) (c : T (isCorrect (s .run) p)) (at : At plan q w)
@@ -182,43 +183,62 @@ module _ (s : State) (ok : Planned (s .run .plan) (s .run .faulty)) (x : Tracked
     left = rest (x .wire) found
 
     kept-left : (m' : Message) (t : ℕ) → In m' t left → In m' t (x .messages)
-    kept-left m' t i = subst (In m' t) (sym (found .split)) (in-with m' t (found .ahead) (found .behind) (record { message = m; time = found .time }) i)
+    kept-left m' t i = subst (In m' t) (sym (found .split)) (elem-with (sentAs m' t) (found .ahead) (found .behind) (sentAs m (found .time)) i)
 
     gone-one : (m' : Message) (t : ℕ) → In m' t (x .messages) → In m' t left ⊎ (m' ≡ m)
-    gone-one m' t i = in-without m' t (found .ahead) (found .behind) (record { message = m; time = found .time }) (subst (In m' t) (found .split) i)
+    gone-one m' t i = ⊎-elim (λ y. inl y) (λ e. inr (ap (λ (y : Sent). y .message) e))
+        (elem-without (sentAs m' t) (found .ahead) (found .behind) (sentAs m (found .time)) (subst (In m' t) (found .split) i))
 
     -- it was in flight
     was-there : In m (found .time) (x .messages)
     was-there = subst (In m (found .time)) (sym (found .split))
-        (in-right m (found .time) (found .ahead) (record { message = m; time = found .time } ∷ found .behind) (inl (refl, refl)))
+        (elem-right (sentAs m (found .time)) (found .ahead) (sentAs m (found .time) ∷ found .behind) (inl refl))
+
+    -- the run without it, and its network
+    abbrev after-it : ℕ
+    after-it = s .run .held - 1
+
+    abbrev network-after : List ℕ
+    network-after = removed (s .network) (s .run .held) (placeOf s m)
+
+    wire-after : Wire network-after after-it left
+    wire-after = wire-removed (x .wire) found
+
+    length-after : length network-after ≡ length (s .network)
+    length-after = length-removed (x .wire) found
+
+  signature-leads : (q : Bool) (w p : ℕ) (in-post : T (notHeld s (signature q w p)) → ⊥) → (p < plan .n) × (w < plan .views)
+      → (T (overfull (without s (signature q w p)) (hearing q (without s (signature q w p) .run) (s .tally) w p)) → ⊥)
+      → To (made (without s (signature q w p)) (hearing q (without s (signature q w p) .run) (s .tally) w p))
+  unfolding without proto.lead proto.row
+  signature-leads q w p in-post n fits =
+      let m : Message = signature q w p in
+      let there = was-there m in-post in
+      hear-leads (after-it m in-post) (network-after m in-post) (left m in-post) (wire-after m in-post) (length-after m in-post) (kept-left m in-post)
+      q w p (n .1) (n .0) (gone-one m in-post) (inr (found m in-post .time, there)) (x .holds .flight .signed q w p (found m in-post .time) there .1) fits
+
+  -- a certificate in flight exists
+  backed-exists : (q : Bool) (w p t : ℕ) → In (certificate q w p) t (x .messages) → Exists π (x .processors) (x .tally) q w × T (isCorrect (s .run) p)
+  backed-exists q w p t i = let b = x .holds .flight .backed q w p t i in (inl (x .holds .tally .formed-led q w (b .0), b .0), b .1)
 
   deliver-leads : (m : Message) → Passes (checks (Deliver m) s) → To (made (without s m) (delivering s m))
-  unfolding checks without delivering handling reachesEnd proto.lead proto.row
-  deliver-leads (View w p) c =
-      let n = named-within plan p w (c .1 .0) in
-      let f = found (View w p) (c .1 .1 .1 .0) in
-      hear-leads (s .run .held - 1) _ (rest (x .wire) f) (wire-removed (x .wire) f) (length-removed (x .wire) f) (kept-left (View w p) (c .1 .1 .1 .0))
-      false w p (n .1) (n .0) (gone-one (View w p) (c .1 .1 .1 .0)) (inr (f .time, was-there (View w p) (c .1 .1 .1 .0)))
-      (x .holds .flight .signed false w p (f .time) (was-there (View w p) (c .1 .1 .1 .0)) .1) (c .1 .1 .1 .1 .1 .0)
-  deliver-leads (Vote w p) c =
-      let n = named-within plan p w (c .1 .0) in
-      let f = found (Vote w p) (c .1 .1 .1 .0) in
-      hear-leads (s .run .held - 1) _ (rest (x .wire) f) (wire-removed (x .wire) f) (length-removed (x .wire) f) (kept-left (Vote w p) (c .1 .1 .1 .0))
-      true w p (n .1) (n .0) (gone-one (Vote w p) (c .1 .1 .1 .0)) (inr (f .time, was-there (Vote w p) (c .1 .1 .1 .0)))
-      (x .holds .flight .signed true w p (f .time) (was-there (Vote w p) (c .1 .1 .1 .0)) .1) (c .1 .1 .1 .1 .1 .0)
+  unfolding checks without delivering handling reachesEnd
+  deliver-leads (View w p) c = signature-leads false w p (c .1 .1 .1 .0) (named-within plan p w (c .1 .0)) (c .1 .1 .1 .1 .1 .0)
+  deliver-leads (Vote w p) c = signature-leads true w p (c .1 .1 .1 .0) (named-within plan p w (c .1 .0)) (c .1 .1 .1 .1 .1 .0)
   deliver-leads (Vc w p) c =
-      let f = found (Vc w p) (c .1 .1 .1 .0) in
-      let b = x .holds .flight .backed false w p (f .time) (was-there (Vc w p) (c .1 .1 .1 .0)) in
-      view-certificate-leads (s .run .held - 1) _ (rest (x .wire) f) (wire-removed (x .wire) f) (length-removed (x .wire) f)
-      (kept-left (Vc w p) (c .1 .1 .1 .0))
-      w p (b .1) (not-not (initial plan w) (c .1 .1 .0)) (inl (x .holds .tally .formed-led false w (b .0), b .0)) (gone-one (Vc w p) (c .1 .1 .1 .0))
-      (c .1 .1 .1 .1 .0) (c .1 .1 .1 .1 .1 .0)
+      let m : Message = Vc w p in
+      let in-post : T (notHeld s m) → ⊥ = c .1 .1 .1 .0 in
+      let b = backed-exists false w p (found m in-post .time) (was-there m in-post) in
+      view-certificate-leads (after-it m in-post) (network-after m in-post) (left m in-post) (wire-after m in-post) (length-after m in-post)
+      (kept-left m in-post)
+      w p (b .1) (not-not (initial plan w) (c .1 .1 .0)) (b .0) (gone-one m in-post) (c .1 .1 .1 .1 .0) (c .1 .1 .1 .1 .1 .0)
   deliver-leads (Qc w p) c =
-      let f = found (Qc w p) (c .1 .1 .1 .0) in
-      let b = x .holds .flight .backed true w p (f .time) (was-there (Qc w p) (c .1 .1 .1 .0)) in
-      quorum-certificate-leads (s .run .held - 1) _ (rest (x .wire) f) (wire-removed (x .wire) f) (length-removed (x .wire) f)
-      (kept-left (Qc w p) (c .1 .1 .1 .0))
-      w p (b .1) (inl (x .holds .tally .formed-led true w (b .0), b .0)) (gone-one (Qc w p) (c .1 .1 .1 .0)) (c .1 .1 .1 .1 .0) (c .1 .1 .1 .1 .1 .0)
+      let m : Message = Qc w p in
+      let in-post : T (notHeld s m) → ⊥ = c .1 .1 .1 .0 in
+      let b = backed-exists true w p (found m in-post .time) (was-there m in-post) in
+      quorum-certificate-leads (after-it m in-post) (network-after m in-post) (left m in-post) (wire-after m in-post) (length-after m in-post)
+      (kept-left m in-post)
+      w p (b .1) (b .0) (gone-one m in-post) (c .1 .1 .1 .1 .0) (c .1 .1 .1 .1 .1 .0)
 
   -- ---- sign
 

@@ -1,13 +1,14 @@
 -- The network's words as a list of messages in flight, and what posting and removing do to the list. Assumes nothing.
 use mathlib.Core.Path.{_≡_, refl, sym, ap, _∙_}
 use mathlib.Core.Bool.{_&&_}
-use mathlib.Core.Logic.{_⊎_, inl, inr, ⊎-elim}
+use mathlib.Core.Logic.{inl, inr}
 use mathlib.Core.List.{List, [], _∷_, _++_, append-assoc}
 use Prim.Native.Nat.{ℕ, zero, suc, _+_, _-_, _*_, _<_}
 use native.Mathlib.Omega.{arith}
 use lib.Dec.{T, eqb, eqb→eq}
 use lib.ListN.{length, take, drop, replicate, length-append, length-replicate}
 use lib.Seq.{take-at, drop-at, drop-drop}
+use Rattle.base.specs.Members.{Elem}
 use Rattle.base.specs.Tests.{T-left, T-right}
 use Rattle.model.specs.declared.Message.{Message}
 use Rattle.model.specs.declared.Message.the-variants.{View, Vote, Vc, Qc}
@@ -19,6 +20,9 @@ use Rattle.model.specs.Checks.{isAt}
 pub record Sent : Type 0 where
   pub message : Message
   pub time : ℕ
+
+abbrev pub sentAs : Message → ℕ → Sent
+sentAs m t = record { message = m; time = t }
 
 -- its words, and those of a list of them
 abbrev pub four : Sent → List ℕ
@@ -35,7 +39,7 @@ laid xs z = allWords xs ++ replicate z 0
 -- messages that are sent now
 abbrev pub stamped : ℕ → List Message → List Sent
 stamped now [] = []
-stamped now (m ∷ ms) = record { message = m; time = now } ∷ stamped now ms
+stamped now (m ∷ ms) = sentAs m now ∷ stamped now ms
 
 pub length-words : (xs : List Sent) → length (allWords xs) ≡ messageWords * length xs
 length-words [] = refl
@@ -98,36 +102,13 @@ removed-laid a b x z =
     let rest : drop (messageWords * h) (all ++ replicate z 0) ≡ replicate z 0 = drop-at all (replicate z 0) (messageWords * h) k in
     let zeros : replicate {A = ℕ} (messageWords + z) 0 ≡ 0 ∷ 0 ∷ 0 ∷ 0 ∷ replicate z 0 = let s : messageWords + z ≡ suc (suc (suc (suc z))) =
     omega arith in rw s in
-    rw (before, up-to, behind, rest, append-assoc, words-append, zeros)
+    rw (before, up-to, behind, rest, append-assoc (w ++ allWords b) (replicate messageWords 0) (replicate z 0), words-append, zeros)
 
 -- ---- membership
 
 -- message m, sent at time s, is in flight
 abbrev pub In : Message → ℕ → List Sent → Type 0
-In m s [] = ⊥
-In m s (x ∷ xs) = ((m ≡ x .message) × (s ≡ x .time)) ⊎ In m s xs
-
-module _ (m : Message) (s : ℕ) where
-  pub in-left : (a b : List Sent) → In m s a → In m s (a ++ b)
-  in-left [] b i = absurd i
-  in-left (x ∷ a) b (inl e) = inl e
-  in-left (x ∷ a) b (inr i) = inr (in-left a b i)
-
-  pub in-right : (a b : List Sent) → In m s b → In m s (a ++ b)
-  in-right [] b i = i
-  in-right (x ∷ a) b i = inr (in-right a b i)
-
-  pub in-cases : (a b : List Sent) → In m s (a ++ b) → In m s a ⊎ In m s b
-  in-cases [] b i = inr i
-  in-cases (x ∷ a) b (inl e) = inl (inl e)
-  in-cases (x ∷ a) b (inr i) = ⊎-elim (λ y. inl (inr y)) (λ y. inr y) (in-cases a b i)
-
-  -- one in the middle goes
-  pub in-without : (a b : List Sent) (x : Sent) → In m s (a ++ x ∷ b) → In m s (a ++ b) ⊎ (m ≡ x .message)
-  in-without a b x i = ⊎-elim (λ y. inl (in-left a b y)) (λ y. ⊎-elim (λ e. inr (e .0)) (λ z. inl (in-right a b z)) y) (in-cases a (x ∷ b) i)
-
-  pub in-with : (a b : List Sent) (x : Sent) → In m s (a ++ b) → In m s (a ++ x ∷ b)
-  in-with a b x i = ⊎-elim (λ y. in-left a (x ∷ b) y) (λ y. in-right a (x ∷ b) (inr y)) (in-cases a b i)
+In m s xs = Elem (sentAs m s) xs
 
 four-on : (i : ℕ) → messageWords * suc i ≡ suc (suc (suc (suc (messageWords * i))))
 four-on i = omega arith
@@ -143,7 +124,7 @@ pub record Read (xs : List Sent) (z i : ℕ) : Type 0 where
 
 pub read-at : (xs : List Sent) (z i : ℕ) → i < length xs → Read xs z i
 read-at [] z i l = absurd (omega arith)
-read-at (x ∷ xs) z zero l = record { sent = x; within = inl (refl, refl); kind = refl; view = refl; processor = refl; time = refl }
+read-at (x ∷ xs) z zero l = record { sent = x; within = inl refl; kind = refl; view = refl; processor = refl; time = refl }
 read-at (x ∷ xs) z (suc i) l = go (read-at xs z i (omega arith))
   where
     go : Read xs z i → Read (x ∷ xs) z (suc i)
@@ -159,7 +140,7 @@ read-at (x ∷ xs) z (suc i) l = go (read-at xs z i (omega arith))
 -- a message in flight stands at some place
 pub stands-at : (m : Message) (s : ℕ) (xs : List Sent) (z : ℕ) → In m s xs → (i : ℕ) × (i < length xs) × (sentAt (laid xs z) i ≡ s)
 stands-at m s [] z i = absurd i
-stands-at m s (x ∷ xs) z (inl e) = (0, omega arith, sym (e .1))
+stands-at m s (x ∷ xs) z (inl e) = (0, omega arith, sym (ap (λ (y : Sent). y .time) e))
 stands-at m s (x ∷ xs) z (inr i) =
     let r = stands-at m s xs z i in
     let e : messageWords * suc (r .0) + 3 ≡ suc (suc (suc (suc (messageWords * r .0 + 3)))) = omega arith in
@@ -191,12 +172,12 @@ pub record Found (xs : List Sent) (m : Message) (i : ℕ) : Type 0 where
   pub ahead : List Sent
   pub behind : List Sent
   pub time : ℕ
-  pub split : xs ≡ ahead ++ record { message = m; time = time } ∷ behind
+  pub split : xs ≡ ahead ++ sentAs m time ∷ behind
   pub place : length ahead ≡ i
 
 pub found-at : (xs : List Sent) (z : ℕ) (m : Message) (i : ℕ) → i < length xs → T (isAt (laid xs z) m i) → Found xs m i
 found-at [] z m i l t = absurd (omega arith)
-found-at (x ∷ xs) z m zero l t = record { ahead = []; behind = xs; time = x .time; split = λ j. record { message = e j; time = x .time } ∷ xs; place = refl }
+found-at (x ∷ xs) z m zero l t = record { ahead = []; behind = xs; time = x .time; split = λ j. sentAs (e j) (x .time) ∷ xs; place = refl }
   where
     e : x .message ≡ m
     e = same-message (x .message) m

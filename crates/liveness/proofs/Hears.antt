@@ -7,6 +7,7 @@ use Prim.Native.Nat.{ℕ, _+_, _-_, _≤_, _<_}
 use native.Mathlib.Omega.{arith}
 use lib.Dec.{T, eqb, leb, eqb→eq, leb→le, le→leb, T-not, not-T}
 use lib.ListN.{length}
+use Rattle.base.specs.Members.{elem-left, elem-right, elem-cases}
 use Rattle.base.specs.Tests.{passes?, T-left, T-right, T-and, or-left, or-right, or-cases, eq→eqb, by-cond}
 use Rattle.base.specs.Count.{count, count-ext}
 use Rattle.base.specs.Sets.{member, insert, size}
@@ -22,7 +23,7 @@ use Rattle.model.specs.Quantities.{lead}
 use Rattle.model.specs.State.{viewOf, isCorrect, enteredWord, heardWord, marksWord, markBit, slot, word, added}
 use Rattle.model.specs.Moves.{toCorrect, needed, forms, certificate, toEach}
 use Rattle.liveness.proofs.TallyLaws.{heard-low, length-added, added-same, added-other, added-member, added-below}
-use Rattle.liveness.proofs.Flight.{Sent, In, stamped, in-left, in-right, in-cases}
+use Rattle.liveness.proofs.Flight.{Sent, In, stamped, sentAs}
 use Rattle.liveness.proofs.Sending.{signature, signature-is, certificate-is, apart, meant, certificate-meant, in-stamped, stamped-in, elem-correct, correct-elem, each-gets, each-got}
 use Rattle.liveness.proofs.Link.{Planned, params, correct-below, lead-is, flight, Books}
 
@@ -220,18 +221,18 @@ module _ (q : Bool) (r : Run) (t : List ℕ) (ok : Planned (r .plan) (r .faulty)
           (or-cases (L .formed d u) (formed-here && (eqb u w && eqb (markBit d) (markBit q))) y);
       formed-now = λ e a. ⊎-elim (λ z. or-left (L .formed q w) (formed-here && (eqb w w && eqb (markBit q) (markBit q))) z)
           (λ z. mark-made (forms-if (rw counted at (enough-needed (r .plan) (r .faulty) ok q _ e)) z (allowed-here a))) (passes? (L .formed q w));
-      signature-old = λ d u x s y. ⊎-elim (λ z. inl (in-left (signature d u x) s ys (stamped now sent-of) z)) (λ z. inr (signature-is d q u w x p z))
+      signature-old = λ d u x s y. ⊎-elim (λ z. inl (elem-left (sentAs (signature d u x) s) ys (stamped now sent-of) z)) (λ z. inr (signature-is d q u w x p z))
           (gone (signature d u x) s y);
       signature-new = λ d u x s y. ⊎-elim (λ z. kept (signature d u x) s z)
           (λ z. let a = sent-is (signature d u x) s z in absurd (apart d q u w x (a .2 .0) (a .2 .1)))
-          (in-cases (signature d u x) s ys (stamped now sent-of) y);
-      certificate-old = λ d u x s y. ⊎-elim (λ z. in-left (certificate d u x) s ys (stamped now sent-of) z) (λ z. absurd (apart q d w u p x (sym z)))
+          (elem-cases (sentAs (signature d u x) s) ys (stamped now sent-of) y);
+      certificate-old = λ d u x s y. ⊎-elim (λ z. elem-left (sentAs (certificate d u x) s) ys (stamped now sent-of) z) (λ z. absurd (apart q d w u p x (sym z)))
           (gone (certificate d u x) s y);
       certificate-new = λ d u x s y. ⊎-elim (λ z. inl (kept (certificate d u x) s z))
           (λ z. let a = sent-is (certificate d u x) s z in let e = certificate-is d q u w x (a .2 .0) (a .2 .1) in
           inr (e .0, e .1, a .1, rw (e .2) (a .2 .2), forms-first (a .0), mark-made (a .0)))
-          (in-cases (certificate d u x) s ys (stamped now sent-of) y);
-      sent = λ no' f x c. in-right (certificate q w x) now ys (stamped now sent-of) (chosen-in (certificate q w x) now now formed-here all-of
+          (elem-cases (sentAs (certificate d u x) s) ys (stamped now sent-of) y);
+      sent = λ no' f x c. elem-right (sentAs (certificate q w x) now) ys (stamped now sent-of) (chosen-in (certificate q w x) now now formed-here all-of
           (⊎-elim (λ z. absurd (no' z)) (λ z. T-left formed-here _ z) (or-cases (L .formed q w) (formed-here && (eqb w w && eqb (markBit q) (markBit q))) f))
           (stamped-in (certificate q w x) now all-of (correct-elem r (certificate q w x) (toEach q w (r .plan .n))
           (each-gets q w (r .plan .n) x (correct-below (r .plan) (r .faulty) x c))

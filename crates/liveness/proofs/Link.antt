@@ -20,7 +20,7 @@ use Rattle.model.specs.declared.Message.{Message}
 use Rattle.model.specs.Quantities.{nLeast, nMost, viewsLeast, rowWords, messageWords, tolerated, perLeader, lead, initial, nextInitial, clockTime, endTime, correct}
 use Rattle.model.specs.State.{enteredWord, heardWord, marksWord, markBit, word, posted, removed, capacity}
 use Rattle.model.specs.Moves.{certificate}
-use Rattle.liveness.proofs.Flight.{Sent, In, laid, stamped, length-laid, length-stamped, posted-laid, removed-laid, Found}
+use Rattle.liveness.proofs.Flight.{sentAs, Sent, In, laid, stamped, length-laid, length-stamped, posted-laid, removed-laid, Found}
 use Rattle.liveness.proofs.Sending.{signature, At}
 
 -- ---- the plan as the protocol's parameters
@@ -152,13 +152,13 @@ module _ {ws : List ℕ} {held : ℕ} {xs : List Sent} (wire : Wire ws held xs) 
       spare = messageWords + wire .spare;
       words =
           rw (wire .words, wire .number, found .split, ← found .place)
-          (removed-laid (found .ahead) (found .behind) (record { message = m; time = found .time }) (wire .spare));
+          (removed-laid (found .ahead) (found .behind) (sentAs m (found .time)) (wire .spare));
       number = omega (
         arith,
         wire .number,
         ap length (found .split),
         length-append (found .ahead)
-            (record { message = m; time = found .time } ∷ found .behind),
+            (sentAs m (found .time) ∷ found .behind),
         length-append (found .ahead) (found .behind),
       );
     }
@@ -169,7 +169,7 @@ module _ {ws : List ℕ} {held : ℕ} {xs : List Sent} (wire : Wire ws held xs) 
         ap length (wire-removed .words) ∙ length-laid rest (messageWords + wire .spare)
         ∙ omega (
           arith,
-          length-append (found .ahead) (record { message = m; time = found .time } ∷ found .behind),
+          length-append (found .ahead) (sentAs m (found .time) ∷ found .behind),
           length-append (found .ahead)
               (found .behind),
           wire-length,

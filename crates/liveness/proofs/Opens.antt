@@ -10,6 +10,7 @@ use lib.Dec.{T, eqb, leb, ltb, eqb→eq, leb→le, le→leb, ltb→lt}
 use lib.ListN.{length, getD, set, drop, replicate, length-append, length-drop, length-replicate, getD-replicate, List·getD-append}
 use lib.Pow.{pow-pos}
 use lib.Seq.{set-getD}
+use Rattle.base.specs.Members.{Elem, elem-left, elem-right, elem-cases}
 use Rattle.base.specs.Tests.{T-left, T-right, T-and, T-true, T-false, T-iff, or-left, or-right, or-cases, not-not, le?, eq→eqb, by-cond}
 use Rattle.base.specs.Count.{count, count-mono}
 use Rattle.base.specs.ScanLaws.{some-by, length-listed, getD-listed}
@@ -31,7 +32,7 @@ use Rattle.model.specs.Checks.{supporting, startTooHigh, tooFarAhead, nOutside,
 use Rattle.model.specs.Opening.{startClocks, blankRun, blank, firstEntry, opened, openingChecks}
 use Rattle.liveness.proofs.TallyLaws.{length-added, added-member, added-below, heard-low}
 use Rattle.liveness.proofs.Flight.{stamped}
-use Rattle.liveness.proofs.Sending.{signature, signature-is, apart, meant, signature-meant, Elem, elem-left, elem-right, elem-cases, in-stamped, stamped-in, elem-correct, correct-elem, At, entry-sends, entry-sent}
+use Rattle.liveness.proofs.Sending.{signature, signature-is, apart, meant, signature-meant, in-stamped, stamped-in, elem-correct, correct-elem, At, entry-sends, entry-sent}
 use Rattle.liveness.proofs.Link.{Planned, params, correct-below, to-initial, flight, Wire, wire-posted, length-posted, Books}
 use Rattle.liveness.proofs.Enters.{entry-max}
 use Rattle.liveness.proofs.Tracks.{Tracked}

@@ -6,6 +6,7 @@ use mathlib.Core.List.{List, [], _∷_, _++_}
 use Prim.Native.Nat.{ℕ, zero, suc, _+_, _<_}
 use native.Mathlib.Omega.{arith}
 use lib.Dec.{T}
+use Rattle.base.specs.Members.{Elem, elem-left, elem-right, elem-cases}
 use Rattle.base.specs.Tests.{le?, by-cond}
 use Rattle.model.specs.declared.Plan.{Plan}
 use Rattle.model.specs.declared.Message.{Message}
@@ -14,7 +15,7 @@ use Rattle.model.specs.declared.Run.{Run}
 use Rattle.model.specs.Quantities.{lead, initial}
 use Rattle.model.specs.State.{isCorrect, kindOf, viewIn, processorIn, addressee}
 use Rattle.model.specs.Moves.{toCorrect, entryMessages, certificate, toEach}
-use Rattle.liveness.proofs.Flight.{In, stamped}
+use Rattle.liveness.proofs.Flight.{sentAs, Sent, In, stamped}
 
 -- what a processor signs at a stage: its view message, or its vote
 abbrev pub signature : Bool → ℕ → ℕ → Message
@@ -51,34 +52,16 @@ pub certificate-meant : (plan : Plan) (d : Bool) (w p : ℕ) → meant plan (cer
 certificate-meant plan false w p = refl
 certificate-meant plan true w p = refl
 
--- ---- members of a list of messages
-
-abbrev pub Elem : Message → List Message → Type 0
-Elem m [] = ⊥
-Elem m (x ∷ xs) = (m ≡ x) ⊎ Elem m xs
-
-pub elem-left : (m : Message) (a b : List Message) → Elem m a → Elem m (a ++ b)
-elem-left m [] b i = absurd i
-elem-left m (x ∷ a) b (inl e) = inl e
-elem-left m (x ∷ a) b (inr i) = inr (elem-left m a b i)
-
-pub elem-right : (m : Message) (a b : List Message) → Elem m b → Elem m (a ++ b)
-elem-right m [] b i = i
-elem-right m (x ∷ a) b i = inr (elem-right m a b i)
-
-pub elem-cases : (m : Message) (a b : List Message) → Elem m (a ++ b) → Elem m a ⊎ Elem m b
-elem-cases m [] b i = inr i
-elem-cases m (x ∷ a) b (inl e) = inl (inl e)
-elem-cases m (x ∷ a) b (inr i) = ⊎-elim (λ y. inl (inr y)) (λ y. inr y) (elem-cases m a b i)
+-- ---- messages that are sent
 
 pub in-stamped : (m : Message) (s now : ℕ) (ms : List Message) → In m s (stamped now ms) → (s ≡ now) × Elem m ms
 in-stamped m s now [] i = absurd i
-in-stamped m s now (x ∷ ms) (inl e) = (e .1, inl (e .0))
+in-stamped m s now (x ∷ ms) (inl e) = (ap (λ (y : Sent). y .time) e, inl (ap (λ (y : Sent). y .message) e))
 in-stamped m s now (x ∷ ms) (inr i) = let r = in-stamped m s now ms i in (r .0, inr (r .1))
 
 pub stamped-in : (m : Message) (now : ℕ) (ms : List Message) → Elem m ms → In m now (stamped now ms)
 stamped-in m now [] i = absurd i
-stamped-in m now (x ∷ ms) (inl e) = inl (e, refl)
+stamped-in m now (x ∷ ms) (inl e) = inl (ap (λ (y : Message). sentAs y now) e)
 stamped-in m now (x ∷ ms) (inr i) = inr (stamped-in m now ms i)
 
 pub elem-correct : (r : Run) (m : Message) (ms : List Message) → Elem m (toCorrect r ms) → Elem m ms × T (isCorrect r (meant (r .plan) m))

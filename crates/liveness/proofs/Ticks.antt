@@ -24,7 +24,7 @@ use Rattle.model.specs.State.{State, clockOf, viewOf, isCorrect, sentAt, entere
 use Rattle.model.specs.Moves.{Change, changed, still, also, Entry, stay, into, byClock, entering, taking, entries, advanced, arrival, arrivals, made}
 use Rattle.model.specs.Checks.{overdueAt, overdue, reachesEnd, overfull}
 use Rattle.liveness.proofs.TallyLaws.{length-added}
-use Rattle.liveness.proofs.Flight.{Sent, In, stamped, stands-at}
+use Rattle.liveness.proofs.Flight.{sentAs, Sent, In, stamped, stands-at}
 use Rattle.liveness.proofs.Link.{Planned, params, correct-below, gamma-positive, to-initial, from-initial, flight, Wire, wire-posted, length-posted, Books, Below}
 use Rattle.liveness.proofs.Enters.{entrants, enter-books, sent-to, entered}
 use Rattle.liveness.proofs.TickLaws.{length-clocks, clock-up, entries-up}
@@ -32,7 +32,7 @@ use Rattle.liveness.proofs.Tracks.{Tracked, state-of, Leads, arrives}
 
 stamped-append : (now : ℕ) (a b : List Message) → stamped now (a ++ b) ≡ stamped now a ++ stamped now b
 stamped-append now [] b = refl
-stamped-append now (m ∷ a) b = ap (λ (l : List Sent). record { message = m; time = now } ∷ l) (stamped-append now a b)
+stamped-append now (m ∷ a) b = ap (λ (l : List Sent). sentAs m now ∷ l) (stamped-append now a b)
 
 -- nothing in flight is overdue
 pub timely : (s : State) (xs : List Sent) → Wire (s .network) (s .run .held) xs → (T (overdue s) → ⊥) → T (s .run .settled)

@@ -199,8 +199,10 @@ module _ (u : Setup) (ok : Planned (u .plan) (u .faulty)) where
         led = y .led;
         formed = subst (λ (i : Since). T (formedSince i (y .v))) (sym e)
             (marked-during es (nowSettled s) (y .v) (unformed (u .plan) (u .faulty) ok s x es far) (formed-then (u .plan) (u .faulty) ok s x es far));
-        later = λ p c. subst (λ (a : State). y .v + 1 ≤ viewOf (after a es .run) p) (sym e')
-            (omega (arith, y .later p c, way (u .plan) (u .faulty) ok s x es far .to .books .view p));
+        later = λ p c.
+            let l : y .v < viewOf (after (applied Settle s .state) es .run) p = subst (λ (a : State). y .v < viewOf (after a es .run) p) (sym e')
+            (omega (arith, y .later p c, way (u .plan) (u .faulty) ok s x es far .to .books .view p)) in
+            omega (arith, l);
       }
 
   -- an event before it

@@ -9,7 +9,9 @@ pub mod Tracks
 pub mod TickLaws
 pub mod Ticks
 pub mod Judging
+pub mod Reaches
 pub mod Events
+pub mod FirstEntries
 pub mod Opens
 pub mod Soundness
 pub mod Sound

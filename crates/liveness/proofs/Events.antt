@@ -54,9 +54,9 @@ module _ (s : State) (ok : Planned (s .run .plan) (s .run .faulty)) (x : Tracked
 
   -- ---- deliver
 
-  module _ (m : Message) (in-post : T (notHeld s m) → ⊥) where
+  module _ (m : Message) (is-held : T (notHeld s m) → ⊥) where
     inside : placeOf s m < s .run .held
-    inside = place-inside s m in-post
+    inside = place-inside s m is-held
 
     found : Found (x .messages) m (placeOf s m)
     found = found-at (x .messages) (x .wire .spare) m (placeOf s m) (omega (arith, inside, x .wire .number))
@@ -90,15 +90,15 @@ module _ (s : State) (ok : Planned (s .run .plan) (s .run .faulty)) (x : Tracked
     length-after : length network-after ≡ length (s .network)
     length-after = length-removed (x .wire) found
 
-  signature-leads : (q : Bool) (w p : ℕ) (in-post : T (notHeld s (signature q w p)) → ⊥) → (p < plan .n) × (w < plan .views)
+  signature-leads : (q : Bool) (w p : ℕ) (is-held : T (notHeld s (signature q w p)) → ⊥) → (p < plan .n) × (w < plan .views)
       → (T (overfull (without s (signature q w p)) (hearing q (without s (signature q w p) .run) (s .tally) w p)) → ⊥)
       → To (made (without s (signature q w p)) (hearing q (without s (signature q w p) .run) (s .tally) w p))
   unfolding without proto.lead proto.row
-  signature-leads q w p in-post n fits =
+  signature-leads q w p is-held n fits =
       let m : Message = signature q w p in
-      let there = was-there m in-post in
-      hear-leads s ok x (after-it m in-post) (network-after m in-post) (left m in-post) (wire-after m in-post) (length-after m in-post) (kept-left m in-post)
-      q w p (n .1) (n .0) (gone-one m in-post) (inr (found m in-post .time, there)) (x .holds .flight .signed q w p (found m in-post .time) there .1) fits
+      let there = was-there m is-held in
+      hear-leads s ok x (after-it m is-held) (network-after m is-held) (left m is-held) (wire-after m is-held) (length-after m is-held) (kept-left m is-held)
+      q w p (n .1) (n .0) (gone-one m is-held) (inr (found m is-held .time, there)) (x .holds .flight .signed q w p (found m is-held .time) there .1) fits
 
   -- a certificate in flight exists
   backed-exists : (q : Bool) (w p t : ℕ) → In (certificate q w p) t (x .messages) → Exists π (x .processors) (x .tally) q w × T (isCorrect (s .run) p)
@@ -110,18 +110,18 @@ module _ (s : State) (ok : Planned (s .run .plan) (s .run .faulty)) (x : Tracked
   deliver-leads (Vote w p) c = signature-leads true w p (c .1 .1 .1 .0) (named-within plan p w (c .1 .0)) (c .1 .1 .1 .1 .1 .0)
   deliver-leads (Vc w p) c =
       let m : Message = Vc w p in
-      let in-post : T (notHeld s m) → ⊥ = c .1 .1 .1 .0 in
-      let b = backed-exists false w p (found m in-post .time) (was-there m in-post) in
-      view-certificate-leads s ok x (after-it m in-post) (network-after m in-post) (left m in-post) (wire-after m in-post) (length-after m in-post)
-      (kept-left m in-post)
-      w p (b .1) (not-not (initial plan w) (c .1 .1 .0)) (b .0) (gone-one m in-post) (c .1 .1 .1 .1 .0) (c .1 .1 .1 .1 .1 .0)
+      let is-held : T (notHeld s m) → ⊥ = c .1 .1 .1 .0 in
+      let b = backed-exists false w p (found m is-held .time) (was-there m is-held) in
+      view-certificate-leads s ok x (after-it m is-held) (network-after m is-held) (left m is-held) (wire-after m is-held) (length-after m is-held)
+      (kept-left m is-held)
+      w p (b .1) (not-not (initial plan w) (c .1 .1 .0)) (b .0) (gone-one m is-held) (c .1 .1 .1 .1 .0) (c .1 .1 .1 .1 .1 .0)
   deliver-leads (Qc w p) c =
       let m : Message = Qc w p in
-      let in-post : T (notHeld s m) → ⊥ = c .1 .1 .1 .0 in
-      let b = backed-exists true w p (found m in-post .time) (was-there m in-post) in
-      quorum-certificate-leads s ok x (after-it m in-post) (network-after m in-post) (left m in-post) (wire-after m in-post) (length-after m in-post)
-      (kept-left m in-post)
-      w p (b .1) (b .0) (gone-one m in-post) (c .1 .1 .1 .1 .0) (c .1 .1 .1 .1 .1 .0)
+      let is-held : T (notHeld s m) → ⊥ = c .1 .1 .1 .0 in
+      let b = backed-exists true w p (found m is-held .time) (was-there m is-held) in
+      quorum-certificate-leads s ok x (after-it m is-held) (network-after m is-held) (left m is-held) (wire-after m is-held) (length-after m is-held)
+      (kept-left m is-held)
+      w p (b .1) (b .0) (gone-one m is-held) (c .1 .1 .1 .1 .0) (c .1 .1 .1 .1 .1 .0)
 
   -- ---- sign
 

@@ -19,7 +19,7 @@ use Rattle.model.specs.declared.Message.{Message}
 use Rattle.model.specs.declared.Message.the-variants.{View, Vote}
 use Rattle.model.specs.declared.Run.{Run}
 use Rattle.model.specs.declared.Setup.{Setup}
-use Rattle.model.specs.Quantities.{nMost, rowWords, perLeader, lead, initial, correct}
+use Rattle.model.specs.Quantities.{tableClocks, rowWords, perLeader, lead, initial, correct}
 use Rattle.model.specs.State.{clockOf, isCorrect, enteredWord, slot, word, added}
 use Rattle.model.specs.Moves.{Change, changed, still, also, Entry, stay, into, toCorrect, entryClock, entryMessages, entering, taking, entries}
 use Rattle.model.specs.Opening.{startClocks, blankRun, firstEntry}
@@ -38,8 +38,8 @@ entry-few : (plan : Plan) (p w : ℕ) → length (entryMessages plan p w) ≤ 2
 entry-few plan p w = by-cond (λ (l : List Message). length l ≤ 2) (initial plan w) (View w p ∷ Vote w p ∷ []) (Vote w p ∷ []) (λ t. omega arith)
     (λ t. omega arith)
 
-pub zeros : (p : ℕ) → _≡_ {A = ℕ} (getD (replicate nMost 0) p 0) 0
-zeros p = go nMost p
+pub zeros : (p : ℕ) → _≡_ {A = ℕ} (getD (replicate tableClocks 0) p 0) 0
+zeros p = go tableClocks p
   where
     go : (m i : ℕ) → _≡_ {A = ℕ} (getD (replicate m 0) i 0) 0
     go zero i = refl
@@ -79,7 +79,7 @@ module _ (u : Setup) (t : List ℕ) (ok : Planned (u .plan) (u .faulty)) (long :
   -- when the correct processors below k have entered view 0
   pub record Mid (k : ℕ) (d : Change) : Type 0 where
     pub clocks-same : d .clocks ≡ startClocks u
-    pub views-same : d .views ≡ replicate nMost 0
+    pub views-same : d .views ≡ replicate tableClocks 0
     pub tally-length : length (d .tally) ≡ length t
     pub member-is : (w j q : ℕ) → w < plan .views → j < 4 → T (member (word (d .tally) w j) q) → (w ≡ 0) × (j ≡ 0) × T (correct plan faulty q)
     pub member-of : (q : ℕ) → q < k → T (correct plan faulty q) → T (member (word (d .tally) 0 enteredWord) q)

@@ -47,8 +47,8 @@ named-within plan p w no' = (
 
 -- check 13 passed
 pub place-inside : (s : State) (m : Message) → (T (notHeld s m) → ⊥) → placeOf s m < s .run .held
-place-inside s m in-post = ⊎-elim
-    (λ (e : placeOf s m ≡ s .run .held). absurd (in-post (eq→eqb _ _ e)))
+place-inside s m is-held = ⊎-elim
+    (λ (e : placeOf s m ≡ s .run .held). absurd (is-held (eq→eqb _ _ e)))
     (λ ne. omega (arith, first-le (isAt (s .network) m) (s .run .held)))
     (eq? (placeOf s m) (s .run .held))
 

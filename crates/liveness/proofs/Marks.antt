@@ -76,12 +76,12 @@ ticks-mark (suc m) s w x = go (checkOf (tickOnce s .answer)) (λ y. once-mark s 
 
 -- ---- a vote that is delivered was for a correct leader
 
-module _ (s : State) (m : Message) (sound : T (unsound s) → ⊥) (in-post : T (notHeld s m) → ⊥) where
+module _ (s : State) (m : Message) (sound : T (unsound s) → ⊥) (is-held : T (notHeld s m) → ⊥) where
   addressed : T (isCorrect (s .run) (addressee (s .run .plan) (kindOf m) (viewIn m) (processorIn m)))
   unfolding messageUnsound
   addressed =
       let i : ℕ = placeOf s m in
-      let inside : placeOf s m < s .run .held = place-inside s m in-post in
+      let inside : placeOf s m < s .run .held = place-inside s m is-held in
       let t : T (isAt (s .network) m i) = first-at (isAt (s .network) m) (s .run .held) inside in
       let both = T-left (eqb (kindAt (s .network) i) (kindOf m) && eqb (viewAt (s .network) i) (viewIn m)) _ t in
       let kind : kindAt (s .network) i ≡ kindOf m = eqb→eq _ _ (T-left (eqb (kindAt (s .network) i) (kindOf m)) _ both) in

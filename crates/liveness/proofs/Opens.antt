@@ -18,7 +18,7 @@ use Rattle.protocol.specs.Opening.{Open, open-holds}
 use Rattle.model.specs.declared.Plan.{Plan}
 use Rattle.model.specs.declared.Run.{Run}
 use Rattle.model.specs.declared.Setup.{Setup}
-use Rattle.model.specs.Quantities.{nMost, rowWords, perLeader, tolerated, lead, initial, nextInitial, startLimit, correct}
+use Rattle.model.specs.Quantities.{nLeast, nMost, deltaLeast, deltaMost, gammaLeast, gammaMost, viewsLeast, viewsMost, networkLeast, networkMost, tableClocks, rowWords, perLeader, tolerated, lead, initial, nextInitial, startLimit, correct}
 use Rattle.model.specs.State.{State, capacity, enteredWord, heardWord, marksWord, markBit, word}
 use Rattle.model.specs.Moves.{Change, entries, certificate, made}
 use Rattle.model.specs.Checks.{supporting, startTooHigh, tooFarAhead, nOutside, delaysOutside, viewsOutside, faultyOutside}
@@ -35,19 +35,19 @@ use Rattle.liveness.proofs.Judging.{Passes, neither, nor, not-ltb, not-
 pub planned : (u : Setup) (s : State) → Passes (openingChecks u s) → Planned (u .plan) (u .faulty)
 planned u s c =
     let p : Plan = u .plan in
-    let a = neither (ltb (p .n) 4) (ltb 64 (p .n)) (c .0) in
-    let b = neither (ltb (p .delta) 1 || ltb 1000 (p .delta) || ltb (p .gamma) (2 * p .delta)) (ltb 10000 (p .gamma)) (c .1 .0) in
-    let b' = neither (ltb (p .delta) 1 || ltb 1000 (p .delta)) (ltb (p .gamma) (2 * p .delta)) (b .0) in
-    let b'' = neither (ltb (p .delta) 1) (ltb 1000 (p .delta)) (b' .0) in
-    let v = neither (ltb (p .views) 3 || ltb 6000 (p .views)) (not (initial p (p .views))) (c .1 .1 .0) in
-    let v' = neither (ltb (p .views) 3) (ltb 6000 (p .views)) (v .0) in
+    let a = neither (ltb (p .n) nLeast) (ltb nMost (p .n)) (c .0) in
+    let b = neither (ltb (p .delta) deltaLeast || ltb deltaMost (p .delta) || ltb (p .gamma) (gammaLeast p)) (ltb gammaMost (p .gamma)) (c .1 .0) in
+    let b' = neither (ltb (p .delta) deltaLeast || ltb deltaMost (p .delta)) (ltb (p .gamma) (gammaLeast p)) (b .0) in
+    let b'' = neither (ltb (p .delta) deltaLeast) (ltb deltaMost (p .delta)) (b' .0) in
+    let v = neither (ltb (p .views) viewsLeast || ltb viewsMost (p .views)) (not (initial p (p .views))) (c .1 .1 .0) in
+    let v' = neither (ltb (p .views) viewsLeast) (ltb viewsMost (p .views)) (v .0) in
     let f = neither (leb (2 ^ p .n) (u .faulty)) (ltb (tolerated p) (size (u .faulty))) (c .1 .1 .1 .0) in
     record {
-      n-least = not-ltb (p .n) 4 (a .0);
-      n-most = not-ltb 64 (p .n) (a .1);
-      delta-least = not-ltb (p .delta) 1 (b'' .0);
-      gamma-least = not-ltb (p .gamma) (2 * p .delta) (b' .1);
-      views-least = not-ltb (p .views) 3 (v' .0);
+      n-least = not-ltb (p .n) nLeast (a .0);
+      n-most = not-ltb nMost (p .n) (a .1);
+      delta-least = not-ltb (p .delta) deltaLeast (b'' .0);
+      gamma-least = not-ltb (p .gamma) (gammaLeast p) (b' .1);
+      views-least = not-ltb (p .views) viewsLeast (v' .0);
       views-initial = not-not (initial p (p .views)) (v .1);
       faulty-below = not-leb (2 ^ p .n) (u .faulty) (f .0);
       faulty-few = not-ltb (tolerated p) (size (u .faulty)) (f .1);
@@ -71,9 +71,9 @@ module _ (u : Setup) (s : State) (c : Passes (openingChecks u s)) where
 
   tally-long : rowWords * plan .views ≤ length (s .tally)
   tally-long =
-      let a = neither (ltb (length (s .tally)) (rowWords * plan .views) || ltb (length (s .network)) (8 * plan .n)) (ltb 524288 (length (s .network)))
+      let a = neither (ltb (length (s .tally)) (rowWords * plan .views) || ltb (length (s .network)) (networkLeast plan)) (ltb networkMost (length (s .network)))
       (c .1 .1 .1 .1 .0) in
-      not-ltb _ _ (neither (ltb (length (s .tally)) (rowWords * plan .views)) (ltb (length (s .network)) (8 * plan .n)) (a .0) .0)
+      not-ltb _ _ (neither (ltb (length (s .tally)) (rowWords * plan .views)) (ltb (length (s .network)) (networkLeast plan)) (a .0) .0)
 
   -- ---- all have entered
 
@@ -94,8 +94,8 @@ module _ (u : Setup) (s : State) (c : Passes (openingChecks u s)) where
 
   books : Books plan (all .clocks) (all .views) (all .tally) P L
   books = record {
-    clocks-long = rw (m .clocks-same, length-listed (λ p. cond (correct plan faulty p) (getD (u .clocks) p 0) 0) nMost) (ok .n-most);
-    views-long = rw (m .views-same, length-replicate {A = ℕ} nMost 0) (ok .n-most);
+    clocks-long = rw (m .clocks-same, length-listed (λ p. cond (correct plan faulty p) (getD (u .clocks) p 0) 0) tableClocks) (ok .n-most);
+    views-long = rw (m .views-same, length-replicate {A = ℕ} tableClocks 0) (ok .n-most);
     rows = rw (m .tally-length) tally-long;
     clock = λ p. refl;
     view = λ p. refl;
@@ -109,7 +109,7 @@ module _ (u : Setup) (s : State) (c : Passes (openingChecks u s)) where
 
   -- the clock of a correct processor is its start clock
   start-clock : (p : ℕ) → T (correct plan faulty p) → getD (all .clocks) p 0 ≡ getD (u .clocks) p 0
-  start-clock p cp = rw (m .clocks-same) (getD-listed (λ q. cond (correct plan faulty q) (getD (u .clocks) q 0) 0) nMost p
+  start-clock p cp = rw (m .clocks-same) (getD-listed (λ q. cond (correct plan faulty q) (getD (u .clocks) q 0) 0) tableClocks p
       (omega (arith, correct-below plan faulty p cp, ok .n-most))
       ∙ ap (λ (x : Bool). cond x (getD (u .clocks) p 0) 0) (T-true (correct plan faulty p) cp))
 
@@ -156,13 +156,13 @@ module _ (u : Setup) (s : State) (c : Passes (openingChecks u s)) where
     sent = λ q cl p cp. stamped-in (signature q 0 p) 0 (all .sent) (m .sent-of q p (correct-below plan faulty p cp) cp cl);
   }
 
-  -- the post holds them: two messages at most of each processor
+  -- the network holds them: two messages at most of each processor
   room : T (ltb (capacity (replicate (length (s .network)) 0)) (0 + length (all .sent))) → ⊥
   room t =
-      let a = neither (ltb (length (s .tally)) (rowWords * plan .views) || ltb (length (s .network)) (8 * plan .n)) (ltb 524288 (length (s .network)))
+      let a = neither (ltb (length (s .tally)) (rowWords * plan .views) || ltb (length (s .network)) (networkLeast plan)) (ltb networkMost (length (s .network)))
       (c .1 .1 .1 .1 .0) in
-      let l : 8 * plan .n ≤ length (s .network) = not-ltb _ _
-      (neither (ltb (length (s .tally)) (rowWords * plan .views)) (ltb (length (s .network)) (8 * plan .n)) (a .0) .1) in
+      let l : networkLeast plan ≤ length (s .network) = not-ltb _ _
+      (neither (ltb (length (s .tally)) (rowWords * plan .views)) (ltb (length (s .network)) (networkLeast plan)) (a .0) .1) in
       let g : length (replicate {A = ℕ} (length (s .network)) 0) / 4 < 0 + length (all .sent) = ltb→lt _ _ t in
       omega (arith, m .sent-few, length-replicate {A = ℕ} (length (s .network)) 0)
 
@@ -192,9 +192,9 @@ module _ (u : Setup) (s : State) (c : Passes (openingChecks u s)) where
         (nor (nOutside plan || delaysOutside plan || viewsOutside plan) (faultyOutside plan faulty)
         (nor (nOutside plan || delaysOutside plan) (viewsOutside plan) (nor (nOutside plan) (delaysOutside plan) (c .0) (c .1 .0)) (c .1 .1 .0))
         (c .1 .1 .1 .0))
-        (subst (λ (x : ℕ). T (ltb x (rowWords * plan .views) || ltb (length (opened u s .network)) (8 * plan .n) || ltb 524288
+        (subst (λ (x : ℕ). T (ltb x (rowWords * plan .views) || ltb (length (opened u s .network)) (networkLeast plan) || ltb 524288
         (length (opened u s .network))) → ⊥) (sym (opened-lengths .0))
-        (subst (λ (x : ℕ). T (ltb (length (s .tally)) (rowWords * plan .views) || ltb x (8 * plan .n) || ltb 524288 x) → ⊥)
+        (subst (λ (x : ℕ). T (ltb (length (s .tally)) (rowWords * plan .views) || ltb x (networkLeast plan) || ltb 524288 x) → ⊥)
         (sym (opened-lengths .1)) (c .1 .1 .1 .1 .0))));
   }
     where

@@ -34,7 +34,7 @@ use Rattle.model.specs.Opening.{opened, openingChecks, opening}
 use Rattle.model.specs.Events.{nowSettled, ticks, tickRun, checks, effect, applied}
 use Rattle.model.specs.Lists.{after, ClockCondition, Since, since, sinceSettling, ticksDone, ticksSince, formedSince}
 use Rattle.liveness.specs.Promises.{settlingBound, Certified, DemandThree, StaysSound, StaysSame, NeverBack}
-use Rattle.liveness.specs.Live.{setup, unopened, events, past-bound, opened-so as opened-live}
+use Rattle.liveness.specs.Live.{setup, unopened, events, past-bound, opening-accepted}
 use Rattle.liveness.proofs.Link.{Planned, params, correct-count, third}
 use Rattle.liveness.proofs.Tracks.{Tracked, Leads, stays, leads-on}
 use Rattle.liveness.proofs.Judging.{Passes, by-judged, by-judged-each}
@@ -311,4 +311,4 @@ stays-sound u before t es e =
 -- ---- a run to which the settling half applies: f is t, and the first leader is faulty
 
 applies : Certified setup (opening setup unopened .state) (take 62 events)
-applies = demand-three setup unopened opened-live events 62 .1 (omega (arith, past-bound))
+applies = demand-three setup unopened opening-accepted events 62 .1 (omega (arith, past-bound))

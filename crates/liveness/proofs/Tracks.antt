@@ -2,9 +2,9 @@
 use mathlib.Core.Path.{_≡_, refl, _∙_, subst}
 use mathlib.Core.Bool.{Bool, false, not, _||_}
 use mathlib.Core.List.{List}
-use Prim.Native.Nat.{ℕ, _*_, _≤_}
+use Prim.Native.Nat.{ℕ, _≤_}
 use native.Mathlib.Omega.{arith}
-use lib.Dec.{T, ltb}
+use lib.Dec.{T}
 use lib.ListN.{length}
 use Rattle.protocol.specs.Params.{Params}
 use Rattle.protocol.specs.State.{Processors, Tally}
@@ -12,17 +12,15 @@ use Rattle.protocol.specs.Base.{Base}
 use Rattle.protocol.specs.Runs.{St, st, Steps, none, steps-trans, steps-kept, steps-flag, steps-clock-up}
 use Rattle.protocol.specs.RunKeeps.{steps-holds}
 use Rattle.model.specs.declared.Plan.{Plan}
-use Rattle.model.specs.Quantities.{rowWords, networkLeast, networkMost, correct}
+use Rattle.model.specs.Quantities.{correct}
 use Rattle.model.specs.State.{State, clockOf}
-use Rattle.model.specs.Checks.{planOutside, faultyOutside, limitsBroken}
+use Rattle.model.specs.Checks.{planOutside, faultyOutside, lengthsOutside, limitsBroken}
 use Rattle.liveness.proofs.Flight.{Sent}
 use Rattle.liveness.proofs.Link.{Planned, params, flight, Wire, Books, Ready, Below}
 
 -- the limits of a run, by the lengths of what is lent
 abbrev limitsFor : Plan → ℕ → ℕ → ℕ → Bool
-limitsFor p faulty a b =
-    planOutside p || faultyOutside p faulty
-    || (ltb a (rowWords * p .views) || ltb b (networkLeast p) || ltb networkMost b)
+limitsFor p faulty a b = planOutside p || faultyOutside p faulty || lengthsOutside p a b
 
 module _ (plan : Plan) (faulty : ℕ) (ok : Planned plan faulty) where
   abbrev π : Params

@@ -53,9 +53,9 @@ allAccepted [] = true
 allAccepted (x ∷ xs) = accepted x && allAccepted xs
 
 -- the run is an accepted opening's, and f is t
-pub opened-so : T (accepted (opening setup unopened .answer))
+pub opening-accepted : T (accepted (opening setup unopened .answer))
 unfolding setup definitions
-opened-so = tt
+opening-accepted = tt
 
 most-faulty : size (setup .faulty) ≡ tolerated (setup .plan)
 unfolding setup definitions
@@ -80,3 +80,8 @@ formed-since = refl
 later-views : positions (after start events) ≡ ((1 ∷ 9 ∷ 19 ∷ []) ∷ (2 ∷ 9 ∷ 19 ∷ []) ∷ (3 ∷ 9 ∷ 19 ∷ []) ∷ [])
 unfolding setup events definitions
 later-views = refl
+
+-- the bound elsewhere: nobody faulty, Γ above 2Δ; two faulty of seven
+bounds : (settlingBound (setupOf (planOf 4 2 5 12) 0 zeroes) ∷ settlingBound (setupOf (planOf 7 2 5 12) 96 []) ∷ []) ≡ (28 ∷ 58 ∷ [])
+unfolding definitions
+bounds = refl

@@ -61,8 +61,11 @@ abbrev pub faultyOutside : Plan → ℕ → Bool
 faultyOutside p faulty = leb (2 ^ p .n) faulty || ltb (tolerated p) (size faulty)
 
 -- 6. "The ledger has fewer than 4V words, or the post fewer than 8n or more than 524,288."
+abbrev pub lengthsOutside : Plan → ℕ → ℕ → Bool
+lengthsOutside p tally network = ltb tally (rowWords * p .views) || ltb network (networkLeast p) || ltb networkMost network
+
 abbrev pub buffersOutside : Plan → List ℕ → List ℕ → Bool
-buffersOutside p t ws = ltb (length t) (rowWords * p .views) || ltb (length ws) (networkLeast p) || ltb networkMost (length ws)
+buffersOutside p t ws = lengthsOutside p (length t) (length ws)
 
 -- 7. "A correct start clock is 3Γ or more."
 unfoldable pub startTooHigh : Plan → ℕ → List ℕ → Bool

@@ -12,3 +12,4 @@ pub mod Rows
 pub mod Settings
 pub mod Vectors
 pub mod Refusals
+pub mod Edges

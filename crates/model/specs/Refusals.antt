@@ -12,7 +12,7 @@ use Rattle.model.specs.Rows.{definitions, planOf, standard, padded, zero
 
 -- ---- checks 2 to 8
 
-openings : List Row
+pub openings : List Row
 openings =
     -- n below 4; and 2 before 3
     schedule buffers (setupOf (planOf 3 0 4 6) 0 zeroes) [] (Refused 2 ∷ [])
@@ -84,7 +84,7 @@ openings =
 
 -- ---- checks 1 and 10 to 17
 
-naming : List Row
+pub naming : List Row
 naming =
     -- 10 before 11, for any form
     schedule buffers (setupOf standard 8 zeroes) (Deliver (View 7 0) ∷ Sign (View 7 3) ∷ Show (Vc 7 0) ∷ [])
@@ -131,7 +131,7 @@ naming =
 
 -- ---- check 9, and 1 before it
 
-handedInRuns : List Row
+pub handedInRuns : List Row
 handedInRuns =
     -- no run yet: 9 to every event, but 1 to what has no form
     handed (lent 24 32) (Deliver (View 0 0) ∷ Sign (View 0 0) ∷ Show (Vc 0 0) ∷ Settle ∷ Tick 1 ∷ [])
@@ -211,7 +211,7 @@ handedInRuns =
 
 -- ---- one processor by itself
 
-oneProcessor : List Row
+pub oneProcessor : List Row
 oneProcessor =
     -- a tick to the clock time of an initial view
     oneMove 2 0 11 input.Tick ((0 ∷ []) ∷ (2 ∷ 3 ∷ 12 ∷ []) ∷ (1 ∷ 3 ∷ 2 ∷ []) ∷ (2 ∷ 3 ∷ 2 ∷ []) ∷ [])
@@ -235,11 +235,20 @@ oneProcessor =
     ∷ oneMove 4 0 2 input.Tick ((10 ∷ []) ∷ (4 ∷ 0 ∷ 2 ∷ []) ∷ [])
     ∷ []
 
--- ---- all of them
+-- ---- all of them agree
 
-pub refusals : List Row
-refusals = openings ++ naming ++ handedInRuns ++ oneProcessor
+pub openings-hold : agreeing 0 openings ≡ length openings
+unfolding openings definitions
+openings-hold = refl
 
-pub refusals-hold : agreeing 0 refusals ≡ length refusals
-unfolding refusals openings naming handedInRuns oneProcessor definitions
-refusals-hold = refl
+pub naming-hold : agreeing 0 naming ≡ length naming
+unfolding naming definitions
+naming-hold = refl
+
+pub handedInRuns-hold : agreeing 0 handedInRuns ≡ length handedInRuns
+unfolding handedInRuns definitions
+handedInRuns-hold = refl
+
+pub oneProcessor-hold : agreeing 0 oneProcessor ≡ length oneProcessor
+unfolding oneProcessor definitions
+oneProcessor-hold = refl

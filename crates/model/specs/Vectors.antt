@@ -14,7 +14,7 @@ use Rattle.model.specs.State.{State}
 use Rattle.model.specs.Opening.{opening}
 use Rattle.model.specs.Events.{tickOnce}
 use Rattle.model.specs.Lists.{after, sinceSettling, ticksDone, ticksSince, formedIn, formedDuring, formedSince}
-use Rattle.model.specs.Rows.{definitions, planOf, standard, table, zeroes, copies, setupOf, lent, buffers, handedIn, withNetwork, Row, agreeing, words, schedule, fullSchedule, handed, unchanged, refusedWhole, refusedOpening}
+use Rattle.model.specs.Rows.{definitions, planOf, standard, table, zeroes, copies, setupOf, lent, buffers, handedIn, withNetwork, Row, agreeing, number, words, schedule, fullSchedule, handed, unchanged, refusedWhole, refusedOpening}
 
 -- buffers that held other things before: two tally words more than six views need, and two network words more than eight messages need
 used : State
@@ -25,7 +25,7 @@ votesThenSettle = Deliver (Vote 0 0) ∷ Deliver (Vote 0 1) ∷ Deliver (Vote 0 
 
 -- ---- "How a cabinet moves"
 
-moves : List Row
+pub moves : List Row
 moves =
     -- a signature heard twice is one signer: the view certificate waits for another
     schedule buffers (setupOf standard 8 zeroes) (Sign (View 0 3) ∷ Sign (View 0 3) ∷ Deliver (View 0 0) ∷ [])
@@ -115,7 +115,7 @@ moves =
 
 -- ---- what is left in the lent words
 
-contents : List Row
+pub contents : List Row
 contents =
     -- the opening posts by rising number, the view message before the vote
     words (opening (setupOf standard 0 zeroes) (lent 24 32) .state .network)
@@ -169,7 +169,7 @@ contents =
 
 -- ---- "settle" and "tick"
 
-timing : List Row
+pub timing : List Row
 timing =
     -- overdue at exactly the deadline; the count is the ticks done, the reason what the next one would meet
     fullSchedule buffers (setupOf standard 0 zeroes) (Settle ∷ Tick 9 ∷ Tick 1 ∷ []) (Done 0 8 ∷ Done 0 8 ∷ Stopped 2 8 16 ∷ Refused 16 ∷ [])
@@ -217,7 +217,7 @@ timing =
 
 -- ---- check 18
 
-room : List Row
+pub room : List Row
 room =
     -- what would not fit is refused; messages that left make room; as many as fit exactly are taken
     schedule (lent 24 32) (setupOf standard 0 zeroes)
@@ -247,37 +247,54 @@ room =
 
 -- ---- what a list did since settling: the ticks, and which of the views 0 to 2 had their quorum certificate formed
 
-didSince : List Event → ℕ → List ℕ → Row
-didSince es k ws =
-    let i = sinceSettling (opening (setupOf standard 0 zeroes) buffers .state) es in
+didSince : ℕ → List Event → ℕ → List ℕ → Row
+didSince faulty es k ws =
+    let i = sinceSettling (opening (setupOf standard faulty zeroes) buffers .state) es in
     words (ticksSince i ∷ listed (λ w. cond (formedSince i w) 1 0) 3) (k ∷ ws)
 
 threeVotes : List Event
 threeVotes = Deliver (Vote 0 0) ∷ Deliver (Vote 0 1) ∷ Deliver (Vote 0 2) ∷ []
 
-history : List Row
+pub history : List Row
 history =
     -- nothing counts in a list without a settle
-    didSince (Tick 2 ∷ threeVotes) 0 (0 ∷ 0 ∷ 0 ∷ [])
+    didSince 0 (Tick 2 ∷ threeVotes) 0 (0 ∷ 0 ∷ 0 ∷ [])
     -- what stands before it does not count, nor do ticks that were not done
-    ∷ didSince (Tick 2 ∷ threeVotes ++ (Settle ∷ Tick 9 ∷ Tick 1 ∷ [])) 2 (0 ∷ 0 ∷ 0 ∷ [])
+    ∷ didSince 0 (Tick 2 ∷ threeVotes ++ (Settle ∷ Tick 9 ∷ Tick 1 ∷ [])) 2 (0 ∷ 0 ∷ 0 ∷ [])
     -- the certificate is formed with the third vote, and by it alone
-    ∷ didSince (Settle ∷ Tick 1 ∷ Deliver (Vote 0 0) ∷ Deliver (Vote 0 1) ∷ []) 1 (0 ∷ 0 ∷ 0 ∷ [])
-    ∷ didSince (Settle ∷ Tick 1 ∷ threeVotes) 1 (1 ∷ 0 ∷ 0 ∷ [])
+    ∷ didSince 0 (Settle ∷ Tick 1 ∷ Deliver (Vote 0 0) ∷ Deliver (Vote 0 1) ∷ []) 1 (0 ∷ 0 ∷ 0 ∷ [])
+    ∷ didSince 0 (Settle ∷ Tick 1 ∷ threeVotes) 1 (1 ∷ 0 ∷ 0 ∷ [])
     -- two votes before settling and one after: formed since; a vote more forms nothing
-    ∷ didSince (Deliver (Vote 0 0) ∷ Deliver (Vote 0 1) ∷ Settle ∷ Deliver (Vote 0 2) ∷ Tick 1 ∷ []) 1 (1 ∷ 0 ∷ 0 ∷ [])
-    ∷ didSince (threeVotes ++ (Settle ∷ Deliver (Vote 0 3) ∷ [])) 0 (0 ∷ 0 ∷ 0 ∷ [])
+    ∷ didSince 0 (Deliver (Vote 0 0) ∷ Deliver (Vote 0 1) ∷ Settle ∷ Deliver (Vote 0 2) ∷ Tick 1 ∷ []) 1 (1 ∷ 0 ∷ 0 ∷ [])
+    ∷ didSince 0 (threeVotes ++ (Settle ∷ Deliver (Vote 0 3) ∷ [])) 0 (0 ∷ 0 ∷ 0 ∷ [])
     -- view messages form none
-    ∷ didSince (Settle ∷ Deliver (View 0 0) ∷ Deliver (View 0 1) ∷ Deliver (View 0 2) ∷ []) 0 (0 ∷ 0 ∷ 0 ∷ [])
+    ∷ didSince 0 (Settle ∷ Deliver (View 0 0) ∷ Deliver (View 0 1) ∷ Deliver (View 0 2) ∷ []) 0 (0 ∷ 0 ∷ 0 ∷ [])
+    -- a faulty processor's signature completes it
+    ∷ didSince 8 (Settle ∷ Deliver (Vote 0 0) ∷ Deliver (Vote 0 1) ∷ Sign (Vote 0 3) ∷ []) 0 (1 ∷ 0 ∷ 0 ∷ [])
+    -- to a faulty leader it completes nothing, whatever its row holds
+    ∷ number (cond (formedIn (Sign (Vote 0 0)) (handedIn standard 1 5 false 0 0 (replicate 4 5) zeroes (14 ∷ 0 ∷ 14 ∷ []) []) 0) 1 0) 0
     -- a second settle starts nothing anew
-    ∷ didSince (Settle ∷ Tick 1 ∷ threeVotes ++ (Settle ∷ Tick 1 ∷ [])) 2 (1 ∷ 0 ∷ 0 ∷ [])
+    ∷ didSince 0 (Settle ∷ Tick 1 ∷ threeVotes ++ (Settle ∷ Tick 1 ∷ [])) 2 (1 ∷ 0 ∷ 0 ∷ [])
     ∷ []
 
--- ---- all of them
+-- ---- all of them agree
 
-pub vectors : List Row
-vectors = moves ++ contents ++ timing ++ room ++ history
+pub moves-hold : agreeing 0 moves ≡ length moves
+unfolding moves definitions
+moves-hold = refl
 
-pub vectors-hold : agreeing 0 vectors ≡ length vectors
-unfolding vectors moves contents timing room history didSince threeVotes used votesThenSettle sinceSettling ticksDone formedIn formedDuring definitions
-vectors-hold = refl
+pub contents-hold : agreeing 0 contents ≡ length contents
+unfolding contents used votesThenSettle definitions
+contents-hold = refl
+
+pub timing-hold : agreeing 0 timing ≡ length timing
+unfolding timing definitions
+timing-hold = refl
+
+pub room-hold : agreeing 0 room ≡ length room
+unfolding room definitions
+room-hold = refl
+
+pub history-hold : agreeing 0 history ≡ length history
+unfolding history didSince threeVotes sinceSettling ticksDone formedIn formedDuring definitions
+history-hold = refl

@@ -86,7 +86,7 @@ module _ (r : Run) (t : List ℕ) (ok : Planned (r .plan) (r .faulty)) {P : Proc
   -- ys is what is left of the messages in flight, xs, without a certificate for p that leads no further
   module _ (now : ℕ) (xs ys : List Sent) (kept : (m : Message) (s : ℕ) → In m s ys → In m s xs)
       (gone : (m : Message) (s : ℕ) → In m s xs → In m s ys ⊎ ((d : Bool) × (u : ℕ) × (m ≡ certificate d u p) × (onward d u ≤ w)))
-      (why : Reason (π) P L p w) where
+      (why : Reason π P L p w) where
     abbrev pub sent-to : List Message
     sent-to = toCorrect r (entryMessages (r .plan) p w)
 
@@ -99,7 +99,7 @@ module _ (r : Run) (t : List ℕ) (ok : Planned (r .plan) (r .faulty)) {P : Proc
         let e = entry-sent (r .plan) m w p (b .0) in
         (e .0, e .1, a .0, subst (λ (x : ℕ). T (isCorrect r x)) (ap (meant (r .plan)) (e .1) ∙ signature-meant (r .plan) (e .0) w p) (b .1), e .2)
 
-    pub entered : Enter (π) P entrants L (flight xs) (flight (ys ++ stamped now sent-to)) now p w
+    pub entered : Enter π P entrants L (flight xs) (flight (ys ++ stamped now sent-to)) now p w
     unfolding proto.lead proto.row
     entered = record {
       is-correct = c;

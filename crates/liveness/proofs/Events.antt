@@ -144,9 +144,9 @@ module _ (s : State) (ok : Planned (s .run .plan) (s .run .faulty)) (x : Tracked
   -- ---- show
 
   -- document 01's existence of a certificate is the protocol's
-  exists-so : (q : Bool) (w : ℕ) → w < plan .views → T (exists q (s .run) (s .tally) w) → Exists (π) (x .processors) (x .tally) q w
+  exists-so : (q : Bool) (w : ℕ) → w < plan .views → T (exists q (s .run) (s .tally) w) → Exists π (x .processors) (x .tally) q w
   unfolding exists proto.lead proto.row
-  exists-so q w low = by-cond (λ (b : Bool). T b → Exists (π) (x .processors) (x .tally) q w) (isCorrect (s .run) (lead plan w)) _ _
+  exists-so q w low = by-cond (λ (b : Bool). T b → Exists π (x .processors) (x .tally) q w) (isCorrect (s .run) (lead plan w)) _ _
       (λ c t. inl (c, rw (x .books .formed q w low) t))
       (λ c t. let l : needed q plan ≤ size (s .run .faulty) + size (word (s .tally) w enteredWord) = leb→le _ _ t in
       inr (c, needed-enough plan faulty ok q _ (rw counted at l)))
@@ -212,19 +212,19 @@ Moving (Show m) = Unit {0}
 Moving Settle = ⊥
 Moving (Tick m) = Unit {0}
 
+-- an event whose checks all pass
+effect-leads : (s : State) (ok : Planned (s .run .plan) (s .run .faulty)) (x : Tracked (s .run .plan) (s .run .faulty) ok s) (e : Event) → Moving e
+    → Passes (checks e s) → Leads (s .run .plan) (s .run .faulty) ok s x (effect e s .state)
+unfolding effect tickRun
+effect-leads s ok x (Deliver m) v c = deliver-leads s ok x m c
+effect-leads s ok x (Sign m) v c = sign-leads s ok x m c
+effect-leads s ok x (Show m) v c = show-leads s ok x m c
+effect-leads s ok x Settle v c = absurd v
+effect-leads s ok x (Tick m) v c = ticks-lead (s .run .plan) (s .run .faulty) ok m s x
+
 pub event-leads : (plan : Plan) (faulty : ℕ) (ok : Planned plan faulty) (e : Event) → Moving e → (s : State) (x : Tracked plan faulty ok s)
     → Leads plan faulty ok s x (applied e s .state)
-unfolding applied effect tickRun
-event-leads plan faulty ok (Deliver m) v = at-own-plan (λ plan' faulty' ok' s x. Leads plan' faulty' ok' s x (applied (Deliver m) s .state))
-    (λ s ok' x. by-judged (λ (a : After). Leads _ _ ok' s x (a .state)) (refused s) (checks (Deliver m) s) (effect (Deliver m) s) (λ r. same s ok' x)
-    (deliver-leads s ok' x m)) plan faulty ok
-event-leads plan faulty ok (Sign m) v = at-own-plan (λ plan' faulty' ok' s x. Leads plan' faulty' ok' s x (applied (Sign m) s .state))
-    (λ s ok' x. by-judged (λ (a : After). Leads _ _ ok' s x (a .state)) (refused s) (checks (Sign m) s) (effect (Sign m) s) (λ r. same s ok' x)
-    (sign-leads s ok' x m)) plan faulty ok
-event-leads plan faulty ok (Show m) v = at-own-plan (λ plan' faulty' ok' s x. Leads plan' faulty' ok' s x (applied (Show m) s .state))
-    (λ s ok' x. by-judged (λ (a : After). Leads _ _ ok' s x (a .state)) (refused s) (checks (Show m) s) (effect (Show m) s) (λ r. same s ok' x)
-    (show-leads s ok' x m)) plan faulty ok
-event-leads plan faulty ok Settle v = absurd v
-event-leads plan faulty ok (Tick m) v = λ s x.
-    by-judged (λ (a : After). Leads plan faulty ok s x (a .state)) (refused s) (checks (Tick m) s) (effect (Tick m) s) (λ r. stays plan faulty ok s x)
-    (λ c. ticks-lead plan faulty ok m s x)
+unfolding applied
+event-leads plan faulty ok e v = at-own-plan (λ plan' faulty' ok' s x. Leads plan' faulty' ok' s x (applied e s .state))
+    (λ s ok' x. by-judged (λ (a : After). Leads (s .run .plan) (s .run .faulty) ok' s x (a .state)) (refused s) (checks e s) (effect e s) (λ r. same s ok' x)
+    (effect-leads s ok' x e v)) plan faulty ok

@@ -163,12 +163,12 @@ module _ (q : Bool) (r : Run) (t : List ℕ) (ok : Planned (r .plan) (r .faulty)
       (not-T (member (word t w marksWord) (markBit q)) (λ x. no' (rw (books .formed q w w-low) x))))
       v
 
-  allowed-here : Allowed (π) P q w → T (q || leb (viewOf r (lead (r .plan) w)) w)
+  allowed-here : Allowed π P q w → T (q || leb (viewOf r (lead (r .plan) w)) w)
   allowed-here = go q
     where
-      go : (d : Bool) → Allowed (π) P d w → T (d || leb (viewOf r (lead (r .plan) w)) w)
+      go : (d : Bool) → Allowed π P d w → T (d || leb (viewOf r (lead (r .plan) w)) w)
       go true a = tt
-      go false a = let l : viewOf r (lead (r .plan) w) ≤ w = rw (books .view (proto.lead (π) w), lead-is (r .plan) (r .faulty) ok w) at a in le→leb _ _ l
+      go false a = let l : viewOf r (lead (r .plan) w) ≤ w = rw (books .view (proto.lead π w), lead-is (r .plan) (r .faulty) ok w) at a in le→leb _ _ l
 
   mark-made : T formed-here → T (hearers .formed q w)
   mark-made f = or-right (L .formed q w) (formed-here && (eqb w w && eqb (markBit q) (markBit q)))
@@ -193,7 +193,7 @@ module _ (q : Bool) (r : Run) (t : List ℕ) (ok : Planned (r .plan) (r .faulty)
         let e = each-got q w (r .plan .n) m (c .0) in
         (a .0, b .0, (e .0, e .2, subst (λ (x : ℕ). T (isCorrect r x)) (ap (meant (r .plan)) (e .2) ∙ certificate-meant (r .plan) q w (e .0)) (c .1)))
 
-    pub heard : Hear (π) P L hearers (flight xs) (flight (ys ++ stamped now sent-of)) now q w p
+    pub heard : Hear π P L hearers (flight xs) (flight (ys ++ stamped now sent-of)) now q w p
     unfolding proto.lead proto.row
     heard = record {
       led = led;

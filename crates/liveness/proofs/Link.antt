@@ -17,7 +17,7 @@ use Rattle.protocol.specs.Params.{Params}
 use Rattle.protocol.specs.State.{Processors, Tally, Flight, Starts}
 use Rattle.model.specs.declared.Plan.{Plan}
 use Rattle.model.specs.declared.Message.{Message}
-use Rattle.model.specs.Quantities.{nLeast, nMost, viewsLeast, rowWords, messageWords, tolerated, perLeader, lead, initial, nextInitial, clockTime, endTime, correct}
+use Rattle.model.specs.Quantities.{deltaLeast, gammaLeast, nLeast, nMost, viewsLeast, rowWords, messageWords, tolerated, perLeader, lead, initial, nextInitial, clockTime, endTime, correct}
 use Rattle.model.specs.State.{enteredWord, heardWord, marksWord, markBit, word, posted, removed, capacity}
 use Rattle.model.specs.Moves.{certificate}
 use Rattle.liveness.proofs.Flight.{sentAs, Sent, In, laid, stamped, length-laid, length-stamped, posted-laid, removed-laid, Found}
@@ -29,8 +29,8 @@ use Rattle.liveness.proofs.Sending.{signature, At}
 pub record Planned (plan : Plan) (faulty : ℕ) : Type 0 where
   pub n-least : nLeast ≤ plan .n
   pub n-most : plan .n ≤ nMost
-  pub delta-least : 1 ≤ plan .delta
-  pub gamma-least : 2 * plan .delta ≤ plan .gamma
+  pub delta-least : deltaLeast ≤ plan .delta
+  pub gamma-least : gammaLeast plan ≤ plan .gamma
   pub views-least : viewsLeast ≤ plan .views
   pub views-initial : T (initial plan (plan .views))
   pub faulty-below : faulty < 2 ^ plan .n
@@ -86,10 +86,6 @@ module _ (plan : Plan) (faulty : ℕ) where
     pub lead-is : (w : ℕ) → proto.lead (params ok) w ≡ lead plan w
     unfolding proto.lead proto.row
     lead-is w = refl
-
-    pub next-is : (w : ℕ) → proto.next (params ok) w ≡ nextInitial plan w
-    unfolding proto.next proto.row
-    next-is w = refl
 
     pub to-initial : (w : ℕ) → T (initial plan w) → proto.Initial (params ok) w
     unfolding proto.Initial

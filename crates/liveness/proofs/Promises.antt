@@ -117,8 +117,8 @@ module _ (plan : Plan) (faulty : ℕ) (ok : Planned plan faulty) where
     tracked = l .to;
     tally-length = l .tally-length;
     network-length = l .network-length;
-    view-up = λ p c. omega (arith, steps-view-up (π) (l .way) p c, x .books .view p, l .to .books .view p);
-    clock-up = λ p c. omega (arith, steps-clock-up (π) (l .way) p c, x .books .clock p, l .to .books .clock p);
+    view-up = λ p c. omega (arith, steps-view-up π (l .way) p c, x .books .view p, l .to .books .view p);
+    clock-up = λ p c. omega (arith, steps-clock-up π (l .way) p c, x .books .clock p, l .to .books .clock p);
   }
 
   follows-event : (e : Event) (s : State) → Tracked plan faulty ok s → Follows s (applied e s .state)
@@ -153,7 +153,7 @@ module _ (plan : Plan) (faulty : ℕ) (ok : Planned plan faulty) where
   leads-all [] s x z = stays plan faulty ok s x
   leads-all (e ∷ es) s x z =
       let a = leads-settled e s x z in
-      leads-on plan faulty ok a (leads-all es (applied e s .state) (a .to) (subst T (sym (steps-flag (π) (a .way))) z))
+      leads-on plan faulty ok a (leads-all es (applied e s .state) (a .to) (subst T (sym (steps-flag π (a .way))) z))
 
   -- views stay below the limit
   view-limit : (s : State) (x : Tracked plan faulty ok s) (p : ℕ) → T (correct plan faulty p) → x .processors .view p < plan .views
@@ -165,17 +165,17 @@ module _ (plan : Plan) (faulty : ℕ) (ok : Planned plan faulty) where
     unfolding nowSettled
     way = leads-all es (nowSettled s) (settled-tracked s x) tt
 
-    long : perLeader plan * (size faulty + 1) * plan .gamma + plan .gamma + 4 * plan .delta < runs.ticks (π) (way .way)
+    long : perLeader plan * (size faulty + 1) * plan .gamma + plan .gamma + 4 * plan .delta < runs.ticks π (way .way)
     unfolding perLeader
-    long = omega (arith, far, steps-kept (π) (way .way) .0, ticks-are-time (nowSettled s) es)
+    long = omega (arith, far, steps-kept π (way .way) .0, ticks-are-time (nowSettled s) es)
 
-    found : Reached (π) (x .tally) (way .to .processors) (way .to .tally)
+    found : Reached π (x .tally) (way .to .processors) (way .to .tally)
     unfolding nowSettled settled-tracked
     found = reached (x .holds) (way .way) long
 
     found-low : found .v < plan .views
     found-low =
-        let r = some-correct (π) (correct plan faulty) (omega (arith, correct-count plan faulty ok, ok .faulty-few, third plan faulty ok)) in
+        let r = some-correct π (correct plan faulty) (omega (arith, correct-count plan faulty ok, ok .faulty-few, third plan faulty ok)) in
         omega (arith, found .later (r .0) (r .1), view-limit (after (nowSettled s) es) (way .to) (r .0) (r .1))
 
     formed-then : Marked (after (nowSettled s) es .tally) (found .v)

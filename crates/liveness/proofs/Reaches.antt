@@ -90,7 +90,7 @@ module _ (s : State) (ok : Planned (s .run .plan) (s .run .faulty)) (x : Tracked
 
     -- a certificate that exists reaches a correct processor, which enters a view or is past it
     module _ (q : Bool) (w p : ℕ) (c : T (isCorrect (s .run) p)) (at : At plan q w)
-        (exists-here : Exists (π) (x .processors) (x .tally) q w)
+        (exists-here : Exists π (x .processors) (x .tally) q w)
         (gone : (m : Message) (t : ℕ) → In m t (x .messages) → In m t ys ⊎ (m ≡ certificate q w p)) where
       abbrev taken : Entry → Change
       taken e = taking (s₁ .run) (s .tally) p e
@@ -127,7 +127,7 @@ module _ (s : State) (ok : Planned (s .run .plan) (s .run .faulty)) (x : Tracked
           lost : (m : Message) (t : ℕ) → In m t (x .messages) → In m t ys ⊎ ((d : Bool) × (v : ℕ) × (m ≡ certificate d v p) × (onward d v ≤ onward q w))
           lost m t i = ⊎-elim (λ y. inl y) (λ y. inr (q, w, y, omega arith)) (gone m t i)
 
-          why : Reason (π) (x .processors) (x .tally) p (onward q w)
+          why : Reason π (x .processors) (x .tally) p (onward q w)
           why = by-certificate q w refl (omega (arith, x .books .view p)) (to-starts plan faulty ok q w at) exists-here
 
       pass-leads : onward q w ≤ viewOf (s .run) p → Safely stay
@@ -138,7 +138,7 @@ module _ (s : State) (ok : Planned (s .run .plan) (s .run .faulty)) (x : Tracked
           → Safely (cond b (into (onward q w)) stay)
       certificate-leads b above past = by-cond Safely b (into (onward q w)) stay (λ t. enter-leads (above t)) (λ t. pass-leads (past t))
 
-    pub view-certificate-leads : (w p : ℕ) → T (isCorrect (s .run) p) → T (initial plan w) → Exists (π) (x .processors) (x .tally) false w
+    pub view-certificate-leads : (w p : ℕ) → T (isCorrect (s .run) p) → T (initial plan w) → Exists π (x .processors) (x .tally) false w
         → ((m : Message) (t : ℕ) → In m t (x .messages) → In m t ys ⊎ (m ≡ Vc w p))
         → (T (reachesEnd (s₁ .run) (handling (s₁ .run) (s .tally) (Vc w p))) → ⊥) → (T (overfull s₁ (handling (s₁ .run) (s .tally) (Vc w p))) → ⊥)
         → To (made s₁ (handling (s₁ .run) (s .tally) (Vc w p)))
@@ -148,7 +148,7 @@ module _ (s : State) (ok : Planned (s .run .plan) (s .run .faulty)) (x : Tracked
         (λ t. ⊎-elim (λ (l : w ≤ viewOf (s .run) p). l) (λ (l : viewOf (s .run) p < w). absurd (t (T-and (initial plan w) _ i (lt→ltb _ _ l))))
         (le? w (viewOf (s .run) p)))
 
-    pub quorum-certificate-leads : (w p : ℕ) → T (isCorrect (s .run) p) → Exists (π) (x .processors) (x .tally) true w
+    pub quorum-certificate-leads : (w p : ℕ) → T (isCorrect (s .run) p) → Exists π (x .processors) (x .tally) true w
         → ((m : Message) (t : ℕ) → In m t (x .messages) → In m t ys ⊎ (m ≡ Qc w p))
         → (T (reachesEnd (s₁ .run) (handling (s₁ .run) (s .tally) (Qc w p))) → ⊥) → (T (overfull s₁ (handling (s₁ .run) (s .tally) (Qc w p))) → ⊥)
         → To (made s₁ (handling (s₁ .run) (s .tally) (Qc w p)))

@@ -33,17 +33,17 @@ alike-ticks (suc m) s = go (checkOf (tickOnce s .answer)) (alike-ticks m (tickOn
     go zero y = (y .0 ∙ alike-once s .0, y .1 ∙ alike-once s .1)
     go (suc r) y = (refl, refl)
 
+alike-effect : (e : Event) → Moving e → (s : State) → Alike s (effect e s .state)
+unfolding effect made without tickRun
+alike-effect (Deliver m) v s = (refl, refl)
+alike-effect (Sign m) v s = (refl, refl)
+alike-effect (Show m) v s = (refl, refl)
+alike-effect Settle v s = absurd v
+alike-effect (Tick m) v s = alike-ticks m s
+
 alike-event : (e : Event) → Moving e → (s : State) → Alike s (applied e s .state)
-unfolding applied effect made without tickRun
-alike-event (Deliver m) v s = by-judged (λ (a : After). Alike s (a .state)) (refused s) (checks (Deliver m) s) (effect (Deliver m) s)
-    (λ r. (refl, refl)) (λ c. (refl, refl))
-alike-event (Sign m) v s = by-judged (λ (a : After). Alike s (a .state)) (refused s) (checks (Sign m) s) (effect (Sign m) s) (λ r. (refl, refl))
-    (λ c. (refl, refl))
-alike-event (Show m) v s = by-judged (λ (a : After). Alike s (a .state)) (refused s) (checks (Show m) s) (effect (Show m) s) (λ r. (refl, refl))
-    (λ c. (refl, refl))
-alike-event Settle v s = absurd v
-alike-event (Tick m) v s = by-judged (λ (a : After). Alike s (a .state)) (refused s) (checks (Tick m) s) (effect (Tick m) s) (λ r. (refl, refl))
-    (λ c. alike-ticks m s)
+unfolding applied
+alike-event e v s = by-judged (λ (a : After). Alike s (a .state)) (refused s) (checks e s) (effect e s) (λ r. (refl, refl)) (λ c. alike-effect e v s)
 
 -- a settled run stays so, with the same settling time
 once-settled : (e : Event) (s : State) → s .run .settled ≡ true → Alike s (applied e s .state)

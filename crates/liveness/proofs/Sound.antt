@@ -121,7 +121,7 @@ module _ (s : State) (ok : Planned (s .run .plan) (s .run .faulty)) (x : Tracked
 
   time-sound : T (leb (endTime plan) (s .run .time)) → ⊥
   time-sound t =
-      let r = some-correct (π) (correct plan faulty)
+      let r = some-correct π (correct plan faulty)
       (omega (arith, correct-count plan faulty ok, ok .faulty-few, third plan faulty ok)) in
       let g : endTime plan ≤ s .run .time = leb→le _ _ t in
       omega (arith, x .early (r .0) (r .1), x .below (r .0) (r .1))

@@ -82,7 +82,7 @@ module _ (s : State) (ok : Planned (s .run .plan) (s .run .faulty)) (x : Tracked
   up : (q : ℕ) → T (isCorrect (s .run) q) → clockOf a q ≡ clockOf (s .run) q + 1
   up q c = clock-up (s .run) (plan .n) q long (correct-below plan faulty q c) c
 
-  passed : Tick (π) (x .processors) (λ p. clockOf a p) (flight (x .messages)) (s .run .time) (s .run .gst) (s .run .settled)
+  passed : Tick π (x .processors) (λ p. clockOf a p) (flight (x .messages)) (s .run .time) (s .run .gst) (s .run .settled)
   unfolding proto.next proto.row
   passed = record {
     ready = λ p c. rw (x .books .clock p, x .books .view p) (x .ready p c);
@@ -98,7 +98,7 @@ module _ (s : State) (ok : Planned (s .run .plan) (s .run .faulty)) (x : Tracked
     messages-are : messages ≡ x .messages ++ stamped now (c .sent)
     books : Books plan (c .clocks) (c .views) (c .tally) P (x .tally)
     tally-length : length (c .tally) ≡ length (s .tally)
-    way : Steps (π) (state-of plan faulty ok s x) (st P (x .tally) (flight messages) now (s .run .gst) (s .run .settled))
+    way : Steps π (state-of plan faulty ok s x) (st P (x .tally) (flight messages) now (s .run .gst) (s .run .settled))
     moved : (q : ℕ) → T (isCorrect a q) → q < k → getD (c .clocks) q 0 < clockTime plan (nextInitial plan (getD (c .views) q 0))
     clock-kept : (q : ℕ) → k ≤ q → getD (c .clocks) q 0 ≡ clockOf a q
     view-kept : (q : ℕ) → k ≤ q → getD (c .views) q 0 ≡ viewOf (s .run) q
@@ -162,14 +162,14 @@ module _ (s : State) (ok : Planned (s .run .plan) (s .run .faulty)) (x : Tracked
             (λ (y : ℕ). y * plan .gamma) (x .books .view k),
       ))
 
-      why : Reason (π) (m .P) (x .tally) k w
+      why : Reason π (m .P) (x .tally) k w
       why = by-clock (to-initial plan faulty ok w (T-right (eqb (clockOf a k % plan .gamma) 0) _ standing))
           (omega (arith, m .books .view k, m .view-kept k (omega arith), above)) (m .books .clock k ∙ here ∙ at-time)
 
       abbrev sent-now : List Message
       sent-now = sent-to r (c .tally) ok (m .books) k w ck in-row now (m .messages) (m .messages) (λ m' t i. i) (λ m' t i. inl i) why
 
-      h : Enter (π) (m .P) (entrants r (c .tally) ok (m .books) k w ck in-row) (x .tally) (flight (m .messages))
+      h : Enter π (m .P) (entrants r (c .tally) ok (m .books) k w ck in-row) (x .tally) (flight (m .messages))
           (flight (m .messages ++ stamped now sent-now)) now k w
       h = entered r (c .tally) ok (m .books) k w ck in-row now (m .messages) (m .messages) (λ m' t i. i) (λ m' t i. inl i) why
 
@@ -192,7 +192,7 @@ module _ (s : State) (ok : Planned (s .run .plan) (s .run .faulty)) (x : Tracked
               m .books .clock k,
               here,
               at-time,
-              mul-le-mul-right (plan .gamma) (proto.next-above (π) w),
+              mul-le-mul-right (plan .gamma) (proto.next-above π w),
               gamma-positive plan
                   faulty ok,
             ))))
@@ -224,10 +224,10 @@ module _ (s : State) (ok : Planned (s .run .plan) (s .run .faulty)) (x : Tracked
             let rem : clockOf a k % plan .gamma ≡ 0 = ap (λ (y : ℕ). y % plan .gamma) e' ∙ mul-mod-left u (plan .gamma) in
             let quo : clockOf a k / plan .gamma ≡ u = ap (λ (y : ℕ). y / plan .gamma) e' ∙ mul-div-cancel u (gamma-positive plan faulty ok) in
             not-standing ck (T-and (eqb (clockOf a k % plan .gamma) 0) _ (eq→eqb _ _ rem)
-            (rw quo (from-initial plan faulty ok u (proto.next-initial (π) (viewOf r k))))) in
+            (rw quo (from-initial plan faulty ok u (proto.next-initial π (viewOf r k))))) in
             omega (
               arith,
-              steps-holds (π) (m .way) (x .holds) .processors .high k ck,
+              steps-holds π (m .way) (x .holds) .processors .high k ck,
               m .books .clock k,
               ap (λ (y : ℕ). nextInitial plan y * plan .gamma) (m .books .view k),
             )
@@ -252,7 +252,7 @@ module _ (s : State) (ok : Planned (s .run .plan) (s .run .faulty)) (x : Tracked
       let c = arrivals (advanced s) in
       arrives plan faulty ok x (made (advanced s) c) refl refl (x .messages ++ stamped now (c .sent)) (m .P) (x .tally)
       (wire-posted (x .wire) now (c .sent) fits) (m .books)
-      (subst (λ (l : List Sent). Steps (π) (state-of plan faulty ok s x) (st (m .P) (x .tally) (flight l) now (s .run .gst) (s .run .settled)))
+      (subst (λ (l : List Sent). Steps π (state-of plan faulty ok s x) (st (m .P) (x .tally) (flight l) now (s .run .gst) (s .run .settled)))
       (m .messages-are) (m .way))
       (λ q cq. m .moved q cq (correct-below plan faulty q cq)) (not-ended (advanced s .run) c not-end)
       (m .tally-length) (length-posted (x .wire) now (c .sent) fits)

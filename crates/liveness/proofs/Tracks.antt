@@ -35,7 +35,7 @@ module _ (plan : Plan) (faulty : ℕ) (ok : Planned plan faulty) where
     pub tally : Tally
     pub wire : Wire (s .network) (s .run .held) messages
     pub books : Books plan (s .run .clocks) (s .run .views) (s .tally) processors tally
-    pub holds : Base (π) processors tally (flight messages) (s .run .time) (s .run .gst) (s .run .settled)
+    pub holds : Base π processors tally (flight messages) (s .run .time) (s .run .gst) (s .run .settled)
     pub ready : Ready plan faulty (s .run .clocks) (s .run .views)
     pub below : Below plan faulty (s .run .clocks)
     -- no correct clock is behind the time
@@ -50,7 +50,7 @@ module _ (plan : Plan) (faulty : ℕ) (ok : Planned plan faulty) where
   -- an event that does not settle the network leads from s to s'
   pub record Leads (s : State) (x : Tracked s) (s' : State) : Type 1 where
     pub to : Tracked s'
-    pub way : Steps (π) (state-of s x) (state-of s' to)
+    pub way : Steps π (state-of s x) (state-of s' to)
     pub tally-length : length (s' .tally) ≡ length (s .tally)
     pub network-length : length (s' .network) ≡ length (s .network)
 
@@ -69,12 +69,12 @@ module _ (plan : Plan) (faulty : ℕ) (ok : Planned plan faulty) where
   module _ {s : State} (x : Tracked s) (s' : State) (plan-to : s' .run .plan ≡ s .run .plan) (faulty-to : s' .run .faulty ≡ s .run .faulty)
       (messages-to : List Sent) (P : Processors) (L : Tally) (wire-to : Wire (s' .network) (s' .run .held) messages-to)
       (books-to : Books plan (s' .run .clocks) (s' .run .views) (s' .tally) P L)
-      (way-to : Steps (π) (state-of s x) (st P L (flight messages-to) (s' .run .time) (s' .run .gst) (s' .run .settled)))
+      (way-to : Steps π (state-of s x) (st P L (flight messages-to) (s' .run .time) (s' .run .gst) (s' .run .settled)))
       (ready-to : Ready plan faulty (s' .run .clocks) (s' .run .views)) (below-to : Below plan faulty (s' .run .clocks))
       (tally-to : length (s' .tally) ≡ length (s .tally)) (network-to : length (s' .network) ≡ length (s .network)) where
     still-early : (p : ℕ) → T (correct plan faulty p) → s' .run .time ≤ clockOf (s' .run) p
     still-early p c =
-        omega (arith, x .early p c, steps-kept (π) way-to .0, steps-clock-up (π) way-to p c, x .books .clock p, books-to .clock p)
+        omega (arith, x .early p c, steps-kept π way-to .0, steps-clock-up π way-to p c, x .books .clock p, books-to .clock p)
 
     pub arrives : Leads s x s'
     arrives = record {
@@ -86,11 +86,11 @@ module _ (plan : Plan) (faulty : ℕ) (ok : Planned plan faulty) where
         tally = L;
         wire = wire-to;
         books = books-to;
-        holds = steps-holds (π) way-to (x .holds);
+        holds = steps-holds π way-to (x .holds);
         ready = ready-to;
         below = below-to;
         early = still-early;
-        unsettled = λ t. steps-kept (π) way-to .1 ∙ x .unsettled (subst (λ (b : Bool). T (not b)) (steps-flag (π) way-to) t);
+        unsettled = λ t. steps-kept π way-to .1 ∙ x .unsettled (subst (λ (b : Bool). T (not b)) (steps-flag π way-to) t);
         limits = (λ i. limitsFor (plan-to i) (faulty-to i) (tally-to i) (network-to i)) ∙ x .limits;
       };
       way = way-to;

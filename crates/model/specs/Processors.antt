@@ -1,5 +1,5 @@
 -- "At the cabinet's own face": one processor moved by rules 1 to 3.
-use mathlib.Core.Bool.{_||_}
+use mathlib.Core.Bool.{Bool, _||_}
 use mathlib.Core.List.{List, [], _∷_}
 use Prim.Native.Nat.{ℕ, _+_}
 use Rattle.model.specs.declared.Plan.{Plan}
@@ -59,15 +59,20 @@ moving plan p clock view (into w) = record {
   check = 0;
 }
 
--- "The cabinet's face uses 9 (limits 2 to 4, its own clock and view), 10, 11 and 17.": the checks of an input that would leave the clock
+-- "The cabinet's face uses 9 (limits 2 to 4, its own clock and view), 10, 11 and 17."
+
+abbrev pub processorUnsound : Plan → Processor → Bool
+processorUnsound plan c = planOutside plan || clockOutside plan (c .clock) (c .view)
+
+-- the checks of an input that would leave the clock
 abbrev pub stepChecks : Plan → Processor → Input → ℕ → List Check
 stepChecks plan c Tick clock =
-    (9, planOutside plan || clockOutside plan (c .clock) (c .view)) ∷ (10, noProcessor plan (c .number)) ∷ (17, atEnd plan clock) ∷ []
+    (9, processorUnsound plan c) ∷ (10, noProcessor plan (c .number)) ∷ (17, atEnd plan clock) ∷ []
 stepChecks plan c (Vc w) clock =
-    (9, planOutside plan || clockOutside plan (c .clock) (c .view)) ∷ (10, namedOutside plan (c .number) w) ∷ (11, notInitial plan viewStage w)
+    (9, processorUnsound plan c) ∷ (10, namedOutside plan (c .number) w) ∷ (11, notInitial plan viewStage w)
     ∷ (17, atEnd plan clock) ∷ []
 stepChecks plan c (Qc w) clock =
-    (9, planOutside plan || clockOutside plan (c .clock) (c .view)) ∷ (10, namedOutside plan (c .number) w) ∷ (11, notInitial plan voteStage w)
+    (9, processorUnsound plan c) ∷ (10, namedOutside plan (c .number) w) ∷ (11, notInitial plan voteStage w)
     ∷ (17, atEnd plan clock) ∷ []
 
 unfoldable pub stepped : Plan → Processor → Input → Moved

@@ -64,8 +64,8 @@ pub enum Message {
     Qc(u64, u64),
 }
 
-// What happens next (document 01: the forms of a line, but for the opening): a message is delivered, a faulty processor signs or shows, the
-// network settles, time passes.
+// What happens next (document 01: the forms of a line, but for the opening): a message is delivered, a faulty processor signs, the
+// adversary shows a certificate, the network settles, time passes.
 pub enum Event {
     Deliver(Message),
     Sign(Message),

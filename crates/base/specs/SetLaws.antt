@@ -1,18 +1,20 @@
 -- Membership of a set with one more, and its size as a count. Assumes nothing.
 use mathlib.Core.Path.{_≡_, refl, sym, ap, _∙_, subst}
-use mathlib.Core.Bool.{Bool, _||_}
-use Prim.Native.Nat.{ℕ, zero, suc, _*_, _/_, _%_, _^_, _<_, max}
+use mathlib.Core.Bool.{Bool, false, _||_}
+use Prim.Native.Nat.{ℕ, zero, suc, _*_, _/_, _%_, _^_, _≤_, _<_, max}
 use native.Mathlib.Nat.{div-one, mod-lt, div-self, div-eq-of-lt, mul-mod-left, pow-suc}
 use native.Mathlib.Omega.{arith}
 use native.Mathlib.Numerals.{add-one}
-use lib.Dec.{T, eqb, eqb→eq}
+use lib.Dec.{T, eqb, ltb, eqb→eq}
+use borrow.Author.Tests.{lt-ltb}
 use lib.Count.{ones, ones-step}
-use lib.Pow.{shl-shr, shr-shr, shr-lt, pow-pos, pow-lt}
+use lib.Pow.{shl-shr, shr-shr, shr-lt, pow-pos, pow-lt, pow-mono}
 use lib.Arith.{lt-one, digits-mod}
 use lib.Bits.{bitOr, or-shr, or-step, or-lt}
 use Rattle.base.specs.Tests.{T-iff, eq→eqb}
 use Rattle.base.specs.Count.{bit, count, count-ext, count-low}
-use Rattle.base.specs.Sets.{member, insert, size}
+use Rattle.base.specs.Sets.{member, insert, insertWord, size}
+use Rattle.base.specs.Choice.{cond-yes}
 
 bit-mod : (w : ℕ) → bit (eqb (w % 2) 1) ≡ w % 2
 bit-mod w = go (w % 2) (mod-lt w (omega arith))
@@ -96,3 +98,12 @@ member-insert s p q = member-or s (2 ^ p) q ∙ ap (λ (b : Bool). member s q ||
 
 pub insert-below : (k s p : ℕ) → p < k → s < 2 ^ k → insert s p < 2 ^ k
 insert-below k s p l h = or-lt k s (2 ^ p) h (pow-lt l)
+
+-- a number that no set can hold is in none
+pub member-beyond : (s p : ℕ) → s < 2 ^ 64 → 64 ≤ p → member s p ≡ false
+unfolding member
+member-beyond s p h l = let b : s < 2 ^ p = omega (arith, pow-mono l) in rw (div-eq-of-lt b) refl
+
+-- one that it can hold is inserted
+pub insert-word : (s p : ℕ) → p < 64 → insertWord s p ≡ insert s p
+insert-word s p l = sym (cond-yes (ltb p 64) (insert s p) (insert s p) s (lt-ltb p 64 l) refl)

@@ -88,7 +88,7 @@ module _ (r : Run) (t : List ℕ) (ok : Planned (r .plan) (r .faulty)) {P : Proc
       (gone : (m : Message) (s : ℕ) → In m s xs → In m s ys ⊎ ((d : Bool) × (u : ℕ) × (m ≡ certificate d u p) × (onward d u ≤ w)))
       (why : Reason π P L p w) where
     abbrev pub sent-to : List Message
-    sent-to = toCorrect r (entryMessages (r .plan) p w)
+    sent-to = toCorrect (r .plan) (r .faulty) (entryMessages (r .plan) p w)
 
     -- what is sent is p's signatures of the stages that take place at w, to a correct leader
     sent-is : (m : Message) (s : ℕ) → In m s (stamped now sent-to)

@@ -28,10 +28,10 @@ use Rattle.liveness.proofs.Sending.{signature, meant, signature-meant, 
 use Rattle.liveness.proofs.Link.{Planned, correct-below}
 use Rattle.liveness.proofs.Enters.{entry-max}
 
-correct-fewer : (r : Run) (ms : List Message) → length (toCorrect r ms) ≤ length ms
+correct-fewer : (r : Run) (ms : List Message) → length (toCorrect (r .plan) (r .faulty) ms) ≤ length ms
 unfolding toCorrect
 correct-fewer r [] = omega arith
-correct-fewer r (m ∷ ms) = by-cond (λ (l : List Message). length l ≤ suc (length ms)) (isCorrect r (meant (r .plan) m)) (m ∷ toCorrect r ms) (toCorrect r ms)
+correct-fewer r (m ∷ ms) = by-cond (λ (l : List Message). length l ≤ suc (length ms)) (isCorrect r (meant (r .plan) m)) (m ∷ toCorrect (r .plan) (r .faulty) ms) (toCorrect (r .plan) (r .faulty) ms)
     (λ t. omega (arith, correct-fewer r ms)) (λ t. omega (arith, correct-fewer r ms))
 
 entry-few : (plan : Plan) (p w : ℕ) → length (entryMessages plan p w) ≤ 2
@@ -128,18 +128,18 @@ module _ (u : Setup) (t : List ℕ) (ok : Planned (u .plan) (u .faulty)) (long :
       sent-is = λ x i. ⊎-elim (λ y. m .sent-is x y)
           (λ y. let e = elem-correct r' x (entryMessages plan k 0) y in let f = entry-sent plan x 0 k (e .0) in
           (f .0, k, f .1, ck, subst (λ (z : ℕ). T (correct plan faulty z)) (ap (meant plan) (f .1) ∙ signature-meant plan (f .0) 0 k) (e .1)))
-          (elem-cases x (d .sent) (toCorrect r' (entryMessages plan k 0)) i);
+          (elem-cases x (d .sent) (toCorrect (r' .plan) (r' .faulty) (entryMessages plan k 0)) i);
       sent-few = omega (
         arith,
-        length-append (d .sent) (toCorrect r' (entryMessages plan k 0)),
+        length-append (d .sent) (toCorrect (r' .plan) (r' .faulty) (entryMessages plan k 0)),
         m .sent-few,
         correct-fewer r'
             (entryMessages plan k 0),
         entry-few plan k 0,
       );
       sent-of = λ e q l cq cl. ⊎-elim
-          (λ (h : q < k). elem-left (signature e 0 q) (d .sent) (toCorrect r' (entryMessages plan k 0)) (m .sent-of e q h cq cl))
-          (λ (h : k < suc q). let g : q ≡ k = omega arith in elem-right (signature e 0 q) (d .sent) (toCorrect r' (entryMessages plan k 0))
+          (λ (h : q < k). elem-left (signature e 0 q) (d .sent) (toCorrect (r' .plan) (r' .faulty) (entryMessages plan k 0)) (m .sent-of e q h cq cl))
+          (λ (h : k < suc q). let g : q ≡ k = omega arith in elem-right (signature e 0 q) (d .sent) (toCorrect (r' .plan) (r' .faulty) (entryMessages plan k 0))
           (rw g (correct-elem r' (signature e 0 k) (entryMessages plan k 0) (entry-sends plan e 0 k (at-zero e))
           (subst (λ (z : ℕ). T (correct plan faulty z)) (sym (signature-meant plan e 0 k)) cl))))
           (le? (suc q) k);

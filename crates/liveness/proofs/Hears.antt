@@ -21,7 +21,7 @@ use Rattle.model.specs.declared.Message.{Message}
 use Rattle.model.specs.declared.Run.{Run}
 use Rattle.model.specs.Quantities.{lead}
 use Rattle.model.specs.State.{viewOf, isCorrect, enteredWord, heardWord, marksWord, markBit, slot, word, added}
-use Rattle.model.specs.Moves.{toCorrect, needed, forms, certificate, toEach}
+use Rattle.model.specs.Moves.{toCorrect, needed, forms, ripe, certificate, toEach}
 use Rattle.liveness.proofs.TallyLaws.{heard-low, length-added, added-same, added-other, added-member, added-below}
 use Rattle.liveness.proofs.Flight.{Sent, In, stamped, sentAs}
 use Rattle.liveness.proofs.Sending.{signature, signature-is, certificate-is, apart, meant, certificate-meant, in-stamped, stamped-in, elem-correct, correct-elem, each-gets, each-got}
@@ -143,20 +143,20 @@ module _ (q : Bool) (r : Run) (t : List ℕ) (ok : Planned (r .plan) (r .faulty)
       (books .sets-below w (heardWord q) w-low (heard-low q .1))))
 
   forms-many : T formed-here → needed q (r .plan) ≤ size signers
-  unfolding forms
+  unfolding ripe
   forms-many f =
       leb→le _ _ (T-left (leb (needed q (r .plan)) (size signers)) _
       (T-left (leb (needed q (r .plan)) (size signers) && not (member (word t w marksWord) (markBit q))) _ f))
 
   forms-first : T formed-here → T (L .formed q w) → ⊥
-  unfolding forms
+  unfolding ripe
   forms-first f x = T-not (member (word t w marksWord) (markBit q))
       (T-right (leb (needed q (r .plan)) (size signers)) _ (T-left
       (leb (needed q (r .plan)) (size signers) && not (member (word t w marksWord) (markBit q))) _ f))
       (rw (books .formed q w w-low) at x)
 
   forms-if : needed q (r .plan) ≤ size signers → (T (L .formed q w) → ⊥) → T (q || leb (viewOf r (lead (r .plan) w)) w) → T formed-here
-  unfolding forms
+  unfolding ripe
   forms-if m no' v =
       T-and (leb (needed q (r .plan)) (size signers) && not (member (word t w marksWord) (markBit q))) _
       (T-and (leb (needed q (r .plan)) (size signers)) _ (le→leb _ _ m)
@@ -179,7 +179,7 @@ module _ (q : Bool) (r : Run) (t : List ℕ) (ok : Planned (r .plan) (r .faulty)
       (gone : (m : Message) (s : ℕ) → In m s xs → In m s ys ⊎ (m ≡ signature q w p))
       (from : (T (isCorrect r p) → ⊥) ⊎ ((s : ℕ) × In (signature q w p) s xs)) (led : T (isCorrect r (lead (r .plan) w))) where
     abbrev all-of : List Message
-    all-of = toCorrect r (toEach q w (r .plan .n))
+    all-of = toCorrect (r .plan) (r .faulty) (toEach q w (r .plan .n))
 
     abbrev pub sent-of : List Message
     sent-of = cond formed-here all-of []

@@ -18,7 +18,7 @@ use Rattle.model.specs.declared.Event.the-variants.{Deliver, Sign, Show, Settle
 use Rattle.model.specs.declared.Run.{Run}
 use Rattle.model.specs.Quantities.{rowWords, lead}
 use Rattle.model.specs.State.{State, After, voteStage, isCorrect, viewOf, enteredWord, heardWord, marksWord, markBit, slot, word, added, kindOf, viewIn, processorIn, addressee, kindAt, viewAt, processorAt, sentAt, checkOf, accepted, refused}
-use Rattle.model.specs.Moves.{Change, changed, still, Entry, stay, into, byView, byQuorum, needed, forms, entering, taking, entries, hearing, handling, advanced, arrival, arrivals, made}
+use Rattle.model.specs.Moves.{Change, changed, still, Entry, stay, into, byView, byQuorum, needed, forms, ripe, entering, taking, entries, hearing, handling, advanced, arrival, arrivals, made}
 use Rattle.model.specs.Checks.{isAt, placeOf, notHeld, limitsBroken, messageUnsound, unsound}
 use Rattle.model.specs.Events.{without, delivering, signing, nowSettled, tickChecks, tickOnce, continued, ticks, tickRun, checks, effect, applied}
 use Rattle.model.specs.Lists.{after, formsQuorum, formedIn, formedDuring}
@@ -112,7 +112,7 @@ vote-mark q r t v p w no' led x =
 
 module _ (s : State) (w : ℕ) (no' : Marked (s .tally) w → ⊥) where
   delivered-mark : (m : Message) → Passes (checks (Deliver m) s) → Marked (delivering s m .tally) w → T (formsQuorum (s .run) (s .tally) m w)
-  unfolding checks delivering without handling forms
+  unfolding checks delivering without handling ripe
   delivered-mark (View v p) c x = absurd (vote-mark false (without s (View v p) .run) (s .tally) v p w no' (addressed s (View v p) (c .0) (c .1 .1 .1 .0)) x .0)
   delivered-mark (Vote v p) c x = vote-mark true (without s (Vote v p) .run) (s .tally) v p w no' (addressed s (Vote v p) (c .0) (c .1 .1 .1 .0)) x .1
   delivered-mark (Vc v p) c x = absurd (no' (entry-mark (without s (Vc v p) .run) (s .tally) p (byView (s .run .plan) (viewOf (s .run) p) v) w x))
@@ -156,7 +156,7 @@ turned-formed s (Tick m) w no' = by-judged (λ (a : After). Marked (a .state .ta
 -- a vote that makes it is heard in a row of the tally
 formed-turned : (s : State) (r : Run) (v p w : ℕ) → (T (limitsBroken s) → ⊥) → v < s .run .plan .views → (v ≡ w) → T (forms voteStage r (s .tally) v p)
     → (Marked (s .tally) w → ⊥) × Marked (hearing voteStage r (s .tally) v p .tally) w
-unfolding hearing forms
+unfolding hearing ripe
 formed-turned s r v p w limits low e f = (fresh, by-cond (λ (l : List ℕ). Marked l w) (forms voteStage r (s .tally) v p) _ _ (λ t. set-now) (λ t. absurd (t f)))
   where
     rows : rowWords * s .run .plan .views ≤ length (s .tally)
@@ -183,7 +183,7 @@ formed-turned s r v p w limits low e f = (fresh, by-cond (λ (l : List ℕ). Mar
 module _ (s : State) (w : ℕ) where
   delivered-turned : (m : Message) → Passes (checks (Deliver m) s) → T (formsQuorum (s .run) (s .tally) m w)
       → (Marked (s .tally) w → ⊥) × Marked (delivering s m .tally) w
-  unfolding checks delivering without handling forms
+  unfolding checks delivering without handling ripe
   delivered-turned (View v p) c x = absurd x
   delivered-turned (Vote v p) c x =
       let e : v ≡ w = eqb→eq v w (T-left (eqb v w) _ (T-left (eqb v w && isCorrect (s .run) (lead (s .run .plan) w)) _ x)) in

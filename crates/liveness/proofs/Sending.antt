@@ -64,20 +64,20 @@ stamped-in m now [] i = absurd i
 stamped-in m now (x ∷ ms) (inl e) = inl (ap (λ (y : Message). sentAs y now) e)
 stamped-in m now (x ∷ ms) (inr i) = inr (stamped-in m now ms i)
 
-pub elem-correct : (r : Run) (m : Message) (ms : List Message) → Elem m (toCorrect r ms) → Elem m ms × T (isCorrect r (meant (r .plan) m))
+pub elem-correct : (r : Run) (m : Message) (ms : List Message) → Elem m (toCorrect (r .plan) (r .faulty) ms) → Elem m ms × T (isCorrect r (meant (r .plan) m))
 unfolding toCorrect
 elem-correct r m [] i = absurd i
 elem-correct r m (x ∷ ms) i =
     by-cond (λ (l : List Message). Elem m l → Elem m (x ∷ ms) × T (isCorrect r (meant (r .plan) m))) (isCorrect r (meant (r .plan) x))
-    (x ∷ toCorrect r ms) (toCorrect r ms)
+    (x ∷ toCorrect (r .plan) (r .faulty) ms) (toCorrect (r .plan) (r .faulty) ms)
     (λ t j. ⊎-elim (λ e. (inl e, rw e t)) (λ k. let y = elem-correct r m ms k in (inr (y .0), y .1)) j)
     (λ t j. let y = elem-correct r m ms j in (inr (y .0), y .1)) i
 
-pub correct-elem : (r : Run) (m : Message) (ms : List Message) → Elem m ms → T (isCorrect r (meant (r .plan) m)) → Elem m (toCorrect r ms)
+pub correct-elem : (r : Run) (m : Message) (ms : List Message) → Elem m ms → T (isCorrect r (meant (r .plan) m)) → Elem m (toCorrect (r .plan) (r .faulty) ms)
 unfolding toCorrect
 correct-elem r m [] i c = absurd i
 correct-elem r m (x ∷ ms) i c =
-    by-cond (λ (l : List Message). Elem m l) (isCorrect r (meant (r .plan) x)) (x ∷ toCorrect r ms) (toCorrect r ms)
+    by-cond (λ (l : List Message). Elem m l) (isCorrect r (meant (r .plan) x)) (x ∷ toCorrect (r .plan) (r .faulty) ms) (toCorrect (r .plan) (r .faulty) ms)
     (λ t. ⊎-elim (λ e. inl e) (λ k. inr (correct-elem r m ms k c)) i)
     (λ t. ⊎-elim (λ e. absurd (t (rw e at c))) (λ k. correct-elem r m ms k c) i)
 

@@ -9,7 +9,7 @@ use Rattle.model.specs.declared.Plan.{Plan}
 use Rattle.model.specs.declared.Message.{Message}
 use Rattle.model.specs.declared.Message.the-variants.{View, Vote, Vc, Qc}
 use Rattle.model.specs.declared.Run.{Run}
-use Rattle.model.specs.Quantities.{tolerated, lead, initial, clockTime}
+use Rattle.model.specs.Quantities.{tolerated, lead, initial, clockTime, correct}
 use Rattle.model.specs.State.{State, viewStage, voteStage, withHeld, withTime, withClocks, withViews, clockOf, viewOf, isCorrect, enteredWord, heardWord, marksWord, markBit, word, added, kindOf, viewIn, processorIn, addressee, posted}
 
 -- what a move leaves of clocks, views and tally, and the messages that it sends, in order; nothing else of the run moves
@@ -30,9 +30,10 @@ abbrev pub also : Change → Change → Change
 also c d = record { clocks = d .clocks; views = d .views; tally = d .tally; sent = c .sent ++ d .sent }
 
 -- "messages sent to correct cabinets": those that go into the network; "Messages to a faulty leader are not posted."
-unfoldable pub toCorrect : Run → List Message → List Message
-toCorrect r [] = []
-toCorrect r (m ∷ ms) = cond (isCorrect r (addressee (r .plan) (kindOf m) (viewIn m) (processorIn m))) (m ∷ toCorrect r ms) (toCorrect r ms)
+unfoldable pub toCorrect : Plan → ℕ → List Message → List Message
+toCorrect plan faulty [] = []
+toCorrect plan faulty (m ∷ ms) =
+    cond (correct plan faulty (addressee plan (kindOf m) (viewIn m) (processorIn m))) (m ∷ toCorrect plan faulty ms) (toCorrect plan faulty ms)
 
 -- ---- "Entering view w: the view becomes w, a clock below wΓ becomes wΓ, and the cabinet sends its vote for w to the leader of w;
 -- for an initial w its view message goes before the vote."
@@ -48,7 +49,7 @@ entering r t p w = record {
   clocks = set (r .clocks) p (entryClock (r .plan) (clockOf r p) w);
   views = set (r .views) p w;
   tally = added t w enteredWord p;
-  sent = toCorrect r (entryMessages (r .plan) p w);
+  sent = toCorrect (r .plan) (r .faulty) (entryMessages (r .plan) p w);
 }
 
 -- ---- which view rules 1 to 3 make a processor enter, if any
@@ -88,11 +89,14 @@ needed false plan = tolerated plan + 1
 needed true plan = plan .n - tolerated plan
 
 -- "no such certificate formed yet and its own view at most w" (5: "whatever its own view"), p being the signer just heard
-unfoldable pub forms : Bool → Run → List ℕ → ℕ → ℕ → Bool
-forms stage r t w p =
-    leb (needed stage (r .plan)) (size (insert (word t w (heardWord stage)) p))
+unfoldable pub ripe : Bool → Plan → ℕ → List ℕ → ℕ → ℕ → Bool
+ripe stage plan own t w p =
+    leb (needed stage plan) (size (insert (word t w (heardWord stage)) p))
     && not (member (word t w marksWord) (markBit stage))
-    && (stage || leb (viewOf r (lead (r .plan) w)) w)
+    && (stage || leb own w)
+
+abbrev pub forms : Bool → Run → List ℕ → ℕ → ℕ → Bool
+forms stage r t w p = ripe stage (r .plan) (viewOf r (lead (r .plan) w)) t w p
 
 abbrev pub certificate : Bool → ℕ → ℕ → Message
 certificate false w p = Vc w p
@@ -113,7 +117,7 @@ hearing stage r t w p =
       clocks = r .clocks;
       views = r .views;
       tally = cond formed (added heard w marksWord (markBit stage)) heard;
-      sent = cond formed (toCorrect r (toEach stage w (r .plan .n))) [];
+      sent = cond formed (toCorrect (r .plan) (r .faulty) (toEach stage w (r .plan .n))) [];
     }
 
 -- a message that reaches whom it is for

@@ -1,4 +1,4 @@
--- The plan's functions on 64-bit numbers: document 01's wherever its number fits, and a named one elsewhere.
+-- What the plan's functions answer: document 01's number wherever it fits 64 bits, and a named one elsewhere.
 use mathlib.Core.Bool.{cond}
 use Prim.Native.Nat.{ℕ, _-_, _^_}
 use lib.Dec.{eqb, ltb}

@@ -1,7 +1,9 @@
 -- "At the cabinet's own face": one processor moved by rules 1 to 3.
-use mathlib.Core.Bool.{Bool, _||_}
+use mathlib.Core.Path.{_≡_}
+use mathlib.Core.Bool.{Bool, true, false, _||_}
 use mathlib.Core.List.{List, [], _∷_}
 use Prim.Native.Nat.{ℕ, _+_}
+use lib.Dec.{eqb}
 use Rattle.model.specs.declared.Plan.{Plan}
 use Rattle.model.specs.declared.Message.{Message}
 use Rattle.model.specs.declared.Message.the-variants.{View, Vote}
@@ -36,6 +38,17 @@ sentIn p (Refused r) = []
 abbrev pub checkIn : Stepped → ℕ
 checkIn (Sent x) = 0
 checkIn (Refused r) = r
+
+abbrev pub acceptedIn : Stepped → Bool
+acceptedIn (Sent x) = true
+acceptedIn (Refused r) = false
+
+-- that a function left the processor c and answered a, as m says
+pub record Gives (m : Moved) (c : Processor) (a : Stepped) : Type 0 where
+  pub processor : c ≡ m .processor
+  pub sent : sentIn (c .number) a ≡ m .sent
+  pub check : checkIn a ≡ m .check
+  pub accepted : acceptedIn a ≡ eqb (m .check) 0
 
 -- ---- its move
 

@@ -18,7 +18,7 @@ use Rattle.base.specs.Scan.{some, first, listed}
 use Rattle.base.specs.Sets.{member}
 use Rattle.model.specs.Quantities.{tableClocks, perLeader}
 use Rattle.model.specs.State.{State, After, runOf, clockOf, viewOf, isCorrect, kindOf, viewIn, processorIn, posted, removed}
-use Rattle.model.specs.Moves.{toCorrect, entering, taking, entries, forms, toEach, hearing, handling, clocksOn, arrivals, made}
+use Rattle.model.specs.Moves.{toCorrect, entering, taking, entries, ripe, toEach, hearing, handling, clocksOn, arrivals, made}
 use Rattle.model.specs.Checks.{startTooHigh, tooFarAhead, messageUnsound, unsound, exists, overdue, reachesEnd}
 use Rattle.model.specs.Opening.{blank, opened, opening}
 use Rattle.model.specs.Events.{without, delivering, signing, nowSettled, tickOnce, ticks, tickRun, checks, effect, applied}
@@ -27,7 +27,7 @@ use Rattle.model.specs.Lists.{after}
 
 -- names all that has to unfold for a row to compute
 unfoldable pub definitions : ℕ
-unfolding stepped applied checks effect tickRun ticks tickOnce nowSettled signing delivering without after opening opened blank reachesEnd overdue exists unsound messageUnsound tooFarAhead startTooHigh made arrivals clocksOn handling hearing toEach forms entries taking entering toCorrect removed posted perLeader count some first listed member ones onesIn
+unfolding stepped applied checks effect tickRun ticks tickOnce nowSettled signing delivering without after opening opened blank reachesEnd overdue exists unsound messageUnsound tooFarAhead startTooHigh made arrivals clocksOn handling hearing toEach ripe entries taking entering toCorrect removed posted perLeader count some first listed member ones onesIn
 definitions = 0
 
 -- ---- what is put in

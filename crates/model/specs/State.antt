@@ -11,6 +11,7 @@ use Rattle.model.specs.declared.Message.{Message}
 use Rattle.model.specs.declared.Message.the-variants.{View, Vote, Vc, Qc}
 use Rattle.model.specs.declared.Run.{Run}
 use Rattle.model.specs.declared.Answer.{Answer}
+use Rattle.model.specs.declared.Applied.{Applied}
 use Rattle.model.specs.declared.Answer.the-variants.{Done, Stopped, Refused}
 use Rattle.model.specs.Quantities.{correct, lead, rowWords, messageWords}
 
@@ -19,6 +20,9 @@ pub record State : Type 0 where
   pub run : Run
   pub tally : List ℕ
   pub network : List ℕ
+
+abbrev pub stateOf : Run → List ℕ → List ℕ → State
+stateOf run tally network = record { run = run; tally = tally; network = network }
 
 -- ---- the run
 
@@ -198,6 +202,10 @@ accepted (Refused r) = false
 pub record After : Type 0 where
   pub state : State
   pub answer : Answer
+
+-- what a function handed back, with the buffers as it left them
+abbrev pub handedBack : Applied → List ℕ → List ℕ → After
+handedBack a tally network = record { state = stateOf (a .run) tally network; answer = a .answer }
 
 -- "A refusal answers its number alone and changes nothing"
 abbrev pub refused : State → ℕ → After

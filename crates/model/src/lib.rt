@@ -1,6 +1,7 @@
 // The types of the product, declared once, and the functions of the plan.
 ghost use mathlib.Core.Path.{_≡_};
-ghost use Rattle.model.specs.Quantities.{initial};
+ghost use Rattle.model.specs.Quantities.{tolerated, initial, correct};
+ghost use Rattle.model.specs.State.{kindOf, viewIn, processorIn, stageOf};
 ghost use Rattle.model.specs.PlanFunctions.{leadWord, clockTimeWord};
 
 // The protocol's parameters (document 01: the plan): processors, delay, slot, view limit.
@@ -19,6 +20,20 @@ impl Plan {
     pub const LARGEST: u64 = 18446744073709551615;
     // Two numbers below this have a product that fits.
     pub const HALF: u64 = 4294967296;
+    // The limits of checks 2 to 4.
+    pub const N_LEAST: u64 = 4;
+
+    pub const N_MOST: u64 = 64;
+
+    pub const DELTA_LEAST: u64 = 1;
+
+    pub const DELTA_MOST: u64 = 1000;
+
+    pub const GAMMA_MOST: u64 = 10000;
+
+    pub const VIEWS_LEAST: u64 = 3;
+
+    pub const VIEWS_MOST: u64 = 6000;
 
     // The leader of view w.
     pub fn lead(self, w: u64) -> u64
@@ -54,6 +69,29 @@ impl Plan {
         }
         w * self.gamma
     }
+
+    // t, the faulty processors that the protocol tolerates.
+    pub fn tolerated(self) -> u64
+        ensures { λ r. ⌜ r ≡ tolerated self ⌝ }
+    {
+        if self.n == 0 {
+            return 0;
+        }
+        (self.n - 1) / 3
+    }
+
+    // Whether q is one of the processors and not in the faulty set.
+    pub fn correct(self, faulty: u64, q: u64) -> bool
+        ensures { λ r. ⌜ r ≡ correct self faulty q ⌝ }
+    {
+        if self.n <= q {
+            return false;
+        }
+        if base::member(faulty, q) {
+            return false;
+        }
+        true
+    }
 }
 
 // A message: its view, then the processor, which is the sender of a view message or vote and the receiver of a certificate.
@@ -62,6 +100,56 @@ pub enum Message {
     Vote(u64, u64),
     Vc(u64, u64),
     Qc(u64, u64),
+}
+
+impl Message {
+    // The number by which a message of this kind is stored.
+    pub fn kind(self) -> u64
+        ensures { λ r. ⌜ r ≡ kindOf self ⌝ }
+    {
+        match self {
+            Message::View(_, _) => 1,
+            Message::Vote(_, _) => 2,
+            Message::Vc(_, _) => 3,
+            Message::Qc(_, _) => 4,
+        }
+    }
+
+    // The view that it names.
+    pub fn view(self) -> u64
+        ensures { λ r. ⌜ r ≡ viewIn self ⌝ }
+    {
+        match self {
+            Message::View(w, _) => w,
+            Message::Vote(w, _) => w,
+            Message::Vc(w, _) => w,
+            Message::Qc(w, _) => w,
+        }
+    }
+
+    // The processor that it names.
+    pub fn processor(self) -> u64
+        ensures { λ r. ⌜ r ≡ processorIn self ⌝ }
+    {
+        match self {
+            Message::View(_, p) => p,
+            Message::Vote(_, p) => p,
+            Message::Vc(_, p) => p,
+            Message::Qc(_, p) => p,
+        }
+    }
+
+    // Whether it is of the second stage: a vote or a quorum certificate.
+    pub fn stage(self) -> bool
+        ensures { λ r. ⌜ r ≡ stageOf self ⌝ }
+    {
+        match self {
+            Message::View(_, _) => false,
+            Message::Vote(_, _) => true,
+            Message::Vc(_, _) => false,
+            Message::Qc(_, _) => true,
+        }
+    }
 }
 
 // What happens next (document 01: the forms of a line, but for the opening): a message is delivered, a faulty processor signs, the

@@ -4,6 +4,7 @@ use mathlib.Core.Bool.{Bool, true, false, not, _&&_}
 use Prim.Native.Nat.{ℕ, zero, suc, _+_, _≤_, _<_}
 use native.Mathlib.Omega.{arith}
 use native.Mathlib.Nat.{lt-irrefl}
+use native.Mathlib.Numerals.{add-one}
 use lib.Dec.{T}
 
 abbrev pub bit : Bool → ℕ
@@ -79,3 +80,15 @@ pub count-low : (m : ℕ) (A : ℕ → Bool) → count (suc m) A ≡ bit (A 0) +
 unfolding count
 count-low zero A = refl
 count-low (suc m) A = let ih = count-low m A in omega arith
+
+-- as a loop over the numbers asks it: before the first, and one further
+pub count-start : (A : ℕ → Bool) → count 0 A ≡ 0
+unfolding count
+count-start A = refl
+
+pub count-on : (m : ℕ) (A : ℕ → Bool) → count (m + 1) A ≡ count m A + bit (A m)
+unfolding count
+count-on m A = rw add-one (omega arith)
+
+pub count-le : (m : ℕ) (A : ℕ → Bool) → count m A ≤ m
+count-le m A = omega (arith, count-both m A)

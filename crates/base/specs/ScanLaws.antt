@@ -1,14 +1,15 @@
 -- What scans of the numbers below k say of each of them. Assumes nothing.
 use mathlib.Core.Path.{_≡_, refl, _∙_}
-use mathlib.Core.Bool.{Bool, false, _||_, cond}
+use mathlib.Core.Bool.{Bool, true, false, _||_, cond}
 use mathlib.Core.Logic.{_⊎_, inl, inr}
 use mathlib.Core.List.{[], _∷_, _++_}
 use Prim.Native.Nat.{ℕ, zero, suc, _+_, _≤_, _<_}
 use native.Mathlib.Omega.{arith}
+use native.Mathlib.Numerals.{add-one}
 use lib.Dec.{T, ltb, ltb→lt}
 use lib.ListN.{length, getD, length-append, List·getD-append}
 use lib.Seq.{getD-at}
-use Rattle.base.specs.Tests.{or-left, or-right, or-cases, T-false, le?, by-cond}
+use Rattle.base.specs.Tests.{or-left, or-right, or-cases, T-true, T-false, le?, by-cond}
 use Rattle.base.specs.Scan.{some, first, listed}
 
 -- one that passes is enough
@@ -33,6 +34,30 @@ some-gives f (suc k) t = go (some-gives f k) (or-cases (some f k) (f k) t)
 -- none passes
 pub some-none : (f : ℕ → Bool) (k : ℕ) → ((i : ℕ) → i < k → T (f i) → ⊥) → some f k ≡ false
 some-none f k h = T-false (some f k) (λ t. let r = some-gives f k t in h (r .0) (r .1) (r .2))
+
+-- the same, as a loop over the numbers asks it: before the first; none so far and not here; here; none at the end
+pub some-start : (f : ℕ → Bool) → some f 0 ≡ false
+unfolding some
+some-start f = refl
+
+pub some-on : (f : ℕ → Bool) (k : ℕ) → some f k ≡ false → f k ≡ false → some f (k + 1) ≡ false
+unfolding some
+some-on f k e h = rw (add-one, e, h)
+
+pub some-here : (f : ℕ → Bool) (k i : ℕ) → i < k → f i ≡ true → some f k ≡ true
+some-here f k i l e = T-true (some f k) (some-by f k i l (rw e tt))
+
+pub some-below : (f : ℕ → Bool) (k i : ℕ) → some f i ≡ false → k ≤ i → some f k ≡ false
+some-below f k i e l = some-none f k (λ j h t. rw e at (some-by f i j (omega arith) t))
+
+-- none passes, so this one does not
+pub some-not : (f : ℕ → Bool) (k i : ℕ) → some f k ≡ false → i < k → f i ≡ false
+some-not f k i e l = T-false (f i) (λ t. rw e at (some-by f k i l t))
+
+pub some-ext : (f g : ℕ → Bool) (k : ℕ) → ((i : ℕ) → i < k → f i ≡ g i) → some f k ≡ some g k
+unfolding some
+some-ext f g zero h = refl
+some-ext f g (suc k) h = rw (some-ext f g k (λ i l. h i (omega arith)), h k (omega arith)) refl
 
 pub first-at : (f : ℕ → Bool) (k : ℕ) → first f k < k → T (f (first f k))
 unfolding first

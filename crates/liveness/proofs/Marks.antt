@@ -77,7 +77,7 @@ ticks-mark (suc m) s w x = go (checkOf (tickOnce s .answer)) (λ y. once-mark s 
 -- ---- a vote that is delivered was for a correct leader
 
 module _ (s : State) (m : Message) (sound : T (unsound s) → ⊥) (is-held : T (notHeld s m) → ⊥) where
-  addressed : T (isCorrect (s .run) (addressee (s .run .plan) (kindOf m) (viewIn m) (processorIn m)))
+  pub addressed : T (isCorrect (s .run) (addressee (s .run .plan) (kindOf m) (viewIn m) (processorIn m)))
   unfolding messageUnsound
   addressed =
       let i : ℕ = placeOf s m in

@@ -1,0 +1,77 @@
+-- What check 9 asks of a held message, by what its words decode to. Assumes nothing.
+use mathlib.Core.Path.{_≡_, refl, sym, ap, _∙_}
+use mathlib.Core.Bool.{Bool, true, false, not, _||_}
+use mathlib.Core.List.{List}
+use Prim.Native.Nat.{ℕ, _≤_, _<_}
+use native.Mathlib.Omega.{arith}
+use lib.Dec.{eqb, leb, ltb}
+use borrow.Author.Tests.{ne-eqb}
+use Rattle.base.specs.Scan.{some}
+use Rattle.base.specs.Choice.{cond-no}
+use Rattle.model.specs.declared.Plan.{Plan}
+use Rattle.model.specs.declared.Message.{Message}
+use Rattle.model.specs.declared.Run.{Run}
+use Rattle.model.specs.Quantities.{lead, correct}
+use Rattle.model.specs.PlanFunctions.{leadWord}
+use Rattle.model.specs.State.{stateOf, kindOf, viewIn, processorIn, kindLeast, kindMost, kindAt, viewAt, processorAt, sentAt, addressee, capacity}
+use Rattle.model.specs.Checks.{noView, noProcessor, messageUnsound}
+use Rattle.pacemaker.specs.Limits.{Within}
+use Rattle.buffers.specs.declared.Stored.the-variants.{Holds, Unknown}
+use Rattle.buffers.specs.Kinds.{stored}
+use Rattle.buffers.specs.KindLaws.{stored-holds, stored-unknown}
+use Rattle.checks.specs.Scans.{heldUnsound, flying}
+
+-- there are processors, so one leads
+pub leads : (plan : Plan) (w : ℕ) → Within plan → leadWord plan w ≡ lead plan w
+leads plan w h = sym (cond-no (eqb (plan .n) 0) (lead plan w) 0 (lead plan w) (ne-eqb (plan .n) 0 (λ e. absurd (omega (arith, h .n-least)))) refl)
+
+-- the first of five tests passes, or is left out
+first-passes : (k v p a s : Bool) → k ≡ true → (k || v || p || a || s) ≡ true
+first-passes k v p a s e = rw e
+
+first-fails : (k v p a s : Bool) → k ≡ false → (v || p || a || s) ≡ (k || v || p || a || s)
+first-fails k v p a s e = rw e
+
+-- four tests in turn
+pub four1 : (v p a s : Bool) → v ≡ true → true ≡ (v || p || a || s)
+four1 v p a s x = rw x
+
+pub four2 : (v p a s : Bool) → v ≡ false → p ≡ true → true ≡ (v || p || a || s)
+four2 v p a s x y = rw (x, y)
+
+pub four3 : (v p a s : Bool) → v ≡ false → p ≡ false → a ≡ true → true ≡ (v || p || a || s)
+four3 v p a s x y z = rw (x, y, z)
+
+pub four4 : (v p a s : Bool) → v ≡ false → p ≡ false → a ≡ false → s ≡ (v || p || a || s)
+four4 v p a s x y z = rw (x, y, z)
+
+module _ (plan : Plan) (faulty time : ℕ) (ws : List ℕ) (i : ℕ) where
+  abbrev kindOutside : Bool
+  kindOutside = ltb (kindAt ws i) kindLeast || ltb kindMost (kindAt ws i)
+
+  abbrev toFaulty : ℕ → ℕ → ℕ → Bool
+  toFaulty kind w p = not (correct plan faulty (addressee plan kind w p))
+
+  -- of no kind
+  pub kind-unsound : i < capacity ws → stored ws i ≡ Unknown → messageUnsound (flying plan faulty time ws) i ≡ true
+  unfolding messageUnsound
+  kind-unsound l e = first-passes kindOutside (noView plan (viewAt ws i)) (noProcessor plan (processorAt ws i))
+      (toFaulty (kindAt ws i) (viewAt ws i) (processorAt ws i)) (ltb time (sentAt ws i)) (stored-unknown ws i l e)
+
+  tests-as : (k w p k' w' p' : ℕ) → k ≡ k' → w ≡ w' → p ≡ p' → (noView plan w' || noProcessor plan p' || toFaulty k' w' p' || ltb time (sentAt ws i))
+      ≡ (noView plan w || noProcessor plan p || toFaulty k w p || ltb time (sentAt ws i))
+  tests-as k w p k' w' p' a b c = rw (a, b, c)
+
+  -- a message
+  pub held-unsound : (m : Message) → stored ws i ≡ Holds m → heldUnsound plan faulty time m (sentAt ws i) ≡ messageUnsound (flying plan faulty time ws) i
+  unfolding messageUnsound
+  held-unsound m e =
+      let h = stored-holds ws i m e in
+      tests-as (kindAt ws i) (viewAt ws i) (processorAt ws i) (kindOf m) (viewIn m) (processorIn m) (h .0) (h .1) (h .2)
+      ∙ first-fails kindOutside (noView plan (viewAt ws i)) (noProcessor plan (processorAt ws i))
+      (toFaulty (kindAt ws i) (viewAt ws i) (processorAt ws i)) (ltb time (sentAt ws i)) (h .3)
+
+-- the rest of the run does not matter
+pub some-flying : (r : Run) (t ws : List ℕ) (k : ℕ) → some (messageUnsound (flying (r .plan) (r .faulty) (r .time) ws)) k ≡ some (messageUnsound (stateOf r t ws)) k
+unfolding messageUnsound
+some-flying r t ws k = refl

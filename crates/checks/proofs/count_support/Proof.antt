@@ -1,0 +1,60 @@
+use Rattle.checks.specs.Scans.{supportAt}
+use Rattle.base.specs.Count.{count, count-start, count-on, count-le}
+use borrow.Author.Needs.{needs, zero≤}
+use native.Mathlib.Omega.{arith}
+use Prim.Native.Nat.{ℕ, _-_, _≤_}
+use mathlib.Core.Path.{_≡_, sym, ap, _∙_}
+use Rattle.checks.proofs.count_support.Statement.{statement}
+use Rattle.checks.proofs.count_support.Tie as tie
+use Rattle.checks.proofs.count_support.Reads as reads
+use Rattle.checks.proofs.count_support.Lts as lts
+use Rattle.checks.proofs.support.Reads as support-reads
+
+abbrev Inv-loop : tie.InvT-loop
+Inv-loop c setup n k₀ q₀ k q = (q ≤ setup .plan .n) × (k ≡ count q (supportAt setup c))
+
+abbrev μ-loop : tie.MeasureT-loop
+μ-loop c setup n k₀ q₀ k q = setup .plan .n - q
+
+loop-holds : tie.Need-loop-holds Inv-loop μ-loop
+loop-holds c = (zero≤, sym (count-start (supportAt (c .args .t1) (c .args .c))))
+
+mul-support : tie.Need-mul-support Inv-loop μ-loop
+mul-support c = search needs
+
+element-copy-out-support : tie.Need-element-copy-out-support Inv-loop μ-loop
+element-copy-out-support c = search needs
+
+support-requires : tie.Need-support-requires Inv-loop μ-loop
+support-requires c κs = search needs
+
+add-k : tie.Need-add-k Inv-loop μ-loop
+add-k c = omega (arith, c .support .ensures .1, count-le (c .before .before .before .before .loop .q) (supportAt (c .before .before .before .before .before .args .t1) (c .before .before .before .before .before .args .c)))
+
+add-q : tie.Need-add-q Inv-loop μ-loop
+add-q c = search needs
+
+loop-less : tie.Need-loop-less Inv-loop μ-loop
+loop-less c = search needs
+
+loop-again : tie.Need-loop-again Inv-loop μ-loop
+loop-again c = (omega arith, omega (arith, c .support .ensures .0, count-on (c .before .before .before .before .loop .q) (supportAt (c .before .before .before .before .before .args .t1) (c .before .before .before .before .before .args .c))))
+
+returns : tie.Need-returns Inv-loop μ-loop
+returns c = let e : c .before .loop .q ≡ c .before .before .args .t1 .plan .n = omega arith in c .before .loop .inv .1 ∙ ap (λ (x : ℕ). count x (supportAt (c .before .before .args .t1) (c .before .before .args .c))) e
+
+pub count-support-spec : {M : Type 1} → statement M
+count-support-spec =
+    tie.close
+    (tie.spec
+    Inv-loop
+    μ-loop
+    loop-holds
+    mul-support
+    element-copy-out-support
+    support-requires
+    add-k
+    add-q
+    loop-less
+    loop-again
+    returns)

@@ -1,0 +1,336 @@
+// Check 9 on whatever is handed in, and checks 2 to 8 of an opening.
+use buffers::Stored;
+use model::Message;
+use model::Plan;
+use model::Processor;
+use model::Run;
+use model::Setup;
+ghost use mathlib.Core.Path.{_≡_};
+ghost use mathlib.Core.Bool.{false, not, _&&_, _||_};
+ghost use Prim.Native.Nat.{_+_, _^_, _≤_, _<_};
+ghost use lib.Dec.{eqb, leb, ltb};
+ghost use lib.ListN.{drop};
+ghost use Rattle.base.specs.Count.{bit};
+ghost use Rattle.base.specs.Scan.{some};
+ghost use Rattle.model.specs.Quantities.{correct, startLimit};
+ghost use Rattle.model.specs.State.{stateOf, kindOf, viewIn, processorIn, addressee, capacity};
+ghost use Rattle.model.specs.Checks.{planOutside, faultyOutside, lengthsOutside, clockOutside, messageUnsound, someNonZero, unsound, startTooHigh, supporting, tooFarAhead};
+ghost use Rattle.pacemaker.specs.Limits.{Within};
+ghost use Rattle.checks.specs.Scans.{outsideAt, heldUnsound, flying, aloneAt};
+ghost use Rattle.checks.specs.Setups.{setupCheck};
+
+// How many numbers a set can hold.
+const BITS: u64 = 64;
+
+// The words of a view in the tally.
+const ROW_WORDS: u64 = 4;
+
+// The words of a message in the network.
+const MESSAGE_WORDS: usize = 4;
+
+// The network has at least so many words for each processor.
+const WORDS_EACH: u64 = 8;
+
+// The network has at most so many words.
+const NETWORK_MOST: u64 = 524288;
+
+// Whether the set has a number at n or above.
+fn has_beyond(n: u64, faulty: u64) -> bool
+    ensures { λ r. ⌜ r ≡ leb (2 ^ n) faulty ⌝ }
+{
+    if BITS <= n {
+        return false;
+    }
+    faulty >> n != 0
+}
+
+// Check 5.
+fn faulty_outside(plan: Plan, faulty: u64) -> bool
+    ensures { λ r. ⌜ r ≡ faultyOutside plan faulty ⌝ }
+{
+    if has_beyond(plan.n, faulty) {
+        return true;
+    }
+    plan.tolerated() < base::size(faulty)
+}
+
+// Check 6, of a plan that checks 2 to 4 passed.
+fn lengths_outside(plan: Plan, tally: usize, network: usize) -> bool
+    requires { ⌜ Within plan ⌝ }
+    ensures { λ r. ⌜ r ≡ lengthsOutside plan tally network ⌝ }
+{
+    if (tally as u64) < ROW_WORDS * plan.views {
+        return true;
+    }
+    if (network as u64) < WORDS_EACH * plan.n {
+        return true;
+    }
+    NETWORK_MOST < network as u64
+}
+
+// Checks 2 to 6.
+fn limits_broken(plan: Plan, faulty: u64, tally: usize, network: usize) -> bool
+    ensures { λ r. ⌜ r ≡ (planOutside plan || faultyOutside plan faulty || lengthsOutside plan tally network) ⌝ }
+{
+    if 0 < pacemaker::plan_check(plan) {
+        return true;
+    }
+    if faulty_outside(plan, faulty) {
+        return true;
+    }
+    lengths_outside(plan, tally, network)
+}
+
+// Whether q is correct and its clock outside its view.
+fn clock_unsound(plan: Plan, faulty: u64, q: u64, clock: u64, view: u64) -> bool
+    requires { ⌜ planOutside plan ≡ false ⌝ }
+    ensures { λ r. ⌜ r ≡ (correct plan faulty q && clockOutside plan clock view) ⌝ }
+{
+    if plan.correct(faulty, q) {
+        return pacemaker::unsound(
+            plan,
+            Processor {
+                number: q,
+                clock,
+                view,
+            },
+        );
+    }
+    false
+}
+
+// Whether some correct clock is outside its view.
+fn clocks_unsound(run: Run) -> bool
+    requires { ⌜ planOutside (run .plan) ≡ false ⌝ }
+    ensures { λ r. ⌜ r ≡ some (outsideAt run) (run .plan .n) ⌝ }
+{
+    let n = run.plan.n;
+    let mut q = 0;
+    while q < n {
+        let i = q as usize;
+        if clock_unsound(run.plan, run.faulty, q, run.clocks[i], run.views[i]) {
+            return true;
+        }
+        q += 1;
+    }
+    false
+}
+
+// Whom the message is for.
+fn addressee(plan: Plan, message: Message) -> u64
+    requires { ⌜ Within plan ⌝ }
+    ensures { λ r. ⌜ r ≡ addressee plan (kindOf message) (viewIn message) (processorIn message) ⌝ }
+{
+    match message {
+        Message::View(w, _) => plan.lead(w),
+        Message::Vote(w, _) => plan.lead(w),
+        Message::Vc(_, p) => p,
+        Message::Qc(_, p) => p,
+    }
+}
+
+// Whether the message names too much, is for no correct processor or was sent later than now.
+fn held_unsound(plan: Plan, faulty: u64, time: u64, message: Message, sent: u64) -> bool
+    requires { ⌜ Within plan ⌝ }
+    ensures { λ r. ⌜ r ≡ heldUnsound plan faulty time message sent ⌝ }
+{
+    if plan.views <= message.view() {
+        return true;
+    }
+    if plan.n <= message.processor() {
+        return true;
+    }
+    if plan.correct(faulty, addressee(plan, message)) {
+        return time < sent;
+    }
+    true
+}
+
+// Whether message i is unsound: of no kind, or as above.
+fn message_unsound(plan: Plan, faulty: u64, time: u64, network: &[u64], i: usize) -> bool
+    requires { ⌜ Within plan × (i < capacity (now network)) ⌝ }
+    ensures { λ r. ⌜ r ≡ messageUnsound (flying plan faulty time (now (network .entry))) i ⌝ }
+{
+    let Stored::Holds(message) = buffers::decode(network, i) else {
+        return true;
+    };
+    held_unsound(plan, faulty, time, message, buffers::sent(network, i))
+}
+
+// Whether some held message is unsound.
+fn messages_unsound(plan: Plan, faulty: u64, time: u64, held: usize, network: &[u64]) -> bool
+    requires { ⌜ Within plan × (held ≤ capacity (now network)) ⌝ }
+    ensures { λ r. ⌜ r ≡ some (messageUnsound (flying plan faulty time (now (network .entry)))) held ⌝ }
+{
+    let mut i = 0;
+    while i < held {
+        if message_unsound(plan, faulty, time, network, i) {
+            return true;
+        }
+        i += 1;
+    }
+    false
+}
+
+// Whether the settling time is later than now, or another than 0 in an unsettled run.
+fn settling_unsound(time: u64, settled: bool, gst: u64) -> bool
+    ensures { λ r. ⌜ r ≡ (ltb time gst || (not settled && not (eqb gst 0))) ⌝ }
+{
+    if time < gst {
+        return true;
+    }
+    if settled {
+        return false;
+    }
+    gst != 0
+}
+
+// Whether some word from a place on is not 0.
+fn tail_not_zero(network: &[u64], from: usize) -> bool
+    ensures { λ r. ⌜ r ≡ someNonZero (drop from (now (network .entry))) ⌝ }
+{
+    let mut i = from;
+    while i < network.len() {
+        if network[i] != 0 {
+            return true;
+        }
+        i += 1;
+    }
+    false
+}
+
+// Check 9.
+pub fn unsound(run: Run, tally: &[u64], network: &[u64]) -> bool
+    ensures { λ r. ⌜ r ≡ unsound (stateOf run (now (tally .entry)) (now (network .entry))) ⌝ }
+{
+    if limits_broken(run.plan, run.faulty, tally.len(), network.len()) {
+        return true;
+    }
+    if clocks_unsound(run) {
+        return true;
+    }
+    if run.plan.clock_time(run.plan.views) <= run.time {
+        return true;
+    }
+    if network.len() / MESSAGE_WORDS < run.held {
+        return true;
+    }
+    if messages_unsound(run.plan, run.faulty, run.time, run.held, network) {
+        return true;
+    }
+    if settling_unsound(run.time, run.settled, run.gst) {
+        return true;
+    }
+    tail_not_zero(network, MESSAGE_WORDS * run.held)
+}
+
+// Whether q is correct and its start clock too high.
+fn clock_too_high(plan: Plan, faulty: u64, q: u64, clock: u64) -> bool
+    requires { ⌜ Within plan ⌝ }
+    ensures { λ r. ⌜ r ≡ (correct plan faulty q && leb (startLimit plan) clock) ⌝ }
+{
+    if plan.correct(faulty, q) {
+        return plan.clock_time(Plan::VIEWS_PER_LEADER) <= clock;
+    }
+    false
+}
+
+// Check 7, of a plan that checks 2 to 4 passed.
+fn start_too_high(setup: Setup) -> bool
+    requires { ⌜ Within (setup .plan) ⌝ }
+    ensures { λ r. ⌜ r ≡ startTooHigh (setup .plan) (setup .faulty) (setup .clocks) ⌝ }
+{
+    let n = setup.plan.n;
+    let mut q = 0;
+    while q < n {
+        let i = q as usize;
+        if clock_too_high(setup.plan, setup.faulty, q, setup.clocks[i]) {
+            return true;
+        }
+        q += 1;
+    }
+    false
+}
+
+// 1 where q is correct and its clock at most a slot behind c, else 0.
+fn support(plan: Plan, faulty: u64, q: u64, clock: u64, c: u64) -> u64
+    ensures { λ r. ⌜ (r ≡ bit (correct plan faulty q && leb c (clock + plan .gamma))) × (r ≤ 1) ⌝ }
+{
+    if plan.correct(faulty, q) {
+        if c <= clock {
+            return 1;
+        }
+        if c - clock <= plan.gamma {
+            return 1;
+        }
+        return 0;
+    }
+    0
+}
+
+// How many correct clocks are at most a slot behind c, of a plan that checks 2 to 4 passed.
+fn count_support(setup: Setup, c: u64) -> u64
+    requires { ⌜ Within (setup .plan) ⌝ }
+    ensures { λ r. ⌜ r ≡ supporting (setup .plan) (setup .faulty) (setup .clocks) c ⌝ }
+{
+    let n = setup.plan.n;
+    let mut k = 0;
+    let mut q = 0;
+    while q < n {
+        let i = q as usize;
+        k += support(setup.plan, setup.faulty, q, setup.clocks[i], c);
+        q += 1;
+    }
+    k
+}
+
+// Whether q is correct and its clock has too few others with it.
+fn clock_alone(setup: Setup, q: u64) -> bool
+    requires { ⌜ Within (setup .plan) × (q < setup .plan .n) ⌝ }
+    ensures { λ r. ⌜ r ≡ aloneAt setup q ⌝ }
+{
+    if setup.plan.correct(setup.faulty, q) {
+        let i = q as usize;
+        return count_support(setup, setup.clocks[i]) < setup.plan.tolerated() + 1;
+    }
+    false
+}
+
+// Check 8, of a plan that checks 2 to 4 passed.
+fn too_far_ahead(setup: Setup) -> bool
+    requires { ⌜ Within (setup .plan) ⌝ }
+    ensures { λ r. ⌜ r ≡ tooFarAhead (setup .plan) (setup .faulty) (setup .clocks) ⌝ }
+{
+    let n = setup.plan.n;
+    let mut q = 0;
+    while q < n {
+        if clock_alone(setup, q) {
+            return true;
+        }
+        q += 1;
+    }
+    false
+}
+
+// The first of checks 2 to 8 that refuses the setup with lent buffers of these lengths, or 0.
+pub fn setup_check(setup: Setup, tally: usize, network: usize) -> u64
+    ensures { λ r. ⌜ r ≡ setupCheck setup tally network ⌝ }
+{
+    let limit = pacemaker::plan_check(setup.plan);
+    if 0 < limit {
+        return limit;
+    }
+    if faulty_outside(setup.plan, setup.faulty) {
+        return 5;
+    }
+    if lengths_outside(setup.plan, tally, network) {
+        return 6;
+    }
+    if start_too_high(setup) {
+        return 7;
+    }
+    if too_far_ahead(setup) {
+        return 8;
+    }
+    0
+}

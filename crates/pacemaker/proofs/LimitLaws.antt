@@ -1,0 +1,122 @@
+-- What checks 2 to 4 and 9 let pass at one processor's own face. Assumes nothing.
+use mathlib.Core.Path.{_≡_, refl, sym, ap, subst}
+use mathlib.Core.Logic.{⊎-elim}
+use mathlib.Core.Bool.{Bool, true, false, not, _||_, cond}
+use Prim.Native.Nat.{ℕ, _+_, _*_, _/_, _%_, _≤_, _<_}
+use native.Mathlib.Omega.{arith}
+use native.Mathlib.Nat.{mul-le-mul, mul-le-mul-right, div-lt-iff-lt-mul}
+use lib.Dec.{T, leb, ltb}
+use borrow.Author.Tests.{ltb-false, leb-false, eqb-true, not-false, lt-ltb, le-ltb, le-leb, lt-leb}
+use Rattle.base.specs.Tests.{le?}
+use Rattle.base.specs.Choice.{or-first, or-second, or-neither, or-rest}
+use Rattle.model.specs.declared.Plan.{Plan}
+use Rattle.model.specs.declared.Processor.{Processor}
+use Rattle.model.specs.Quantities.{nLeast, nMost, deltaLeast, deltaMost, gammaLeast, gammaMost, viewsLeast, viewsMost, perLeader, initial, nextInitial, clockTime, endTime}
+use Rattle.model.specs.PlanFunctions.{clockTimeWord}
+use Rattle.model.specs.Checks.{nOutside, delaysOutside, viewsOutside, planOutside, atEnd, clockOutside}
+use Rattle.model.specs.Processors.{processorUnsound}
+use Rattle.model.proofs.PlanWords.{time-fits}
+use Rattle.pacemaker.specs.Limits.{planCheck, Within, Sound}
+
+pub neither : (a b : Bool) → (a || b) ≡ false → (a ≡ false) × (b ≡ false)
+neither true b e = absurd (subst T e tt)
+neither false b e = (refl, e)
+
+-- ---- checks 2 to 4
+
+some-check : (a b c : Bool) → 0 < cond a 2 (cond b 3 (cond c 4 0)) → (a || b || c) ≡ true
+some-check true b c l = refl
+some-check false true c l = refl
+some-check false false true l = refl
+some-check false false false l = absurd (omega arith)
+
+no-check : (a b c : Bool) → cond a 2 (cond b 3 (cond c 4 0)) ≤ 0 → (a || b || c) ≡ false
+no-check true b c l = absurd (omega arith)
+no-check false true c l = absurd (omega arith)
+no-check false false true l = absurd (omega arith)
+no-check false false false l = refl
+
+pub check-refuses : (p : Plan) → 0 < planCheck p → planOutside p ≡ true
+check-refuses p l = some-check (nOutside p) (delaysOutside p) (viewsOutside p) l
+
+pub check-passes : (p : Plan) → planCheck p ≤ 0 → planOutside p ≡ false
+check-passes p l = no-check (nOutside p) (delaysOutside p) (viewsOutside p) l
+
+pub within : (p : Plan) → planOutside p ≡ false → Within p
+within p e =
+    let a = neither (nOutside p || delaysOutside p) (viewsOutside p) e in
+    let b = neither (nOutside p) (delaysOutside p) (a .0) in
+    let n = neither (ltb (p .n) nLeast) (ltb nMost (p .n)) (b .0) in
+    let d = neither (ltb (p .delta) deltaLeast || ltb deltaMost (p .delta) || ltb (p .gamma) (gammaLeast p)) (ltb gammaMost (p .gamma)) (b .1) in
+    let g = neither (ltb (p .delta) deltaLeast || ltb deltaMost (p .delta)) (ltb (p .gamma) (gammaLeast p)) (d .0) in
+    let h = neither (ltb (p .delta) deltaLeast) (ltb deltaMost (p .delta)) (g .0) in
+    let v = neither (ltb (p .views) viewsLeast || ltb viewsMost (p .views)) (not (initial p (p .views))) (a .1) in
+    let w = neither (ltb (p .views) viewsLeast) (ltb viewsMost (p .views)) (v .0) in
+    record {
+      n-least = ltb-false _ _ (n .0);
+      n-most = ltb-false _ _ (n .1);
+      delta-least = ltb-false _ _ (h .0);
+      delta-most = ltb-false _ _ (h .1);
+      gamma-least = ltb-false _ _ (g .1);
+      gamma-most = ltb-false _ _ (d .1);
+      views-least = ltb-false _ _ (w .0);
+      views-most = ltb-false _ _ (w .1);
+      views-initial = not-false _ (v .1);
+    }
+
+-- ---- clock times
+
+pub time-small : (p : Plan) → Within p → (w : ℕ) → w ≤ p .views → clockTime p w ≤ 60000000
+time-small p s w l = let a : w ≤ 6000 = omega (arith, s .views-most) in mul-le-mul a (s .gamma-most)
+
+pub time-word : (p : Plan) → Within p → (w : ℕ) → w ≤ p .views → clockTimeWord p w ≡ clockTime p w
+time-word p s w l = sym (time-fits p w (omega (arith, time-small p s w l)))
+
+-- the next initial view is no further than the end, which is one
+pub next-within : (p : Plan) → Within p → (w : ℕ) → w < p .views → nextInitial p w ≤ p .views
+unfolding perLeader
+next-within p s w l = omega (arith, eqb-true (p .views % 3) 0 (s .views-initial))
+
+-- one more than a clock before the end is within the views
+pub slot-within : (p : Plan) → Within p → (clock : ℕ) → clock < endTime p → (clock + 1) / p .gamma ≤ p .views
+slot-within p s clock l =
+    let pos : 0 < p .gamma = omega (arith, s .delta-least, s .gamma-least) in
+    let below : clock + 1 < (p .views + 1) * p .gamma = omega arith in
+    omega (arith, div-lt-iff-lt-mul pos .1 below)
+
+-- from the view limit on, a clock at the view's time has reached the end
+pub past-views : (p : Plan) (clock view : ℕ) → p .views ≤ view → clockOutside p clock view ≡ true
+past-views p clock view l =
+    let late : endTime p ≤ clockTime p view = mul-le-mul-right (p .gamma) l in
+    or-first _ (leb (clockTime p (nextInitial p view)) clock) (⊎-elim
+    (λ (h : endTime p ≤ clock). or-first (atEnd p clock) (ltb clock (clockTime p view)) (le-leb _ _ h))
+    (λ (h : clock < endTime p). or-second (atEnd p clock) (ltb clock (clockTime p view)) (lt-ltb clock (clockTime p view) (omega arith)))
+    (le? (endTime p) clock))
+
+-- the tests of a clock, in order
+pub outside-end : (p : Plan) (clock view : ℕ) → endTime p ≤ clock → clockOutside p clock view ≡ true
+outside-end p clock view l = or-first (atEnd p clock || ltb clock (clockTime p view)) _ (or-first (atEnd p clock) _ (le-leb _ _ l))
+
+pub outside-view : (p : Plan) (clock view : ℕ) → clock < clockTime p view → clockOutside p clock view ≡ true
+outside-view p clock view l = or-first (atEnd p clock || ltb clock (clockTime p view)) _ (or-second (atEnd p clock) _ (lt-ltb _ _ l))
+
+pub outside-next : (p : Plan) (clock view next : ℕ) → clock < endTime p → clockTime p view ≤ clock → next ≡ clockTime p (nextInitial p view)
+    → leb next clock ≡ clockOutside p clock view
+outside-next p clock view next before reached is =
+    or-rest _ (leb (clockTime p (nextInitial p view)) clock) (leb next clock)
+    (or-neither (atEnd p clock) (ltb clock (clockTime p view)) (lt-leb _ _ before) (le-ltb _ _ reached))
+    (ap (λ (x : ℕ). leb x clock) is)
+
+-- ---- check 9
+
+pub sound : (p : Plan) (c : Processor) → processorUnsound p c ≡ false → Sound p c
+sound p c e =
+    let a = neither (planOutside p) (clockOutside p (c .clock) (c .view)) e in
+    let b = neither (atEnd p (c .clock) || ltb (c .clock) (clockTime p (c .view))) (leb (clockTime p (nextInitial p (c .view))) (c .clock)) (a .1) in
+    let d = neither (atEnd p (c .clock)) (ltb (c .clock) (clockTime p (c .view))) (b .0) in
+    record {
+      within = within p (a .0);
+      before-end = leb-false _ _ (d .0);
+      reached = ltb-false _ _ (d .1);
+      not-next = leb-false _ _ (b .1);
+    }

@@ -1,0 +1,3 @@
+-- What the pacemaker's clauses cite.
+pub mod Limits
+pub mod Steps

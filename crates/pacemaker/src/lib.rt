@@ -1,0 +1,274 @@
+// The pacemaker of one processor: rules 1 to 3 behind the checks of the processor's own face.
+use model::Input;
+use model::Plan;
+use model::Processor;
+use model::Sends;
+use model::Stepped;
+ghost use mathlib.Core.Path.{_≡_};
+ghost use mathlib.Core.Bool.{cond};
+ghost use Prim.Native.Nat.{_≤_, _<_};
+ghost use lib.Dec.{ltb};
+ghost use Rattle.model.specs.Quantities.{initial, clockTime};
+ghost use Rattle.model.specs.Checks.{nOutside, delaysOutside, viewsOutside, clockOutside};
+ghost use Rattle.model.specs.Moves.{stay, into};
+ghost use Rattle.model.specs.Processors.{Gives, messagesOf, moving, processorUnsound, stepped};
+ghost use Rattle.pacemaker.specs.Limits.{planCheck, Within, Sound};
+ghost use Rattle.pacemaker.specs.Steps.{refusing, sending, ending, stepping};
+
+// Check 2.
+fn n_outside(plan: Plan) -> bool
+    ensures { λ r. ⌜ r ≡ nOutside plan ⌝ }
+{
+    if plan.n < Plan::N_LEAST {
+        return true;
+    }
+    Plan::N_MOST < plan.n
+}
+
+// Check 3.
+fn delays_outside(plan: Plan) -> bool
+    ensures { λ r. ⌜ r ≡ delaysOutside plan ⌝ }
+{
+    if plan.delta < Plan::DELTA_LEAST {
+        return true;
+    }
+    if Plan::DELTA_MOST < plan.delta {
+        return true;
+    }
+    if plan.gamma < 2 * plan.delta {
+        return true;
+    }
+    Plan::GAMMA_MOST < plan.gamma
+}
+
+// Check 4.
+fn views_outside(plan: Plan) -> bool
+    ensures { λ r. ⌜ r ≡ viewsOutside plan ⌝ }
+{
+    if plan.views < Plan::VIEWS_LEAST {
+        return true;
+    }
+    if Plan::VIEWS_MOST < plan.views {
+        return true;
+    }
+    if plan.initial(plan.views) {
+        return false;
+    }
+    true
+}
+
+// The first of checks 2 to 4 that refuses the plan, or 0.
+pub fn plan_check(plan: Plan) -> u64
+    ensures { λ r. ⌜ r ≡ planCheck plan ⌝ }
+{
+    if n_outside(plan) {
+        return 2;
+    }
+    if delays_outside(plan) {
+        return 3;
+    }
+    if views_outside(plan) {
+        return 4;
+    }
+    0
+}
+
+// The clock time of view w, which fits.
+fn time_of(plan: Plan, w: u64) -> u64
+    requires { ⌜ Within plan × (w ≤ plan .views) ⌝ }
+    ensures { λ r. ⌜ r ≡ clockTime plan w ⌝ }
+{
+    plan.clock_time(w)
+}
+
+// Whether the clock lies outside its view. From the view limit on no clock is both at its view's time and before the end.
+fn clock_outside(plan: Plan, processor: Processor) -> bool
+    requires { ⌜ Within plan ⌝ }
+    ensures { λ r. ⌜ r ≡ clockOutside plan (processor .clock) (processor .view) ⌝ }
+{
+    let view = processor.view;
+    if plan.views <= view {
+        return true;
+    }
+    if time_of(plan, plan.views) <= processor.clock {
+        return true;
+    }
+    if processor.clock < time_of(plan, view) {
+        return true;
+    }
+    time_of(
+        plan,
+        view / Plan::VIEWS_PER_LEADER * Plan::VIEWS_PER_LEADER + Plan::VIEWS_PER_LEADER,
+    )
+        <= processor.clock
+}
+
+// Check 9, at the processor's own face.
+pub fn unsound(plan: Plan, processor: Processor) -> bool
+    ensures { λ r. ⌜ r ≡ processorUnsound plan processor ⌝ }
+{
+    if 0 < plan_check(plan) {
+        return true;
+    }
+    clock_outside(plan, processor)
+}
+
+// What a step leaves of the processor, and its answer.
+pub struct Outcome {
+    pub processor: Processor,
+    pub answer: Stepped,
+}
+
+// A refusal: the processor as it was, and the check's number alone.
+fn refuse(processor: Processor, check: u64) -> Outcome
+    requires { ⌜ 0 < check ⌝ }
+    ensures { λ r. ⌜ Gives (refusing processor check) (r .processor) (r .answer) ⌝ }
+{
+    Outcome {
+        processor: processor,
+        answer: Stepped::Refused(check),
+    }
+}
+
+// The move to `after`, unless its clock has reached the end: check 17.
+fn finish(plan: Plan, before: Processor, after: Processor, sends: Sends) -> Outcome
+    requires { ⌜ Within plan ⌝ }
+    ensures { λ r. ⌜ Gives (ending plan before (sending after (messagesOf (after .number) sends))) (r .processor) (r .answer) ⌝ }
+{
+    if time_of(plan, plan.views) <= after.clock {
+        return refuse(before, 17);
+    }
+    Outcome {
+        processor: after,
+        answer: Stepped::Sent(sends),
+    }
+}
+
+// A clock below the time becomes the time.
+fn raise(clock: u64, time: u64) -> u64
+    ensures { λ r. ⌜ r ≡ cond (ltb clock time) time clock ⌝ }
+{
+    if clock < time {
+        return time;
+    }
+    clock
+}
+
+// The messages of an entry into view w.
+fn entry_sends(plan: Plan, w: u64) -> Sends
+    ensures { λ r. ⌜ r ≡ cond (initial plan w) (Sends.ViewAndVote w) (Sends.Vote w) ⌝ }
+{
+    if plan.initial(w) {
+        return Sends::ViewAndVote(w);
+    }
+    Sends::Vote(w)
+}
+
+// The entry into view w of a processor whose clock stands at `clock`.
+fn enter(plan: Plan, processor: Processor, clock: u64, w: u64) -> Outcome
+    requires { ⌜ Within plan × (w ≤ plan .views) ⌝ }
+    ensures { λ r. ⌜ Gives (ending plan processor (moving plan (processor .number) clock (processor .view) (into w))) (r .processor) (r .answer) ⌝ }
+{
+    let next = raise(clock, time_of(plan, w));
+    let sends = entry_sends(plan, w);
+    let after = Processor {
+        number: processor.number,
+        clock: next,
+        view: w,
+    };
+    finish(plan, processor, after, sends)
+}
+
+// No entry: the view stays, and nothing is sent.
+fn remain(plan: Plan, processor: Processor, clock: u64) -> Outcome
+    requires { ⌜ Within plan ⌝ }
+    ensures { λ r. ⌜ Gives (ending plan processor (moving plan (processor .number) clock (processor .view) stay)) (r .processor) (r .answer) ⌝ }
+{
+    let after = Processor {
+        number: processor.number,
+        clock: clock,
+        view: processor.view,
+    };
+    finish(plan, processor, after, Sends::Nothing)
+}
+
+// Rule 1. Most ticks end at the first test, which spares them the second division.
+fn tick(plan: Plan, processor: Processor) -> Outcome
+    requires { ⌜ Sound plan processor ⌝ }
+    ensures { λ r. ⌜ Gives (stepping plan processor Input.Tick) (r .processor) (r .answer) ⌝ }
+{
+    let clock = processor.clock + 1;
+    if 0 < clock % plan.gamma {
+        return remain(plan, processor, clock);
+    }
+    let w = clock / plan.gamma;
+    if plan.initial(w) {
+        return enter(plan, processor, clock, w);
+    }
+    remain(plan, processor, clock)
+}
+
+// Rule 3.
+fn take_view(plan: Plan, processor: Processor, w: u64) -> Outcome
+    requires { ⌜ Within plan ⌝ }
+    ensures { λ r. ⌜ Gives (stepping plan processor (Input.Vc w)) (r .processor) (r .answer) ⌝ }
+{
+    if plan.views <= w {
+        return refuse(processor, 10);
+    }
+    if plan.initial(w) {
+        if processor.view < w {
+            return enter(plan, processor, processor.clock, w);
+        }
+        return remain(plan, processor, processor.clock);
+    }
+    refuse(processor, 11)
+}
+
+// Rule 2.
+fn take_quorum(plan: Plan, processor: Processor, w: u64) -> Outcome
+    requires { ⌜ Within plan ⌝ }
+    ensures { λ r. ⌜ Gives (stepping plan processor (Input.Qc w)) (r .processor) (r .answer) ⌝ }
+{
+    if plan.views <= w {
+        return refuse(processor, 10);
+    }
+    if processor.view <= w {
+        return enter(plan, processor, processor.clock, w + 1);
+    }
+    remain(plan, processor, processor.clock)
+}
+
+// The step of a sound processor below n.
+fn by_input(plan: Plan, processor: Processor, input: Input) -> Outcome
+    requires { ⌜ Sound plan processor ⌝ }
+    ensures { λ r. ⌜ Gives (stepping plan processor input) (r .processor) (r .answer) ⌝ }
+{
+    match input {
+        Input::Tick => tick(plan, processor),
+        Input::Vc(w) => take_view(plan, processor, w),
+        Input::Qc(w) => take_quorum(plan, processor, w),
+    }
+}
+
+// One step by value: the processor's next state and the messages that it sends, or the first of checks 9, 10, 11 and 17 that refuses.
+pub fn step(plan: Plan, processor: Processor, input: Input) -> Outcome
+    ensures { λ r. ⌜ Gives (stepped plan processor input) (r .processor) (r .answer) ⌝ }
+{
+    if unsound(plan, processor) {
+        return refuse(processor, 9);
+    }
+    if plan.n <= processor.number {
+        return refuse(processor, 10);
+    }
+    by_input(plan, processor, input)
+}
+
+// The processor's own face: its clock and view are lent, and altered there.
+pub fn step_in_place(plan: Plan, processor: &mut Processor, input: Input) -> Stepped
+    ensures { λ r. ⌜ Gives (stepped plan (now (processor .entry)) input) (now (processor .exit)) r ⌝ }
+{
+    let o = step(plan, *processor, input);
+    *processor = o.processor;
+    o.answer
+}

@@ -1,0 +1,144 @@
+-- What is named, and what a message makes of whom it reaches. Assumes nothing.
+use mathlib.Core.Path.{_≡_, refl, sym, ap, _∙_, subst}
+use mathlib.Core.Bool.{Bool, true, false, not, _&&_, _||_, cond}
+use mathlib.Core.List.{List, [], _∷_}
+use Prim.Native.Nat.{ℕ, _+_, _≤_, _<_}
+use native.Mathlib.Omega.{arith}
+use lib.Dec.{leb}
+use lib.ListN.{length, set}
+use borrow.Author.Tests.{le-leb, lt-leb, leb-false}
+use Rattle.base.specs.Choice.{cond-yes, cond-no, or-first, or-second, or-neither, and-both, and-not-first, and-not-second, not-yes, not-no}
+use Rattle.model.specs.declared.Plan.{Plan}
+use Rattle.model.specs.declared.Message.{Message}
+use Rattle.model.specs.declared.Message.the-variants.{View, Vote, Vc, Qc}
+use Rattle.model.specs.declared.Run.{Run}
+use Rattle.model.specs.declared.Input.the-variants.{Vc as VcIn, Qc as QcIn}
+use Rattle.model.specs.Quantities.{initial}
+use Rattle.model.specs.State.{State, stateOf, withHeld, withClocks, withViews, viewStage, voteStage, clockOf, viewOf, isCorrect, viewIn, processorIn, stageOf, capacity}
+use Rattle.model.specs.Moves.{Change, toCorrect, toEach, Entry, byView, byQuorum, forms, hearing, taking, handling, made}
+use Rattle.model.specs.Checks.{noProcessor, noView, namedOutside, notInitial, atEnd, reachesEnd}
+use Rattle.pacemaker.specs.Steps.{movingBy}
+use Rattle.pacemaker.proofs.LimitLaws.{neither}
+use Rattle.simulator.specs.declared.Reaction.{Reaction}
+use Rattle.simulator.specs.Inner.{Posts, sentBy, enteredBy, heardBy, formedBy, Reacts, signedChange, movedChange, changeBy, sentFor, Fit, seat, namedCheck, Decides}
+use Rattle.simulator.proofs.Moving.{moved-taking, stays-below, taking-reaches}
+use Rattle.simulator.proofs.Ticking.{state-by}
+
+-- ---- checks 10 and 11
+
+module _ (plan : Plan) (m : Message) where
+  abbrev outside : Bool
+  outside = namedOutside plan (processorIn m) (viewIn m)
+
+  abbrev uninitial : Bool
+  uninitial = notInitial plan (stageOf m) (viewIn m)
+
+  pub no-such-processor : (p : ℕ) → p ≡ processorIn m → plan .n ≤ p → 10 ≡ namedCheck plan m
+  no-such-processor p e l = cond-yes outside 10 10 _ (or-first (noProcessor plan (processorIn m)) (noView plan (viewIn m)) (ap (noProcessor plan) (sym e) ∙ le-leb _ _ l)) refl
+
+  pub no-such-view : (w : ℕ) → w ≡ viewIn m → plan .views ≤ w → 10 ≡ namedCheck plan m
+  no-such-view w e l = cond-yes outside 10 10 _ (or-second (noProcessor plan (processorIn m)) (noView plan (viewIn m)) (ap (noView plan) (sym e) ∙ le-leb _ _ l)) refl
+
+  module _ (p w : ℕ) (is-p : p ≡ processorIn m) (is-w : w ≡ viewIn m) (p-low : p < plan .n) (w-low : w < plan .views) where
+    within : outside ≡ false
+    within = or-neither (noProcessor plan (processorIn m)) (noView plan (viewIn m)) (ap (noProcessor plan) (sym is-p) ∙ lt-leb _ _ p-low)
+        (ap (noView plan) (sym is-w) ∙ lt-leb _ _ w-low)
+
+    pub second-stage : stageOf m ≡ true → 0 ≡ namedCheck plan m
+    second-stage e = cond-no outside 0 10 _ within (cond-no uninitial 0 11 0 (and-not-first (not (stageOf m)) (not (initial plan (viewIn m))) (not-yes _ e)) refl)
+
+    pub at-initial : initial plan (viewIn m) ≡ true → 0 ≡ namedCheck plan m
+    at-initial e = cond-no outside 0 10 _ within (cond-no uninitial 0 11 0 (and-not-second (not (stageOf m)) (not (initial plan (viewIn m))) (not-yes _ e)) refl)
+
+    pub not-at-initial : stageOf m ≡ false → initial plan (viewIn m) ≡ false → 11 ≡ namedCheck plan m
+    not-at-initial e f = cond-no outside 11 10 _ within (cond-yes uninitial 11 11 0 (and-both _ _ (not-no _ e) (not-no _ f)) refl)
+
+  -- what passes them
+  pub named-passed : namedCheck plan m ≡ 0 → (outside ≡ false) × (uninitial ≡ false)
+  named-passed e = go outside uninitial e
+    where
+      go : (b c : Bool) → _≡_ {A = ℕ} (cond b 10 (cond c 11 0)) 0 → (b ≡ false) × (c ≡ false)
+      go true c q = absurd (omega arith)
+      go false true q = absurd (omega arith)
+      go false false q = (refl, refl)
+
+  pub named-low : namedCheck plan m ≡ 0 → (processorIn m < plan .n) × (viewIn m < plan .views)
+  named-low e =
+      let a = neither (noProcessor plan (processorIn m)) (noView plan (viewIn m)) (named-passed e .0) in
+      (leb-false _ _ (a .0), leb-false _ _ (a .1))
+
+-- the same of a message that is known
+pub named-at : (plan : Plan) (m m' : Message) → m ≡ m' → namedCheck plan m ≡ 0 → (processorIn m' < plan .n) × (viewIn m' < plan .views)
+named-at plan m m' e h = named-low plan m' (ap (namedCheck plan) (sym e) ∙ h)
+
+-- a view certificate that passes them names an initial view
+pub named-vc : (plan : Plan) (w p : ℕ) → namedCheck plan (Vc w p) ≡ 0 → (w < plan .views) × (initial plan w ≡ true)
+named-vc plan w p e = (named-low plan (Vc w p) e .1, go (initial plan w) (named-passed plan (Vc w p) e .1))
+  where
+    go : (b : Bool) → not b ≡ false → b ≡ true
+    go true q = refl
+    go false q = sym q
+
+-- what a refusal by them gives, and what is left without one
+pub named-refused : {A : Type 0} (refusal : ℕ → A) (plan : Plan) (m : Message) (k : ℕ) (x : A) → k ≡ namedCheck plan m → 0 < k
+    → refusal k ≡ cond (outside plan m) (refusal 10) (cond (uninitial plan m) (refusal 11) x)
+named-refused {A} refusal plan m k x e l = go (outside plan m) (uninitial plan m) e
+  where
+    go : (b c : Bool) → k ≡ cond b 10 (cond c 11 0) → refusal k ≡ cond b (refusal 10) (cond c (refusal 11) x)
+    go true c q = ap refusal q
+    go false true q = ap refusal q
+    go false false q = absurd (omega arith)
+
+-- ---- what a reaction sends
+
+pub change-sent : (r : Run) (t : List ℕ) (m : Message) (x : Reaction) → changeBy r t m x .sent ≡ sentFor (r .plan) (r .faulty) m x
+change-sent r t (View w p) x = refl
+change-sent r t (Vote w p) x = refl
+change-sent r t (Vc w p) x = refl
+change-sent r t (Qc w p) x = refl
+
+-- ---- what a message makes of whom it reaches
+
+module _ (r : Run) (t : List ℕ) (fit : Fit r) (x : Reaction) where
+  decides-heard : (stage : Bool) (w p : ℕ) → x .ends ≡ false → x .formed ≡ forms stage r t w p
+      → (x .ends ≡ reachesEnd r (hearing stage r t w p)) × (signedChange r t stage w p x ≡ hearing stage r t w p)
+  unfolding hearing
+  decides-heard stage w p e f = (
+    e ∙ sym (stays-below r fit (hearing stage r t w p) refl),
+    ap (λ (b : Bool). record {
+      clocks = r .clocks;
+      views = r .views;
+      tally = heardBy t stage w p b;
+      sent = formedBy (r .plan) (r .faulty) stage w b;
+    }) f,
+  )
+
+  pub decides-view : (w p : ℕ) → x .ends ≡ false → x .formed ≡ forms viewStage r t w p → Decides r t (View w p) x
+  unfolding handling
+  decides-view w p e f = let d = decides-heard viewStage w p e f in record { ends = d .0; change = λ _. d .1 }
+
+  pub decides-vote : (w p : ℕ) → x .ends ≡ false → x .formed ≡ forms voteStage r t w p → Decides r t (Vote w p) x
+  unfolding handling
+  decides-vote w p e f = let d = decides-heard voteStage w p e f in record { ends = d .0; change = λ _. d .1 }
+
+  module _ (p : ℕ) (ok : isCorrect r p ≡ true) (low : p < length (r .clocks)) where
+    pub decides-vc : (w : ℕ) → Reacts (r .plan) (seat r p) (movingBy (r .plan) (seat r p) (VcIn w)) x → Decides r t (Vc w p) x
+    unfolding handling
+    decides-vc w a = record {
+      ends = a .ends ∙ sym (taking-reaches r fit t p (byView (r .plan) (viewOf r p) w) ok low);
+      change = λ e. moved-taking r t p (byView (r .plan) (viewOf r p) w) x (a .processor e) (a .sent e);
+    }
+
+    pub decides-qc : (w : ℕ) → Reacts (r .plan) (seat r p) (movingBy (r .plan) (seat r p) (QcIn w)) x → Decides r t (Qc w p) x
+    unfolding handling
+    decides-qc w a = record {
+      ends = a .ends ∙ sym (taking-reaches r fit t p (byQuorum (viewOf r p) w) ok low);
+      change = λ e. moved-taking r t p (byQuorum (viewOf r p) w) x (a .processor e) (a .sent e);
+    }
+
+-- ---- a reaction done
+
+pub made-by : (s : State) (c : Change) (held : ℕ) (t ws : List ℕ) → Posts (c .sent) (s .run .held) (s .run .time) (s .network) held ws → t ≡ c .tally
+    → stateOf (withHeld held (withViews (c .views) (withClocks (c .clocks) (s .run)))) t ws ≡ made s c
+unfolding made
+made-by s c held t ws x e = state-by _ _ (ap (λ (h : ℕ). withHeld h (withViews (c .views) (withClocks (c .clocks) (s .run)))) (x .number)) e (x .words)

@@ -1,0 +1,103 @@
+-- What the limits and check 9 leave to rely on. Assumes nothing.
+use mathlib.Core.Path.{_≡_, refl, sym, ap, _∙_, subst}
+use mathlib.Core.Bool.{Bool, true, false, not, _&&_, _||_}
+use mathlib.Core.Logic.{_≢_}
+use borrow.Author.Tests.{ne-eqb}
+use mathlib.Core.List.{List}
+use Prim.Native.Nat.{ℕ, _/_, _^_, _≤_, _<_}
+use native.Mathlib.Omega.{arith}
+use native.Mathlib.Nat.{mod-lt}
+use lib.Dec.{T, ltb, leb}
+use lib.ListN.{length}
+use Rattle.base.specs.Tests.{T-true, T-false, T-left, passes?, not-not}
+use Rattle.base.specs.Sets.{size}
+use Rattle.model.specs.declared.Plan.{Plan}
+use Rattle.model.specs.declared.Message.{Message}
+use Rattle.model.specs.declared.Run.{Run}
+use Rattle.model.specs.Quantities.{nLeast, nMost, deltaLeast, deltaMost, gammaLeast, gammaMost, viewsLeast, viewsMost, rowWords, networkMost, tolerated, perLeader, lead, endTime}
+use Rattle.model.specs.PlanFunctions.{leadWord}
+use Rattle.model.specs.State.{State, clockOf, viewOf, isCorrect, capacity}
+use Rattle.model.specs.Checks.{nOutside, delaysOutside, viewsOutside, planOutside, faultyOutside, buffersOutside, limitsBroken, clockOutside, atEnd, heldTooMany, timeUnsound, unsound}
+use Rattle.liveness.proofs.Judging.{neither, not-ltb, not-leb}
+use Rattle.base.specs.Count.{count-some}
+use Rattle.liveness.proofs.Link.{Planned, correct-count, third}
+use Rattle.liveness.proofs.Soundness.{SoundRun, sound-of}
+use Rattle.base.specs.Choice.{or-neither}
+use Rattle.model.specs.Processors.{processorUnsound}
+use Rattle.pacemaker.specs.Limits.{Within}
+use Rattle.pacemaker.proofs.LimitLaws.{within, time-small}
+use Rattle.simulator.specs.Inner.{Fit, seat}
+
+-- a test that is false does not pass
+pub fails : (b : Bool) → b ≡ false → T b → ⊥
+fails b e t = subst T e t
+
+-- no clock time that a run can reach is large
+pub end-most : (plan : Plan) → Within plan → endTime plan ≤ 60000000
+end-most plan l = time-small plan l (plan .views) (omega arith)
+
+pub planned-of : (plan : Plan) (faulty : ℕ) → planOutside plan ≡ false → faultyOutside plan faulty ≡ false → Planned plan faulty
+planned-of p m e f =
+    let l = within p e in
+    let o = neither (leb (2 ^ p .n) m) (ltb (tolerated p) (size m)) (fails (faultyOutside p m) f) in
+    record {
+      n-least = l .n-least;
+      n-most = l .n-most;
+      delta-least = l .delta-least;
+      gamma-least = l .gamma-least;
+      views-least = l .views-least;
+      views-initial = rw (l .views-initial) tt;
+      faulty-below = not-leb _ _ (o .0);
+      faulty-few = not-ltb _ _ (o .1);
+    }
+
+-- check 9 passed
+module _ (s : State) (sound : unsound s ≡ false) where
+  pub sound-run : SoundRun s
+  sound-run = sound-of s (fails (unsound s) sound)
+
+  abbrev to-faulty : Bool
+  to-faulty = planOutside (s .run .plan) || faultyOutside (s .run .plan) (s .run .faulty)
+
+  limits-parts : (T to-faulty → ⊥) × (T (buffersOutside (s .run .plan) (s .tally) (s .network)) → ⊥)
+  limits-parts = neither to-faulty (buffersOutside (s .run .plan) (s .tally) (s .network)) (sound-run .limits)
+
+  pub fit-of : Fit (s .run)
+  fit-of =
+      let p : Plan = s .run .plan in
+      let f = neither (planOutside p) (faultyOutside p (s .run .faulty)) (limits-parts .0) in
+      record {
+        plan = T-false (planOutside p) (f .0);
+        faulty = T-false (faultyOutside p (s .run .faulty)) (f .1);
+        clocks = λ q c. T-false (clockOutside p (clockOf (s .run) q) (viewOf (s .run) q)) (sound-run .clocks q (rw c tt));
+      }
+
+  pub room-of : s .run .held ≤ capacity (s .network)
+  room-of = not-ltb _ _ (sound-run .room)
+
+  pub time-of : s .run .time < endTime (s .run .plan)
+  time-of = not-leb _ _ (sound-run .time)
+
+-- a correct clock of a fit run is below the end
+pub clock-below : (plan : Plan) (clock view : ℕ) → clockOutside plan clock view ≡ false → clock < endTime plan
+clock-below plan clock view e =
+    let a = neither (atEnd plan clock || ltb clock _) _ (fails (clockOutside plan clock view) e) in
+    not-leb _ _ (neither (atEnd plan clock) _ (a .0) .0)
+
+-- a correct processor of a fit run passes the pacemaker's own check 9
+pub seat-sound : (r : Run) (p : ℕ) → Fit r → isCorrect r p ≡ true → processorUnsound (r .plan) (seat r p) ≡ false
+seat-sound r p fit c = or-neither (planOutside (r .plan)) (clockOutside (r .plan) (clockOf r p) (viewOf r p)) (fit .plan) (fit .clocks p c)
+
+-- some processor is correct
+pub some-correct : (r : Run) → Fit r → (q : ℕ) × (isCorrect r q ≡ true)
+some-correct r fit =
+    let ok = planned-of (r .plan) (r .faulty) (fit .plan) (fit .faulty) in
+    let x = count-some (r .plan .n) (isCorrect r) (omega (arith, correct-count (r .plan) (r .faulty) ok, ok .faulty-few, third (r .plan) (r .faulty) ok)) in
+    (x .0, T-true (isCorrect r (x .0)) (x .2))
+
+-- where there are processors one of them leads
+pub lead-word : (plan : Plan) (w : ℕ) → 0 < plan .n → leadWord plan w ≡ lead plan w
+lead-word plan w l = let ne : plan .n ≢ 0 = λ e. absurd (omega (arith, e)) in rw (ne-eqb (plan .n) 0 ne) refl
+
+pub lead-low : (plan : Plan) (w : ℕ) → 0 < plan .n → lead plan w < plan .n
+lead-low plan w l = mod-lt (w / perLeader plan) l

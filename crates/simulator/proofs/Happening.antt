@@ -1,0 +1,222 @@
+-- Each event in each of its cases. Assumes nothing.
+use mathlib.Core.Path.{_≡_, refl, sym, ap, _∙_, subst}
+use mathlib.Core.Bool.{Bool, true, false, not, cond}
+use mathlib.Core.Logic.{_≢_}
+use mathlib.Core.List.{List, [], _∷_}
+use Prim.Native.Nat.{ℕ, _+_, _-_, _≤_, _<_}
+use native.Mathlib.Nat.{add-zero}
+use native.Mathlib.Omega.{arith}
+use lib.Dec.{ltb, eqb}
+use lib.ListN.{length}
+use borrow.Author.Tests.{lt-ltb, le-ltb, eqb-false}
+use Rattle.base.specs.Choice.{cond-yes, cond-no, not-yes, not-no}
+use Rattle.model.specs.declared.Plan.{Plan}
+use Rattle.model.specs.declared.Message.{Message}
+use Rattle.model.specs.declared.Message.the-variants.{View, Vote, Vc, Qc}
+use Rattle.model.specs.declared.Event.{Event}
+use Rattle.model.specs.declared.Event.the-variants.{Deliver, Sign, Show, Settle, Tick}
+use Rattle.model.specs.declared.Run.{Run}
+use Rattle.model.specs.declared.Answer.the-variants.{Done, Refused}
+use Rattle.model.specs.declared.Applied.{Applied}
+use Rattle.model.specs.Quantities.{lead}
+use Rattle.model.specs.State.{State, After, stateOf, withHeld, handedBack, isCorrect, viewIn, processorIn, stageOf, capacity, refused, done}
+use Rattle.model.specs.Moves.{Change, still, handling, made}
+use Rattle.model.specs.Checks.{judged, lacksForm, unsound, namedOutside, notInitial, exists, notHeld, reachesEnd, overfull}
+use Rattle.model.specs.Events.{without, delivering, signing, nowSettled, tickRun, checks, effect, applied}
+use Rattle.liveness.proofs.Answers.{no-yes}
+use Rattle.buffers.specs.WordLaws.{posted-none}
+use Rattle.simulator.specs.declared.Reaction.{Reaction}
+use Rattle.simulator.specs.Inner.{changeBy, sentFor, Decides, ReachesCorrect, namedCheck, finished}
+use Rattle.simulator.proofs.Fitness.{fit-of, room-of}
+use Rattle.simulator.proofs.Moving.{stays-below}
+use Rattle.simulator.proofs.Ticking.{state-by}
+use Rattle.simulator.proofs.Deciding.{named-passed, named-refused, change-sent}
+
+-- what was handed back, by its parts
+pub refused-is : (s : State) (x : Applied) (k : ℕ) → (x .run ≡ s .run) × (x .answer ≡ Refused k) → handedBack x (s .tally) (s .network) ≡ refused s k
+refused-is s x k e = λ i. record { state = stateOf (e .0 i) (s .tally) (s .network); answer = e .1 i }
+
+pub done-is : (s : State) (r : Run) (t ws : List ℕ) (x : Applied) → (x .run ≡ r) × (x .answer ≡ Done 0 (r .held)) → stateOf r t ws ≡ s → handedBack x t ws ≡ done s
+done-is s r t ws x e q = (λ i. record { state = stateOf (e .0 i) t ws; answer = e .1 i }) ∙ ap done q
+
+-- ---- checks 17 and 18 of a change, and the change made
+
+module _ (s : State) (c : Change) where
+  pub finish-ends : reachesEnd (s .run) c ≡ true → refused s 17 ≡ finished s c
+  finish-ends e = cond-yes (reachesEnd (s .run) c) (refused s 17) (refused s 17) _ e refl
+
+  pub finish-full : reachesEnd (s .run) c ≡ false → overfull s c ≡ true → refused s 18 ≡ finished s c
+  finish-full e f = cond-no (reachesEnd (s .run) c) (refused s 18) (refused s 17) _ e (cond-yes (overfull s c) (refused s 18) (refused s 18) _ f refl)
+
+  pub finish-done : reachesEnd (s .run) c ≡ false → overfull s c ≡ false → done (made s c) ≡ finished s c
+  finish-done e f = cond-no (reachesEnd (s .run) c) (done (made s c)) (refused s 17) _ e (cond-no (overfull s c) (done (made s c)) (refused s 18) _ f refl)
+
+-- how many messages a decided change sends
+module _ (r : Run) (t : List ℕ) (m : Message) (x : Reaction) (d : Decides r t m x) (goes-on : x .ends ≡ false) where
+  pub decided-sent : sentFor (r .plan) (r .faulty) m x ≡ handling r t m .sent
+  decided-sent = sym (change-sent r t m x) ∙ ap (λ (c : Change). c .sent) (d .change goes-on)
+
+  module _ (h k : ℕ) (ws : List ℕ) (number : k ≡ length (sentFor (r .plan) (r .faulty) m x)) where
+    pub decided-over : capacity ws < h + k → ltb (capacity ws) (h + length (handling r t m .sent)) ≡ true
+    decided-over l = let g : capacity ws < h + length (handling r t m .sent) = omega (arith, number ∙ ap length decided-sent) in lt-ltb _ _ g
+
+    pub decided-fits : h + k ≤ capacity ws → ltb (capacity ws) (h + length (handling r t m .sent)) ≡ false
+    decided-fits l = let g : h + length (handling r t m .sent) ≤ capacity ws = omega (arith, number ∙ ap length decided-sent) in le-ltb _ _ g
+
+-- ---- what is named
+
+module _ (s : State) (m : Message) where
+  abbrev plan : Plan
+  plan = s .run .plan
+
+  -- deliver
+  module _ (sound : unsound s ≡ false) where
+    pub deliver-named : (k : ℕ) → k ≡ namedCheck plan m → 0 < k → refused s k ≡ applied (Deliver m) s
+    unfolding applied checks
+    deliver-named k e l = cond-no (unsound s) (refused s k) (refused s 9) _ sound (named-refused (refused s) plan m k _ e l)
+
+    module _ (named : namedCheck plan m ≡ 0) where
+      deliver-rest : (a : After) → a ≡ cond (notHeld s m) (refused s 13) (cond (reachesEnd (s .run) (delivering s m)) (refused s 17)
+          (cond (overfull (without s m) (delivering s m)) (refused s 18) (effect (Deliver m) s))) → a ≡ applied (Deliver m) s
+      unfolding applied checks
+      deliver-rest a e = cond-no (unsound s) a (refused s 9) _ sound (cond-no (namedOutside plan (processorIn m) (viewIn m)) a (refused s 10) _ (named-passed plan m named .0)
+          (cond-no (notInitial plan (stageOf m) (viewIn m)) a (refused s 11) _ (named-passed plan m named .1) e))
+
+      pub deliver-missing : notHeld s m ≡ true → refused s 13 ≡ applied (Deliver m) s
+      deliver-missing e = deliver-rest (refused s 13) (cond-yes (notHeld s m) (refused s 13) (refused s 13) _ e refl)
+
+      module _ (is-held : notHeld s m ≡ false) where
+        pub deliver-ends : reachesEnd (s .run) (delivering s m) ≡ true → refused s 17 ≡ applied (Deliver m) s
+        deliver-ends e = deliver-rest (refused s 17) (cond-no (notHeld s m) (refused s 17) (refused s 13) _ is-held
+            (cond-yes (reachesEnd (s .run) (delivering s m)) (refused s 17) (refused s 17) _ e refl))
+
+        pub deliver-full : reachesEnd (s .run) (delivering s m) ≡ false → overfull (without s m) (delivering s m) ≡ true → refused s 18 ≡ applied (Deliver m) s
+        deliver-full e f = deliver-rest (refused s 18) (cond-no (notHeld s m) (refused s 18) (refused s 13) _ is-held
+            (cond-no (reachesEnd (s .run) (delivering s m)) (refused s 18) (refused s 17) _ e
+            (cond-yes (overfull (without s m) (delivering s m)) (refused s 18) (refused s 18) _ f refl)))
+
+        pub deliver-done : reachesEnd (s .run) (delivering s m) ≡ false → overfull (without s m) (delivering s m) ≡ false
+            → done (made (without s m) (delivering s m)) ≡ applied (Deliver m) s
+        unfolding effect
+        deliver-done e f = deliver-rest (done (made (without s m) (delivering s m)))
+            (cond-no (notHeld s m) (done (made (without s m) (delivering s m))) (refused s 13) _ is-held
+            (cond-no (reachesEnd (s .run) (delivering s m)) (done (made (without s m) (delivering s m))) (refused s 17) _ e
+            (cond-no (overfull (without s m) (delivering s m)) (done (made (without s m) (delivering s m))) (refused s 18) _ f refl)))
+
+  -- sign
+  module _ (formed : lacksForm (Sign m) ≡ false) (sound : unsound s ≡ false) where
+    pub sign-named : (k : ℕ) → k ≡ namedCheck plan m → 0 < k → refused s k ≡ applied (Sign m) s
+    unfolding applied checks
+    sign-named k e l = cond-no (lacksForm (Sign m)) (refused s k) (refused s 1) _ formed
+        (cond-no (unsound s) (refused s k) (refused s 9) _ sound (named-refused (refused s) plan m k _ e l))
+
+    module _ (named : namedCheck plan m ≡ 0) where
+      sign-rest : (a : After) → a ≡ cond (isCorrect (s .run) (processorIn m)) (refused s 12) (finished s (signing s m)) → a ≡ applied (Sign m) s
+      unfolding applied checks effect
+      sign-rest a e = cond-no (lacksForm (Sign m)) a (refused s 1) _ formed (cond-no (unsound s) a (refused s 9) _ sound
+          (cond-no (namedOutside plan (processorIn m) (viewIn m)) a (refused s 10) _ (named-passed plan m named .0)
+          (cond-no (notInitial plan (stageOf m) (viewIn m)) a (refused s 11) _ (named-passed plan m named .1) e)))
+
+      pub sign-correct : isCorrect (s .run) (processorIn m) ≡ true → refused s 12 ≡ applied (Sign m) s
+      sign-correct e = sign-rest (refused s 12) (cond-yes (isCorrect (s .run) (processorIn m)) (refused s 12) (refused s 12) _ e refl)
+
+      pub sign-heard : isCorrect (s .run) (processorIn m) ≡ false → isCorrect (s .run) (lead plan (viewIn m)) ≡ true → (a : After)
+          → a ≡ finished s (handling (s .run) (s .tally) m) → a ≡ applied (Sign m) s
+      unfolding signing
+      sign-heard e l a q = sign-rest a (cond-no (isCorrect (s .run) (processorIn m)) a (refused s 12) _ e
+          (q ∙ ap (finished s) (cond-yes (isCorrect (s .run) (lead plan (viewIn m))) _ _ (still (s .run) (s .tally)) l refl)))
+
+      pub sign-unheard : isCorrect (s .run) (processorIn m) ≡ false → isCorrect (s .run) (lead plan (viewIn m)) ≡ false → (a : After)
+          → a ≡ finished s (still (s .run) (s .tally)) → a ≡ applied (Sign m) s
+      unfolding signing
+      sign-unheard e l a q = sign-rest a (cond-no (isCorrect (s .run) (processorIn m)) a (refused s 12) _ e
+          (q ∙ ap (finished s) (cond-no (isCorrect (s .run) (lead plan (viewIn m))) _ (handling (s .run) (s .tally) m) _ l refl)))
+
+  -- show
+  module _ (formed : lacksForm (Show m) ≡ false) (sound : unsound s ≡ false) where
+    pub show-named : (k : ℕ) → k ≡ namedCheck plan m → 0 < k → refused s k ≡ applied (Show m) s
+    unfolding applied checks
+    show-named k e l = cond-no (lacksForm (Show m)) (refused s k) (refused s 1) _ formed
+        (cond-no (unsound s) (refused s k) (refused s 9) _ sound (named-refused (refused s) plan m k _ e l))
+
+    module _ (named : namedCheck plan m ≡ 0) where
+      abbrev there : Bool
+      there = exists (stageOf m) (s .run) (s .tally) (viewIn m)
+
+      show-rest : (a : After) → a ≡ cond (not (isCorrect (s .run) (processorIn m))) (refused s 12) (cond (not there) (refused s 14)
+          (finished s (handling (s .run) (s .tally) m))) → a ≡ applied (Show m) s
+      unfolding applied checks effect
+      show-rest a e = cond-no (lacksForm (Show m)) a (refused s 1) _ formed (cond-no (unsound s) a (refused s 9) _ sound
+          (cond-no (namedOutside plan (processorIn m) (viewIn m)) a (refused s 10) _ (named-passed plan m named .0)
+          (cond-no (notInitial plan (stageOf m) (viewIn m)) a (refused s 11) _ (named-passed plan m named .1) e)))
+
+      pub show-faulty : isCorrect (s .run) (processorIn m) ≡ false → refused s 12 ≡ applied (Show m) s
+      show-faulty e = show-rest (refused s 12) (cond-yes (not (isCorrect (s .run) (processorIn m))) (refused s 12) (refused s 12) _ (not-no _ e) refl)
+
+      pub show-none : isCorrect (s .run) (processorIn m) ≡ true → there ≡ false → refused s 14 ≡ applied (Show m) s
+      show-none e f = show-rest (refused s 14) (cond-no (not (isCorrect (s .run) (processorIn m))) (refused s 14) (refused s 12) _ (not-yes _ e)
+          (cond-yes (not there) (refused s 14) (refused s 14) _ (not-no _ f) refl))
+
+      pub show-there : isCorrect (s .run) (processorIn m) ≡ true → there ≡ true → (a : After) → a ≡ finished s (handling (s .run) (s .tally) m) → a ≡ applied (Show m) s
+      show-there e f a q = show-rest a (cond-no (not (isCorrect (s .run) (processorIn m))) a (refused s 12) _ (not-yes _ e)
+          (cond-no (not there) a (refused s 14) _ (not-yes _ f) q))
+
+-- ---- settle
+
+pub settle-again : (s : State) → unsound s ≡ false → s .run .settled ≡ true → refused s 15 ≡ applied Settle s
+unfolding applied checks
+settle-again s sound e = cond-no (unsound s) (refused s 15) (refused s 9) _ sound (cond-yes (s .run .settled) (refused s 15) (refused s 15) _ e refl)
+
+pub settle-first : (s : State) → unsound s ≡ false → s .run .settled ≡ false → done (nowSettled s) ≡ applied Settle s
+unfolding applied checks effect
+settle-first s sound e = cond-no (unsound s) (done (nowSettled s)) (refused s 9) _ sound
+    (cond-no (s .run .settled) (done (nowSettled s)) (refused s 15) _ e refl)
+
+-- ---- whom a signature or a certificate reaches
+
+pub signature-reaches : (r : Run) (m : Message) → lacksForm (Sign m) ≡ false → ReachesCorrect r m
+signature-reaches r (View w p) e = tt
+signature-reaches r (Vote w p) e = tt
+signature-reaches r (Vc w p) e = no-yes e
+signature-reaches r (Qc w p) e = no-yes e
+
+pub certificate-reaches : (r : Run) (m : Message) → isCorrect r (processorIn m) ≡ true → ReachesCorrect r m
+certificate-reaches r (View w p) e = tt
+certificate-reaches r (Vote w p) e = tt
+certificate-reaches r (Vc w p) e = e
+certificate-reaches r (Qc w p) e = e
+
+still-made : (s : State) → s ≡ made s (still (s .run) (s .tally))
+unfolding made
+still-made s = state-by _ _ (ap (λ (h : ℕ). withHeld h (s .run)) (sym (add-zero (s .run .held)))) refl (posted-none (s .network) (s .run .held) (s .run .time))
+
+-- nothing changed is done: no clock has moved, and what is held fits
+pub finish-still : (s : State) → unsound s ≡ false → done s ≡ finished s (still (s .run) (s .tally))
+finish-still s sound =
+    let l : s .run .held + 0 ≤ capacity (s .network) = omega (arith, room-of s sound) in
+    ap done (still-made s) ∙ finish-done s (still (s .run) (s .tally)) (stays-below (s .run) (fit-of s sound) (still (s .run) (s .tally)) refl) (le-ltb _ _ l)
+
+-- ---- checks 1 and 9 of every event
+
+pub lacking : (e : Event) (s : State) → lacksForm e ≡ true → refused s 1 ≡ applied e s
+unfolding applied checks
+lacking (Deliver m) s q = no-yes (sym q)
+lacking (Sign m) s q = cond-yes (lacksForm (Sign m)) (refused s 1) (refused s 1) _ q refl
+lacking (Show m) s q = cond-yes (lacksForm (Show m)) (refused s 1) (refused s 1) _ q refl
+lacking Settle s q = no-yes (sym q)
+lacking (Tick m) s q = cond-yes (lacksForm (Tick m)) (refused s 1) (refused s 1) _ q refl
+
+pub unsound-handed : (e : Event) (s : State) → lacksForm e ≡ false → unsound s ≡ true → refused s 9 ≡ applied e s
+unfolding applied checks
+unsound-handed (Deliver m) s q u = cond-yes (unsound s) (refused s 9) (refused s 9) _ u refl
+unsound-handed (Sign m) s q u = cond-no (lacksForm (Sign m)) (refused s 9) (refused s 1) _ q (cond-yes (unsound s) (refused s 9) (refused s 9) _ u refl)
+unsound-handed (Show m) s q u = cond-no (lacksForm (Show m)) (refused s 9) (refused s 1) _ q (cond-yes (unsound s) (refused s 9) (refused s 9) _ u refl)
+unsound-handed Settle s q u = cond-yes (unsound s) (refused s 9) (refused s 9) _ u refl
+unsound-handed (Tick m) s q u = cond-no (lacksForm (Tick m)) (refused s 9) (refused s 1) _ q (cond-yes (unsound s) (refused s 9) (refused s 9) _ u refl)
+
+pub ticks-applied : (m : ℕ) (s : State) → lacksForm (Tick m) ≡ false → unsound s ≡ false → tickRun m s ≡ applied (Tick m) s
+unfolding applied checks effect
+ticks-applied m s q u = cond-no (lacksForm (Tick m)) (tickRun m s) (refused s 1) _ q (cond-no (unsound s) (tickRun m s) (refused s 9) _ u refl)
+
+pub ticks-some : (m : ℕ) → lacksForm (Tick m) ≡ false → 0 < m
+ticks-some m q = let ne : m ≢ 0 = eqb-false m 0 q in omega arith

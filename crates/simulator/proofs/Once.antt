@@ -1,0 +1,144 @@
+-- A single tick in each of its cases, and a run of them one tick further. Assumes nothing.
+use mathlib.Core.Path.{_≡_, refl, sym, ap, _∙_, subst}
+use mathlib.Core.Bool.{Bool, true, false, _&&_, cond}
+use mathlib.Core.Logic.{_≢_}
+use mathlib.Core.List.{List, [], _∷_}
+use Prim.Native.Nat.{ℕ, zero, suc, _+_, _-_, _/_, _≤_, _<_}
+use native.Mathlib.Nat.{zero-add, sub-zero}
+use native.Mathlib.Omega.{arith}
+use lib.Dec.{ltb, eqb}
+use lib.ListN.{length}
+use borrow.Author.Tests.{lt-ltb, le-ltb, eq-eqb, ne-eqb}
+use Rattle.base.specs.Scan.{some}
+use Rattle.base.specs.Choice.{cond-yes, cond-no}
+use Rattle.model.specs.declared.Run.{Run}
+use Rattle.model.specs.declared.Answer.{Answer}
+use Rattle.model.specs.declared.Answer.the-variants.{Done, Stopped, Refused}
+use Rattle.model.specs.declared.Applied.{Applied}
+use Rattle.model.specs.State.{State, After, stateOf, handedBack, checkOf, capacity, refused}
+use Rattle.model.specs.Moves.{advanced, arrivals, made}
+use Rattle.model.specs.Checks.{overdue, reachesEnd, overfull}
+use Rattle.model.specs.Events.{tickChecks, tickOnce, Ticks, continued, ticks, ticksAnswer, tickRun}
+use Rattle.liveness.specs.Promises.{countedFrom}
+use Rattle.liveness.proofs.Judging.{by-judged}
+use Rattle.simulator.specs.Inner.{lateAt, arrivedBelow, endsAt, TickedTo, Went, ranTo}
+use Rattle.simulator.proofs.Arrivals.{tick-reaches}
+
+module _ (s : State) (long : s .run .plan .n ≤ length (s .run .clocks)) where
+  abbrev ticked : After
+  ticked = record { state = made (advanced s) (arrivals (advanced s)); answer = Done 1 (made (advanced s) (arrivals (advanced s)) .run .held) }
+
+  abbrev late : Bool
+  late = s .run .settled && some (lateAt (s .run .gst) (s .run .plan .delta) (s .run .time) (s .network)) (s .run .held)
+
+  abbrev ends : Bool
+  ends = some (endsAt (s .run)) (s .run .plan .n)
+
+  stays-at : (check : ℕ) → refused s check ≡ tickOnce s → (z : check ≡ 0 → Went s s) → TickedTo s s check
+  stays-at check e z = record { state = ap (λ (a : After). a .state) e; number = ap (λ (a : After). checkOf (a .answer)) e; went = z }
+
+  none-went : (check : ℕ) → 0 < check → check ≡ 0 → Went s s
+  none-went check l z = absurd (omega arith)
+
+  pub once-overdue : late ≡ true → TickedTo s s 16
+  unfolding tickOnce overdue
+  once-overdue e = stays-at 16 (cond-yes late (refused s 16) (refused s 16) _ e refl) (none-went 16 (omega arith))
+
+  pub once-ends : late ≡ false → ends ≡ true → TickedTo s s 17
+  unfolding tickOnce overdue
+  once-ends e f = stays-at 17 (cond-no late (refused s 17) (refused s 16) _ e
+      (cond-yes (reachesEnd (advanced s .run) (arrivals (advanced s))) (refused s 17) (refused s 17) _ (tick-reaches s long ∙ f) refl)) (none-went 17 (omega arith))
+
+  module _ (e : late ≡ false) (f : ends ≡ false) (sent : ℕ) (is-sent : sent ≡ length (arrivedBelow s (s .run .plan .n) .sent)) where
+    pub once-full : capacity (s .network) < s .run .held + sent → TickedTo s s 18
+    unfolding tickOnce overdue arrivals
+    once-full l = stays-at 18 (cond-no late (refused s 18) (refused s 16) _ e
+        (cond-no (reachesEnd (advanced s .run) (arrivals (advanced s))) (refused s 18) (refused s 17) _ (tick-reaches s long ∙ f)
+        (cond-yes (overfull (advanced s) (arrivals (advanced s))) (refused s 18) (refused s 18) _
+        (ap (λ (n : ℕ). ltb (capacity (s .network)) (s .run .held + n)) (sym is-sent) ∙ lt-ltb _ _ l) refl))) (none-went 18 (omega arith))
+
+    pub once-done : s .run .held + sent ≤ capacity (s .network) → (s' : State) → s' ≡ made (advanced s) (arrivals (advanced s)) → Went s (made (advanced s) (arrivals (advanced s)))
+        → TickedTo s s' 0
+    unfolding tickOnce overdue arrivals
+    once-done l s' is w =
+        let x : ticked ≡ tickOnce s = cond-no late ticked (refused s 16) _ e
+        (cond-no (reachesEnd (advanced s .run) (arrivals (advanced s))) ticked (refused s 17) _ (tick-reaches s long ∙ f)
+        (cond-no (overfull (advanced s) (arrivals (advanced s))) ticked (refused s 18) ticked
+        (ap (λ (n : ℕ). ltb (capacity (s .network)) (s .run .held + n)) (sym is-sent) ∙ le-ltb _ _ l) refl)) in
+        record {
+          state = is ∙ ap (λ (a : After). a .state) x;
+          number = ap (λ (a : After). checkOf (a .answer)) x;
+          went = λ _. subst (Went s) (sym is) w;
+        }
+
+-- ---- the run of ticks
+
+-- a refused tick leaves the state
+once-stays : (s : State) (c : ℕ) → checkOf (tickOnce s .answer) ≡ suc c → tickOnce s .state ≡ s
+unfolding tickOnce
+once-stays s c = by-judged (λ (a : After). checkOf (a .answer) ≡ suc c → a .state ≡ s) (refused s) (tickChecks s) _ (λ r e. refl) (λ p e. absurd (omega arith))
+
+-- one tick further
+pub ticks-went : (m count : ℕ) (s₀ s s' : State) → count < m → ticks m s₀ ≡ countedFrom count (ticks (m - count) s) → TickedTo s s' 0
+    → ticks m s₀ ≡ countedFrom (count + 1) (ticks (m - (count + 1)) s')
+unfolding ticks
+ticks-went m count s₀ s s' l e t =
+    let n : m - count ≡ suc (m - (count + 1)) = omega arith in
+    let x : Ticks = ticks (m - (count + 1)) s' in
+    e ∙ ap (λ (k : ℕ). countedFrom count (ticks k s)) n
+    ∙ ap (λ (c : ℕ). countedFrom count (continued s c (ticks (m - (count + 1)) (tickOnce s .state)))) (sym (t .number))
+    ∙ ap (λ (y : State). countedFrom count (continued s 0 (ticks (m - (count + 1)) y))) (sym (t .state))
+    ∙ ap (λ (c : ℕ). record { state = x .state; count = c; check = x .check }) (omega arith)
+
+-- or ended
+pub ticks-ended : (m count check : ℕ) (s₀ s s' : State) → count < m → ticks m s₀ ≡ countedFrom count (ticks (m - count) s) → TickedTo s s' check → 0 < check
+    → (ticks m s₀ ≡ ranTo s' count check)
+unfolding ticks
+ticks-ended m count check s₀ s s' l e t positive = go check (t .number) positive
+  where
+    n : m - count ≡ suc (m - (count + 1))
+    n = omega arith
+
+    go : (c : ℕ) → c ≡ checkOf (tickOnce s .answer) → 0 < c → ticks m s₀ ≡ ranTo s' count c
+    go zero q z = absurd (omega arith)
+    go (suc c) q z =
+        e ∙ ap (λ (k : ℕ). countedFrom count (ticks k s)) n
+        ∙ ap (λ (d : ℕ). countedFrom count (continued s d (ticks (m - (count + 1)) (tickOnce s .state)))) (sym q)
+        ∙ ap (λ (y : State). ranTo y (count + 0) (suc c)) (stayed (sym q))
+        ∙ ap (λ (k : ℕ). ranTo s' k (suc c)) (omega arith)
+      where
+        stayed : checkOf (tickOnce s .answer) ≡ suc c → s ≡ s'
+        stayed x = sym (t .state ∙ once-stays s c x)
+
+-- ---- what the run of ticks leaves and answers
+
+after-by : (a b : After) → a .state ≡ b .state → a .answer ≡ b .answer → a ≡ b
+after-by a b e f = λ i. record { state = e i; answer = f i }
+
+pub run-ended : (m count check : ℕ) (s₀ s' : State) (x : Applied) → ticks m s₀ ≡ ranTo s' count check → x .run ≡ s' .run → x .answer ≡ ticksAnswer (ranTo s' count check)
+    → handedBack x (s' .tally) (s' .network) ≡ tickRun m s₀
+unfolding tickRun
+run-ended m count check s₀ s' x e r a = after-by _ _
+    (ap (λ (y : Run). stateOf y (s' .tally) (s' .network)) r ∙ sym (ap (λ (y : Ticks). y .state) e))
+    (a ∙ sym (ap ticksAnswer e))
+
+pub run-done : (m count : ℕ) (s₀ s' : State) → 0 < m → count ≡ m → ticks m s₀ ≡ countedFrom count (ticks (m - count) s')
+    → handedBack (record { run = s' .run; answer = Done count (s' .run .held) }) (s' .tally) (s' .network) ≡ tickRun m s₀
+unfolding ticks
+run-done m count s₀ s' positive all e =
+    let z : m - count ≡ 0 = omega arith in
+    let c : count + 0 ≡ count = omega arith in
+    let x : ticks m s₀ ≡ ranTo s' count 0 = e ∙ ap (λ (k : ℕ). countedFrom count (ticks k s')) z ∙ ap (λ (k : ℕ). ranTo s' k 0) c in
+    let n : count ≢ 0 = λ y. absurd (omega (arith, y)) in
+    run-ended m count 0 s₀ s' (record { run = s' .run; answer = Done count (s' .run .held) }) x refl
+    (cond-no (eqb count 0) (Done count (s' .run .held)) (Refused 0) (Done count (s' .run .held)) (ne-eqb count 0 n) refl)
+
+-- the answer to ticks that a check ended
+pub stopped-none : (s : State) (count check : ℕ) → count ≡ 0 → Refused check ≡ ticksAnswer (ranTo s count check)
+stopped-none s count check e = cond-yes (eqb count 0) (Refused check) (Refused check) _ (eq-eqb count 0 e) refl
+
+pub stopped-some : (s : State) (count check : ℕ) → count ≢ 0 → 0 < check → Stopped count (s .run .held) check ≡ ticksAnswer (ranTo s count check)
+stopped-some s count check ne l =
+    let z : check ≢ 0 = λ y. absurd (omega (arith, y)) in
+    cond-no (eqb count 0) (Stopped count (s .run .held) check) (Refused check) _ (ne-eqb count 0 ne)
+    (cond-no (eqb check 0) (Stopped count (s .run .held) check) (Done count (s .run .held)) _ (ne-eqb check 0 z) refl)

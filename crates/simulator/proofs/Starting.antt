@@ -1,0 +1,234 @@
+-- The opening: words set to 0, the table of start clocks, and the first entries, one processor after the other. Assumes nothing.
+use mathlib.Core.Path.{_≡_, refl, sym, ap, ap₂, _∙_, subst}
+use mathlib.Core.Bool.{Bool, true, false, _||_, cond}
+use mathlib.Core.Logic.{_⊎_, inl, inr, _≢_}
+use mathlib.Core.List.{List, [], _∷_, _++_, append-nil}
+use Prim.Native.Nat.{ℕ, zero, suc, _+_, _*_, _%_, _≤_, _<_}
+use native.Mathlib.Numerals.{add-one}
+use native.Mathlib.Omega.{arith}
+use native.Mathlib.Nat.{zero-mod}
+use lib.Dec.{T, eqb, ltb, ltb→lt}
+use lib.ListN.{length, getD, set, drop, replicate, length-append, length-set, length-drop, length-replicate}
+use lib.Seq.{drop-length, drop-cons, set-at, getD-set-same, getD-set-other, ext-getD}
+use borrow.Author.Tests.{eq-eqb, ne-eqb}
+use Rattle.base.specs.Choice.{cond-yes, cond-no}
+use Rattle.base.specs.Tests.{T-left, T-right, le?}
+use Rattle.base.specs.ScanLaws.{length-listed, getD-listed}
+use Rattle.model.specs.declared.Plan.{Plan}
+use Rattle.model.specs.declared.Message.{Message}
+use Rattle.model.specs.declared.Run.{Run}
+use Rattle.model.specs.declared.Setup.{Setup}
+use Rattle.model.specs.declared.Sends.{Sends}
+use Rattle.model.specs.declared.Sends.the-variants.{Nothing, ViewAndVote}
+use Rattle.model.specs.Quantities.{networkLeast, networkMost, tableClocks, rowWords, perLeader, initial, correct}
+use Rattle.model.specs.State.{stateOf, runOf, withHeld, clockOf, viewOf, posted, capacity, refused, done}
+use Rattle.model.specs.Moves.{Change, changed, stay, into, taking, entries, made}
+use Rattle.model.specs.Checks.{Check, judged}
+use Rattle.model.specs.Processors.{messagesOf, moving}
+use Rattle.model.specs.Opening.{startClocks, blankRun, blank, firstEntry, opened, openingChecks, opening}
+use Rattle.liveness.proofs.Judging.{Passes, neither, not-ltb}
+use Rattle.liveness.proofs.Link.{Planned}
+use Rattle.liveness.proofs.FirstEntries.{Mid, mid-all}
+use Rattle.liveness.proofs.Opens.{planned}
+use Rattle.checks.specs.Setups.{setupCheck, lent}
+use Rattle.checks.proofs.Opens.{numbered, setup-check}
+use Rattle.simulator.specs.declared.Reaction.{Reaction}
+use Rattle.simulator.specs.Inner.{Posts, sentBy, enteredBy, movedChange}
+use Rattle.simulator.specs.Opening.{firstSends, enteredFirst}
+use Rattle.simulator.specs.Contracts.{Opens}
+use Rattle.simulator.proofs.Sending.{sent-few}
+use Rattle.simulator.proofs.Moving.{moved-taking}
+use Rattle.simulator.proofs.Posting.{posts-also, posts-as, also-fits}
+use Rattle.simulator.proofs.Ticking.{state-by}
+
+-- ---- words set to 0
+
+abbrev pub cleared : List ℕ → ℕ → List ℕ
+cleared l k = replicate k 0 ++ drop k l
+
+pub cleared-more : (l m : List ℕ) (k : ℕ) → k < length l → m ≡ cleared l k → set m k 0 ≡ cleared l (k + 1)
+cleared-more l m k low e =
+    ap (λ (x : List ℕ). set x k 0) (e ∙ ap (λ (x : List ℕ). replicate k 0 ++ x) (drop-cons l k 0 low))
+    ∙ set-at (replicate k 0) (getD l k 0) (drop (suc k) l) 0 k (length-replicate {A = ℕ} k 0)
+    ∙ shift k (drop (suc k) l)
+    ∙ ap (cleared l) (sym (add-one k))
+  where
+    shift : (j : ℕ) (x : List ℕ) → replicate j 0 ++ 0 ∷ x ≡ replicate (suc j) 0 ++ x
+    shift zero x = refl
+    shift (suc j) x = ap (λ (y : List ℕ). 0 ∷ y) (shift j x)
+
+pub cleared-all : (l : List ℕ) → cleared l (length l) ≡ replicate (length l) 0
+cleared-all l = ap (λ (x : List ℕ). replicate (length l) 0 ++ x) (drop-length l) ∙ append-nil (replicate (length l) 0)
+
+pub cleared-length : (l : List ℕ) (k : ℕ) → k ≤ length l → length (cleared l k) ≡ length l
+cleared-length l k low = length-append (replicate k 0) (drop k l) ∙ omega (arith, length-replicate {A = ℕ} k 0, length-drop k l)
+
+-- ---- the table of start clocks
+
+-- so far: the first k of the table
+abbrev pub startsBelow : Setup → ℕ → List ℕ → Type 0
+startsBelow u k l = (length l ≡ tableClocks) × ((i : ℕ) → i < k → getD l i 0 ≡ getD (startClocks u) i 0)
+
+abbrev start : Setup → ℕ → ℕ
+start u p = cond (correct (u .plan) (u .faulty) p) (getD (u .clocks) p 0) 0
+
+pub starts-more : (u : Setup) (k : ℕ) (l : List ℕ) (c : ℕ) → k < tableClocks → startsBelow u k l
+    → c ≡ cond (correct (u .plan) (u .faulty) k) (getD (u .clocks) k 0) 0 → startsBelow u (k + 1) (set l k c)
+starts-more u k l c low h e = (length-set l k c ∙ h .0, λ i lt. go i (le? (suc i) k) lt)
+  where
+    go : (i : ℕ) → (i < k) ⊎ (k < suc i) → i < k + 1 → getD (set l k c) i 0 ≡ getD (startClocks u) i 0
+    go i (inl x) lt = let ne : i ≢ k = λ y. absurd (omega (arith, y)) in getD-set-other l k i c 0 ne ∙ h .1 i x
+    go i (inr x) lt =
+        let y : i ≡ k = omega arith in
+        let z : k < length l = omega (arith, h .0) in
+        subst (λ (j : ℕ). getD (set l k c) j 0 ≡ getD (startClocks u) j 0) (sym y)
+        (getD-set-same l k c 0 z ∙ e ∙ sym (getD-listed (start u) tableClocks k low))
+
+pub starts-all : (u : Setup) (l : List ℕ) → startsBelow u tableClocks l → l ≡ startClocks u
+starts-all u l h = ext-getD 0 l (startClocks u) (h .0 ∙ sym (length-listed (start u) tableClocks)) (λ i lt. h .1 i (omega (arith, h .0)))
+
+-- ---- what passed checks 2 to 8
+
+passes : (cs : List Check) → T (numbered cs) → judged (λ r. r) cs 0 ≡ 0 → Passes cs
+passes [] h e = tt
+passes (c ∷ cs) h e = go (c .1) refl e (passes cs (T-right (ltb 0 (c .0)) (numbered cs) h))
+  where
+    go : (b : Bool) → c .1 ≡ b → cond b (c .0) (judged (λ r. r) cs 0) ≡ 0 → (judged (λ r. r) cs 0 ≡ 0 → Passes cs) → Passes (c ∷ cs)
+    go true x y rest = absurd (omega (arith, y, ltb→lt 0 (c .0) (T-left (ltb 0 (c .0)) (numbered cs) h)))
+    go false x y rest = (λ t. rw x at t, rest y)
+
+-- what an opening needs of a setup and the lengths of the buffers
+pub record Ready (u : Setup) (tally network : ℕ) : Type 0 where
+  pub ok : Planned (u .plan) (u .faulty)
+  pub rows : rowWords * u .plan .views ≤ tally
+  pub room : networkLeast (u .plan) ≤ network
+
+pub ready : (u : Setup) (tally network : ℕ) → setupCheck u tally network ≡ 0 → Ready u tally network
+unfolding setupCheck
+ready u tally network e =
+    let c : Passes (openingChecks u (lent u tally network)) = passes (openingChecks u (lent u tally network)) tt e in
+    let a = neither (ltb (length (replicate {A = ℕ} tally 0)) (rowWords * u .plan .views) || ltb (length (replicate {A = ℕ} network 0)) (networkLeast (u .plan)))
+    (ltb networkMost (length (replicate {A = ℕ} network 0))) (c .1 .1 .1 .1 .0) in
+    let b = neither (ltb (length (replicate {A = ℕ} tally 0)) (rowWords * u .plan .views)) (ltb (length (replicate {A = ℕ} network 0)) (networkLeast (u .plan)))
+    (a .0) in
+    record {
+      ok = planned u (lent u tally network) c;
+      rows = omega (arith, not-ltb (length (replicate {A = ℕ} tally 0)) (rowWords * u .plan .views) (b .0), length-replicate {A = ℕ} tally 0);
+      room = omega (arith, not-ltb (length (replicate {A = ℕ} network 0)) (networkLeast (u .plan)) (b .1), length-replicate {A = ℕ} network 0);
+    }
+
+-- ---- the first entries
+
+zero-initial : (plan : Plan) → initial plan 0 ≡ true
+zero-initial plan = eq-eqb (0 % perLeader plan) 0 (zero-mod (perLeader plan))
+
+module _ (u : Setup) (t : List ℕ) where
+  abbrev below : ℕ → Change
+  below = enteredFirst u t
+
+  module _ (k : ℕ) where
+    abbrev sends : Sends
+    sends = firstSends (u .plan) (u .faulty) k
+
+    abbrev r : Run
+    r = changed (blankRun u) (below k)
+
+    -- the messages are those of an entry into view 0, which is initial
+    first-messages : messagesOf k sends ≡ moving (u .plan) k (clockOf r k) (viewOf r k) (firstEntry u k) .sent
+    first-messages = go (correct (u .plan) (u .faulty) k)
+      where
+        go : (b : Bool) → messagesOf k (cond b (ViewAndVote 0) Nothing) ≡ moving (u .plan) k (clockOf r k) (viewOf r k) (cond b (into 0) stay) .sent
+        go true = rw (zero-initial (u .plan)) refl
+        go false = refl
+
+    abbrev reaction : Reaction
+    reaction = record { formed = false; processor = moving (u .plan) k (clockOf r k) (viewOf r k) (firstEntry u k) .processor; sends = sends; ends = false }
+
+    change-more : movedChange r (below k .tally) k reaction ≡ taking r (below k .tally) k (firstEntry u k)
+    change-more = moved-taking r (below k .tally) k (firstEntry u k) reaction refl first-messages
+
+    tally-more : below (k + 1) .tally ≡ enteredBy (below k .tally) k sends
+    unfolding entries
+    tally-more = ap (λ (j : ℕ). below j .tally) (add-one k) ∙ sym (ap (λ (c : Change). c .tally) change-more)
+
+    sent-more : below (k + 1) .sent ≡ below k .sent ++ sentBy (u .plan) (u .faulty) k sends
+    unfolding entries
+    sent-more = ap (λ (j : ℕ). below j .sent) (add-one k)
+        ∙ ap (λ (m : List Message). below k .sent ++ m) (sym (ap (λ (c : Change). c .sent) change-more))
+
+    pub tally-turn : (t' t'' : List ℕ) → t' ≡ below k .tally → t'' ≡ enteredBy t' k sends → t'' ≡ below (k + 1) .tally
+    tally-turn t' t'' e f = f ∙ ap (λ (y : List ℕ). enteredBy y k sends) e ∙ sym tally-more
+
+  -- two messages at most of each processor
+  sent-below : (k : ℕ) → length (below k .sent) ≤ 2 * k
+  unfolding entries
+  sent-below zero = omega arith
+  sent-below (suc k) = subst (λ (j : ℕ). length (below j .sent) ≤ 2 * j) (add-one k)
+      (omega (
+        arith,
+        ap length (sent-more k),
+        length-append (below k .sent) (sentBy (u .plan) (u .faulty) k (sends k)),
+        sent-below k,
+        sent-few (u .plan) (u .faulty) k (sends k),
+      ))
+
+  module _ (k held : ℕ) (ws ws' : List ℕ) (low : k < u .plan .n) (room : 2 * u .plan .n ≤ capacity ws) (posts : Posts (below k .sent) 0 0 ws held ws') where
+    both : 0 + length (below k .sent ++ sentBy (u .plan) (u .faulty) k (sends k)) ≤ capacity ws
+    both = omega (arith, room, sent-below (k + 1), ap length (sent-more k))
+
+    pub first-fits : held + length (sentBy (u .plan) (u .faulty) k (sends k)) ≤ capacity ws'
+    first-fits = also-fits (below k .sent) _ 0 held 0 ws ws' posts both
+
+    pub posts-turn : (held' : ℕ) (ws'' : List ℕ) → Posts (sentBy (u .plan) (u .faulty) k (sends k)) held 0 ws' held' ws''
+        → Posts (below (k + 1) .sent) 0 0 ws held' ws''
+    posts-turn held' ws'' y = posts-as _ _ 0 held' 0 ws ws'' (sym (sent-more k))
+        (posts-also (below k .sent) (sentBy (u .plan) (u .faulty) k (sends k)) 0 held held' 0 ws ws' ws'' posts y
+        (omega (arith, both, length-append (below k .sent) (sentBy (u .plan) (u .faulty) k (sends k)))))
+
+-- ---- all together
+
+-- room for two messages of each processor
+pub first-room : (u : Setup) (ws ws' : List ℕ) → networkLeast (u .plan) ≤ length ws → ws' ≡ cleared ws (length ws) → 2 * u .plan .n ≤ capacity ws'
+first-room u ws ws' l e = let h : length ws' ≡ length ws = ap length e ∙ cleared-length ws (length ws) (omega arith) in omega arith
+
+-- the first entries, made on the blank tally t₁ and network ws₁, leave clocks and views as they are: the opened state
+pub start-made : (u : Setup) (t ws : List ℕ) → Ready u (length t) (length ws) → (run : Run) (held : ℕ) (t₁ t' ws₁ ws' : List ℕ) → run ≡ blankRun u
+    → t₁ ≡ cleared t (rowWords * u .plan .views) → ws₁ ≡ cleared ws (length ws)
+    → Posts (enteredFirst u t₁ (u .plan .n) .sent) 0 0 ws₁ held ws' × (t' ≡ enteredFirst u t₁ (u .plan .n) .tally)
+    → stateOf (withHeld held run) t' ws' ≡ opened u (stateOf (blankRun u) t ws)
+unfolding opened blank made
+start-made u t ws fit run held t₁ t' ws₁ ws' e a b x =
+    let m : Mid u t (fit .ok) (fit .rows) (u .plan .n) (enteredFirst u (cleared t (rowWords * u .plan .views)) (u .plan .n)) =
+    mid-all u t (fit .ok) (fit .rows) (u .plan .n) in
+    let h : held ≡ 0 + length (enteredFirst u (cleared t (rowWords * u .plan .views)) (u .plan .n) .sent) =
+    x .0 .number ∙ ap (λ (y : List ℕ). 0 + length (enteredFirst u y (u .plan .n) .sent)) a in
+    state-by _ _
+    (ap (withHeld held) e ∙ (λ i. runOf (u .plan) (u .faulty) 0 false 0 (h i) (sym (m .clocks-same) i) (sym (m .views-same) i)))
+    (x .1 ∙ ap (λ (y : List ℕ). enteredFirst u y (u .plan .n) .tally) a)
+    (x .0 .words ∙ ap₂ (λ (y z : List ℕ). posted z 0 0 (enteredFirst u y (u .plan .n) .sent)) a (b ∙ cleared-all ws))
+
+-- ---- an opening, by the answer of checks 2 to 8
+
+-- the opened state has nothing of the run handed in
+opened-same : (u : Setup) (r r' : Run) (t ws : List ℕ) → opened u (stateOf r t ws) ≡ opened u (stateOf r' t ws)
+unfolding opened blank
+opened-same u r r' t ws = refl
+
+module _ (u : Setup) (run : Run) (t ws : List ℕ) where
+  abbrev check : ℕ
+  check = setupCheck u (length t) (length ws)
+
+  pub opens-done : (next : Run) (t' ws' : List ℕ) → check ≡ 0 → stateOf next t' ws' ≡ opened u (stateOf (blankRun u) t ws)
+      → Opens u (stateOf run t ws) (done (stateOf next t' ws'))
+  unfolding opening
+  opens-done next t' ws' z e =
+      cond-yes (eqb check 0) (done (stateOf next t' ws')) (done (opened u (stateOf run t ws))) (refused (stateOf run t ws) check) (eq-eqb check 0 z)
+      (ap done (e ∙ opened-same u (blankRun u) run t ws))
+      ∙ sym (setup-check u (stateOf run t ws) (done (opened u (stateOf run t ws))))
+
+  pub opens-refused : (r : ℕ) → r ≡ check → r ≢ 0 → Opens u (stateOf run t ws) (refused (stateOf run t ws) r)
+  unfolding opening
+  opens-refused r e z =
+      cond-no (eqb check 0) (refused (stateOf run t ws) r) (done (opened u (stateOf run t ws))) (refused (stateOf run t ws) check)
+      (ne-eqb check 0 (λ x. z (e ∙ x))) (ap (refused (stateOf run t ws)) e)
+      ∙ sym (setup-check u (stateOf run t ws) (done (opened u (stateOf run t ws))))

@@ -1,0 +1,90 @@
+use Rattle.simulator.specs.Inner.{namedCheck}
+use Rattle.simulator.proofs.Happening.{refused-is, done-is, sign-named, sign-correct, sign-heard, sign-unheard, finish-still, signature-reaches}
+use Rattle.simulator.proofs.Fitness.{fit-of, room-of, planned-of}
+use Rattle.pacemaker.proofs.LimitLaws.{within}
+use Rattle.model.specs.Moves.{Change, handling, still, made}
+use Rattle.model.specs.State.{State, stateOf}
+use Rattle.model.specs.Quantities.{lead, correct}
+use Rattle.model.specs.declared.Message.{Message}
+use native.Mathlib.Omega.{arith}
+use Prim.Native.Nat.{ℕ, _+_, _≤_, _<_}
+use mathlib.Core.Bool.{true, false}
+use mathlib.Core.Path.{_≡_, _∙_, ap, sym, refl}
+use borrow.Author.Needs.{needs}
+use Rattle.simulator.proofs.events.sign.Statement.{statement}
+use Rattle.simulator.proofs.events.sign.Tie as tie
+use Rattle.simulator.proofs.events.sign.Reads as reads
+use Rattle.simulator.proofs.events.sign.Lts as lts
+use Rattle.model.proofs.Message.processor.Reads as processor-reads
+use Rattle.model.proofs.Message.view.Reads as view-reads
+use Rattle.model.proofs.Plan.correct.Reads as correct-reads
+use Rattle.simulator.proofs.events.check_named.Reads as check-named-reads
+use Rattle.simulator.proofs.events.done.Reads as done-reads
+use Rattle.simulator.proofs.events.finish.Reads as finish-reads
+use Rattle.simulator.proofs.events.refuse.Reads as refuse-reads
+use Rattle.simulator.proofs.moves.led.Reads as led-reads
+
+check-named-requires : tie.Need-check-named-requires
+check-named-requires c κs = search needs
+
+refuse-requires : tie.Need-refuse-requires
+refuse-requires c κs = search needs
+
+returns : tie.Need-returns
+returns c = let s : State = stateOf (c .before .before .before .before .before .args .run) (c .before .before .before .before .before .args .tally .now) (c .before .before .before .before .before .args .network .now) in refused-is s _ _ (c .refuse .ensures) ∙ sign-named s (c .before .before .before .before .before .args .message) (c .before .before .before .before .before .pre .0) (c .before .before .before .before .before .pre .1) _ (c .before .before .check-named .ensures) (c .before .if1 .taken)
+
+processor-requires : tie.Need-processor-requires
+processor-requires c κs = search needs
+
+correct-requires : tie.Need-correct-requires
+correct-requires c κs = search needs
+
+refuse-requires-2 : tie.Need-refuse-requires-2
+refuse-requires-2 c κs = search needs
+
+returns-2 : tie.Need-returns-2
+returns-2 c = let s : State = stateOf (c .before .before .before .before .before .before .before .before .args .run) (c .before .before .before .before .before .before .before .before .args .tally .now) (c .before .before .before .before .before .before .before .before .args .network .now) in let named : namedCheck (c .before .before .before .before .before .before .before .before .args .run .plan) (c .before .before .before .before .before .before .before .before .args .message) ≡ 0 = omega (arith, c .before .before .before .before .before .check-named .ensures, c .before .before .before .before .if1 .left) in refused-is s _ 12 (c .refuse2 .ensures) ∙ sign-correct s (c .before .before .before .before .before .before .before .before .args .message) (c .before .before .before .before .before .before .before .before .pre .0) (c .before .before .before .before .before .before .before .before .pre .1) named (ap (correct (c .before .before .before .before .before .before .before .before .args .run .plan) (c .before .before .before .before .before .before .before .before .args .run .faulty)) (sym (c .before .before .before .processor .ensures)) ∙ sym (c .before .before .correct .ensures) ∙ c .before .if2 .taken)
+
+view-requires : tie.Need-view-requires
+view-requires c κs = search needs
+
+led-requires : tie.Need-led-requires
+led-requires c κs = omega (arith, within (c .before .before .before .before .before .before .before .before .args .run .plan) (fit-of (stateOf (c .before .before .before .before .before .before .before .before .args .run) (c .before .before .before .before .before .before .before .before .args .tally .now) (c .before .before .before .before .before .before .before .before .args .network .now)) (c .before .before .before .before .before .before .before .before .pre .1) .plan) .n-least)
+
+finish-requires : tie.Need-finish-requires
+finish-requires c κs = (c .before .before .before .before .before .before .before .before .before .before .before .before .pre .1, omega (arith, c .before .before .before .before .before .before .before .before .before .check-named .ensures, c .before .before .before .before .before .before .before .before .if1 .left), signature-reaches (c .before .before .before .before .before .before .before .before .before .before .before .before .args .run) (c .before .before .before .before .before .before .before .before .before .before .before .before .args .message) (c .before .before .before .before .before .before .before .before .before .before .before .before .pre .0))
+
+same-length : tie.Need-same-length
+same-length c = search needs
+
+same-length-2 : tie.Need-same-length-2
+same-length-2 c = search needs
+
+returns-3 : tie.Need-returns-3
+returns-3 c = let s : State = stateOf (c .before .before .before .before .before .before .before .before .before .before .before .before .before .before .before .before .before .args .run) (c .before .before .before .before .before .before .before .before .before .before .before .before .before .before .before .before .before .args .tally .now) (c .before .before .before .before .before .before .before .before .before .before .before .before .before .before .before .before .before .args .network .now) in let named : namedCheck (c .before .before .before .before .before .before .before .before .before .before .before .before .before .before .before .before .before .args .run .plan) (c .before .before .before .before .before .before .before .before .before .before .before .before .before .before .before .before .before .args .message) ≡ 0 = omega (arith, c .before .before .before .before .before .before .before .before .before .before .before .before .before .before .check-named .ensures, c .before .before .before .before .before .before .before .before .before .before .before .before .before .if1 .left) in sign-heard s (c .before .before .before .before .before .before .before .before .before .before .before .before .before .before .before .before .before .args .message) (c .before .before .before .before .before .before .before .before .before .before .before .before .before .before .before .before .before .pre .0) (c .before .before .before .before .before .before .before .before .before .before .before .before .before .before .before .before .before .pre .1) named (ap (correct (c .before .before .before .before .before .before .before .before .before .before .before .before .before .before .before .before .before .args .run .plan) (c .before .before .before .before .before .before .before .before .before .before .before .before .before .before .before .before .before .args .run .faulty)) (sym (c .before .before .before .before .before .before .before .before .before .before .before .before .processor .ensures)) ∙ sym (c .before .before .before .before .before .before .before .before .before .before .before .correct .ensures) ∙ c .before .before .before .before .before .before .before .before .before .before .if2 .left) (ap (λ (w : ℕ). correct (c .before .before .before .before .before .before .before .before .before .before .before .before .before .before .before .before .before .args .run .plan) (c .before .before .before .before .before .before .before .before .before .before .before .before .before .before .before .before .before .args .run .faulty) (lead (c .before .before .before .before .before .before .before .before .before .before .before .before .before .before .before .before .before .args .run .plan) w)) (sym (c .before .before .before .before .before .before .before .before .before .view .ensures)) ∙ sym (c .before .before .before .before .before .before .before .before .led .ensures) ∙ c .before .before .before .before .before .before .before .if3 .taken) _ (c .before .before .before .before .finish .ensures)
+
+done-requires : tie.Need-done-requires
+done-requires c κs = search needs
+
+returns-4 : tie.Need-returns-4
+returns-4 c = let s : State = stateOf (c .before .before .before .before .before .before .before .before .before .before .before .args .run) (c .before .before .before .before .before .before .before .before .before .before .before .args .tally .now) (c .before .before .before .before .before .before .before .before .before .before .before .args .network .now) in let named : namedCheck (c .before .before .before .before .before .before .before .before .before .before .before .args .run .plan) (c .before .before .before .before .before .before .before .before .before .before .before .args .message) ≡ 0 = omega (arith, c .before .before .before .before .before .before .before .before .check-named .ensures, c .before .before .before .before .before .before .before .if1 .left) in sign-unheard s (c .before .before .before .before .before .before .before .before .before .before .before .args .message) (c .before .before .before .before .before .before .before .before .before .before .before .pre .0) (c .before .before .before .before .before .before .before .before .before .before .before .pre .1) named (ap (correct (c .before .before .before .before .before .before .before .before .before .before .before .args .run .plan) (c .before .before .before .before .before .before .before .before .before .before .before .args .run .faulty)) (sym (c .before .before .before .before .before .before .processor .ensures)) ∙ sym (c .before .before .before .before .before .correct .ensures) ∙ c .before .before .before .before .if2 .left) (ap (λ (w : ℕ). correct (c .before .before .before .before .before .before .before .before .before .before .before .args .run .plan) (c .before .before .before .before .before .before .before .before .before .before .before .args .run .faulty) (lead (c .before .before .before .before .before .before .before .before .before .before .before .args .run .plan) w)) (sym (c .before .before .before .view .ensures)) ∙ sym (c .before .before .led .ensures) ∙ c .before .if3 .left) _ (done-is s _ _ _ _ (c .done .ensures) refl ∙ finish-still s (c .before .before .before .before .before .before .before .before .before .before .before .pre .1))
+
+pub sign-spec : {M : Type 1} → statement M
+sign-spec =
+    tie.close
+    (tie.spec
+    check-named-requires
+    refuse-requires
+    returns
+    processor-requires
+    correct-requires
+    refuse-requires-2
+    returns-2
+    view-requires
+    led-requires
+    finish-requires
+    same-length
+    same-length-2
+    returns-3
+    done-requires
+    returns-4)

@@ -1,0 +1,173 @@
+-- What the contracts of the inner functions cite: the parts of a change, and what a run must have for it to be made.
+use mathlib.Core.Path.{_≡_}
+use mathlib.Core.Bool.{Bool, true, false, _&&_, cond}
+use mathlib.Core.List.{List, [], _∷_}
+use Prim.Native.Nat.{ℕ, _+_, _^_, _≤_, _<_, max}
+use lib.Dec.{leb}
+use lib.ListN.{length, set}
+use Rattle.model.specs.declared.Plan.{Plan}
+use Rattle.model.specs.declared.Message.{Message}
+use Rattle.model.specs.declared.Message.the-variants.{View, Vote, Vc, Qc}
+use Rattle.model.specs.declared.Run.{Run}
+use Rattle.model.specs.declared.Processor.{Processor}
+use Rattle.model.specs.declared.Input.the-variants.{Tick}
+use Rattle.model.specs.declared.Sends.{Sends}
+use Rattle.model.specs.declared.Sends.the-variants.{Nothing, Vote as VoteFor, ViewAndVote}
+use Rattle.model.specs.Quantities.{correct}
+use Rattle.base.specs.Scan.{some}
+use Rattle.model.specs.State.{State, After, stateOf, viewStage, voteStage, clockOf, viewOf, isCorrect, enteredWord, heardWord, marksWord, markBit, added, viewIn, processorIn, stageOf, sentAt, posted, capacity, checkOf, refused, done}
+use Rattle.model.specs.Moves.{Change, toCorrect, stay, entries, toEach, handling, advanced, arrival, made}
+use Rattle.model.specs.Checks.{judged, planOutside, faultyOutside, clockOutside, atEnd, namedOutside, notInitial, reachesEnd, overfull}
+use Rattle.model.specs.Events.{tickOnce, Ticks}
+use Rattle.model.specs.Processors.{Moved, messagesOf, moving}
+use Rattle.pacemaker.specs.Steps.{movingBy}
+use Rattle.simulator.specs.declared.Reaction.{Reaction}
+use Rattle.simulator.specs.declared.Due.{Due}
+
+-- ---- messages sent
+
+-- that a function posted ms behind the messages held: how many are held then, and the network's words
+pub record Posts (ms : List Message) (held time : ℕ) (ws : List ℕ) (held' : ℕ) (ws' : List ℕ) : Type 0 where
+  pub number : held' ≡ held + length ms
+  pub words : ws' ≡ posted ws held time ms
+
+-- what goes into the network of what p sends in one move
+abbrev pub sentBy : Plan → ℕ → ℕ → Sends → List Message
+sentBy plan faulty p x = toCorrect plan faulty (messagesOf p x)
+
+-- the tally with the entry that they show
+abbrev pub enteredBy : List ℕ → ℕ → Sends → List ℕ
+enteredBy t p Nothing = t
+enteredBy t p (VoteFor w) = added t w enteredWord p
+enteredBy t p (ViewAndVote w) = added t w enteredWord p
+
+-- a signature heard: the tally, and the messages, for a certificate that is formed or not
+abbrev pub heardBy : List ℕ → Bool → ℕ → ℕ → Bool → List ℕ
+heardBy t stage w p formed = cond formed (added (added t w (heardWord stage) p) w marksWord (markBit stage)) (added t w (heardWord stage) p)
+
+abbrev pub formedBy : Plan → ℕ → Bool → ℕ → Bool → List Message
+formedBy plan faulty stage w formed = cond formed (toCorrect plan faulty (toEach stage w (plan .n))) []
+
+-- ---- a reaction
+
+-- that it is what an input makes of a processor: rules 1 to 3, and check 17
+pub record Reacts (plan : Plan) (c : Processor) (m : Moved) (x : Reaction) : Type 0 where
+  pub ends : x .ends ≡ atEnd plan (m .processor .clock)
+  pub processor : x .ends ≡ false → x .processor ≡ m .processor
+  pub sent : x .ends ≡ false → messagesOf (c .number) (x .sends) ≡ m .sent
+
+-- a tick's move of a processor that may be faulty, which then stays as it is
+abbrev pub arrivalMove : Plan → ℕ → Processor → Moved
+arrivalMove plan faulty c = cond (correct plan faulty (c .number)) (movingBy plan c Tick) (moving plan (c .number) (c .clock) (c .view) stay)
+
+pub record Arrives (plan : Plan) (faulty : ℕ) (c : Processor) (x : Reaction) : Type 0 where
+  pub ends : x .ends ≡ (correct plan faulty (c .number) && atEnd plan (c .clock + 1))
+  pub processor : x .ends ≡ false → x .processor ≡ arrivalMove plan faulty c .processor
+  pub sent : x .ends ≡ false → messagesOf (c .number) (x .sends) ≡ arrivalMove plan faulty c .sent
+
+-- what it changes, the message being m
+abbrev pub signedChange : Run → List ℕ → Bool → ℕ → ℕ → Reaction → Change
+signedChange r t stage w p x = record {
+  clocks = r .clocks;
+  views = r .views;
+  tally = heardBy t stage w p (x .formed);
+  sent = formedBy (r .plan) (r .faulty) stage w (x .formed);
+}
+
+abbrev pub movedChange : Run → List ℕ → ℕ → Reaction → Change
+movedChange r t p x = record {
+  clocks = set (r .clocks) p (x .processor .clock);
+  views = set (r .views) p (x .processor .view);
+  tally = enteredBy t p (x .sends);
+  sent = sentBy (r .plan) (r .faulty) p (x .sends);
+}
+
+abbrev pub changeBy : Run → List ℕ → Message → Reaction → Change
+changeBy r t (View w p) x = signedChange r t viewStage w p x
+changeBy r t (Vote w p) x = signedChange r t voteStage w p x
+changeBy r t (Vc w p) x = movedChange r t p x
+changeBy r t (Qc w p) x = movedChange r t p x
+
+-- ---- what a run has that check 9 passed, as far as moves need it
+
+pub record Fit (r : Run) : Type 0 where
+  pub plan : planOutside (r .plan) ≡ false
+  pub faulty : faultyOutside (r .plan) (r .faulty) ≡ false
+  pub clocks : (p : ℕ) → isCorrect r p ≡ true → clockOutside (r .plan) (clockOf r p) (viewOf r p) ≡ false
+
+-- ---- a single tick
+
+-- a held message is late, once the network has settled
+abbrev pub lateAt : ℕ → ℕ → ℕ → List ℕ → ℕ → Bool
+lateAt gst delta time ws i = leb (max (sentAt ws i) gst + delta) time
+
+-- the processor as it stands in the run
+abbrev pub seat : Run → ℕ → Processor
+seat r k = record { number = k; clock = clockOf r k; view = viewOf r k }
+
+-- what the entries of the processors below k leave
+abbrev pub arrivedBelow : State → ℕ → Change
+arrivedBelow s k = entries (arrival (advanced s .run)) (advanced s .run) (s .tally) k
+
+-- check 17 for one processor
+abbrev pub endsAt : Run → ℕ → Bool
+endsAt r q = isCorrect r q && atEnd (r .plan) (clockOf r q + 1)
+
+-- what a tick would do: a clock that ends, and how many messages it would send
+pub record Foretells (r : Run) (x : Due) : Type 0 where
+  pub ends : x .ends ≡ some (endsAt r) (r .plan .n)
+  pub sent : x .ends ≡ false → (t ws : List ℕ) → x .sent ≡ length (arrivedBelow (stateOf r t ws) (r .plan .n) .sent)
+  pub few : x .sent ≤ 128
+
+-- what a tick needs that no check refuses: clocks that go on, room for what is sent, and a time that fits
+pub record CanTick (r : Run) (t ws : List ℕ) : Type 0 where
+  pub fit : Fit r
+  pub goes-on : some (endsAt r) (r .plan .n) ≡ false
+  pub room : r .held + length (arrivedBelow (stateOf r t ws) (r .plan .n) .sent) ≤ capacity ws
+  pub time : r .time + 1 < 2 ^ 64
+
+-- what a tick that was done has left
+pub record Went (s s' : State) : Type 0 where
+  pub fit : Fit (s' .run)
+  pub room : s' .run .held ≤ capacity (s' .network)
+  pub time : s' .run .time ≡ s .run .time + 1
+  pub clock : (p : ℕ) → isCorrect (s .run) p ≡ true → (isCorrect (s' .run) p ≡ true) × (clockOf (s' .run) p ≡ clockOf (s .run) p + 1)
+
+-- that a function did the tick of s, or met the check that refuses it
+pub record TickedTo (s s' : State) (check : ℕ) : Type 0 where
+  pub state : s' ≡ tickOnce s .state
+  pub number : check ≡ checkOf (tickOnce s .answer)
+  pub went : check ≡ 0 → Went s s'
+
+-- so many ticks, ended by this check
+abbrev pub ranTo : State → ℕ → ℕ → Ticks
+ranTo s count check = record { state = s; count = count; check = check }
+
+-- ---- the events
+
+-- the first of checks 10 and 11 that refuses what is named, or 0
+abbrev pub namedCheck : Plan → Message → ℕ
+namedCheck plan m = judged (λ r. r) ((10, namedOutside plan (processorIn m) (viewIn m)) ∷ (11, notInitial plan (stageOf m) (viewIn m)) ∷ []) 0
+
+-- a certificate reaches a correct processor
+abbrev pub ReachesCorrect : Run → Message → Type 0
+ReachesCorrect r (View w p) = Unit {0}
+ReachesCorrect r (Vote w p) = Unit {0}
+ReachesCorrect r (Vc w p) = isCorrect r p ≡ true
+ReachesCorrect r (Qc w p) = isCorrect r p ≡ true
+
+-- that a reaction is what the message makes of whom it reaches
+pub record Decides (r : Run) (t : List ℕ) (m : Message) (x : Reaction) : Type 0 where
+  pub ends : x .ends ≡ reachesEnd r (handling r t m)
+  pub change : x .ends ≡ false → changeBy r t m x ≡ handling r t m
+
+-- the messages of a reaction
+abbrev pub sentFor : Plan → ℕ → Message → Reaction → List Message
+sentFor plan faulty (View w p) x = formedBy plan faulty viewStage w (x .formed)
+sentFor plan faulty (Vote w p) x = formedBy plan faulty voteStage w (x .formed)
+sentFor plan faulty (Vc w p) x = sentBy plan faulty p (x .sends)
+sentFor plan faulty (Qc w p) x = sentBy plan faulty p (x .sends)
+
+-- a change of s, judged by checks 17 and 18 and made
+abbrev pub finished : State → Change → After
+finished s c = judged (refused s) ((17, reachesEnd (s .run) c) ∷ (18, overfull s c) ∷ []) (done (made s c))

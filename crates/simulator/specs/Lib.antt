@@ -1,0 +1,5 @@
+-- What the contracts cite.
+pub mod Inner
+pub mod Opening
+pub mod Contracts
+pub mod Demands

@@ -1,0 +1,240 @@
+// What one processor's entry, and a signature that a leader hears, do to the lent buffers. Nothing here refuses: the caller has seen that the
+// messages fit.
+use model::Message;
+use model::Plan;
+use model::Sends;
+ghost use mathlib.Core.Path.{_≡_};
+ghost use mathlib.Core.List.{[], _∷_};
+ghost use mathlib.Core.Bool.{cond};
+ghost use Prim.Native.Nat.{_+_, _-_, _<_, _≤_};
+ghost use lib.ListN.{length};
+ghost use Rattle.base.specs.Sets.{member, size};
+ghost use Rattle.model.specs.Quantities.{lead, correct};
+ghost use Rattle.model.specs.State.{enteredWord, markBit, added, kindOf, viewIn, processorIn, addressee, capacity};
+ghost use Rattle.model.specs.Moves.{toCorrect, needed, ripe, certificate, toEach};
+ghost use Rattle.simulator.specs.Inner.{Posts, sentBy, enteredBy, heardBy, formedBy};
+
+// Whom a message is for: the leader of its view, or the processor that it names.
+fn addressee_of(plan: Plan, message: Message) -> u64
+    requires { ⌜ 0 < plan .n ⌝ }
+    ensures { λ r. ⌜ r ≡ addressee plan (kindOf message) (viewIn message) (processorIn message) ⌝ }
+{
+    match message {
+        Message::View(w, _) => plan.lead(w),
+        Message::Vote(w, _) => plan.lead(w),
+        Message::Vc(_, p) => p,
+        Message::Qc(_, p) => p,
+    }
+}
+
+// The one door by which a message goes into the network: to a correct processor, behind the held ones. Answers how many are held then.
+pub(crate) fn send(
+    network: &mut [u64],
+    held: usize,
+    plan: Plan,
+    faulty: u64,
+    message: Message,
+    time: u64,
+) -> usize
+    requires { ⌜ (0 < plan .n) × (held + length (toCorrect plan faulty (message ∷ [])) ≤ capacity (now network)) ⌝ }
+    ensures { λ r. ⌜ Posts (toCorrect plan faulty (message ∷ [])) held time (now (network .entry)) r (now (network .exit)) ⌝ }
+{
+    if plan.correct(faulty, addressee_of(plan, message)) {
+        buffers::append(network, held, message, time);
+        return held + 1;
+    }
+    held
+}
+
+// The certificate of a stage.
+fn certificate_of(stage: bool, w: u64, p: u64) -> Message
+    ensures { λ r. ⌜ r ≡ certificate stage w p ⌝ }
+{
+    if stage {
+        return Message::Qc(w, p);
+    }
+    Message::Vc(w, p)
+}
+
+// A certificate to every correct processor.
+fn broadcast(
+    network: &mut [u64],
+    held: usize,
+    plan: Plan,
+    faulty: u64,
+    stage: bool,
+    w: u64,
+    time: u64,
+) -> usize
+    requires { ⌜ (0 < plan .n) × (held + length (toCorrect plan faulty (toEach stage w (plan .n))) ≤ capacity (now network)) ⌝ }
+    ensures { λ r. ⌜ Posts (toCorrect plan faulty (toEach stage w (plan .n))) held time (now (network .entry)) r (now (network .exit)) ⌝ }
+{
+    let mut h = held;
+    let mut q = 0;
+    while q < plan.n {
+        h = send(network, h, plan, faulty, certificate_of(stage, w, q), time);
+        q += 1;
+    }
+    h
+}
+
+// Processor p enters view w, which is not initial: its vote goes to the leader.
+fn enter_later(
+    tally: &mut [u64],
+    network: &mut [u64],
+    held: usize,
+    plan: Plan,
+    faulty: u64,
+    p: u64,
+    w: u64,
+    time: u64,
+) -> usize
+    requires { ⌜ (0 < plan .n) × (p < 64) × (held + length (sentBy plan faulty p (Sends.Vote w)) ≤ capacity (now network)) ⌝ }
+    ensures { λ r. ⌜ Posts (sentBy plan faulty p (Sends.Vote w)) held time (now (network .entry)) r (now (network .exit)) × (now (tally .exit) ≡ added (now (tally .entry)) w enteredWord p) ⌝ }
+{
+    buffers::enter(tally, w, p);
+    send(network, held, plan, faulty, Message::Vote(w, p), time)
+}
+
+// Processor p enters the initial view w: its view message goes before the vote.
+fn enter_initial(
+    tally: &mut [u64],
+    network: &mut [u64],
+    held: usize,
+    plan: Plan,
+    faulty: u64,
+    p: u64,
+    w: u64,
+    time: u64,
+) -> usize
+    requires { ⌜ (0 < plan .n) × (p < 64) × (held + length (sentBy plan faulty p (Sends.ViewAndVote w)) ≤ capacity (now network)) ⌝ }
+    ensures { λ r. ⌜ Posts (sentBy plan faulty p (Sends.ViewAndVote w)) held time (now (network .entry)) r (now (network .exit)) × (now (tally .exit) ≡ added (now (tally .entry)) w enteredWord p) ⌝ }
+{
+    buffers::enter(tally, w, p);
+    let h = send(network, held, plan, faulty, Message::View(w, p), time);
+    send(network, h, plan, faulty, Message::Vote(w, p), time)
+}
+
+// What processor p sends in one move, and the entry that it shows.
+pub(crate) fn enter(
+    tally: &mut [u64],
+    network: &mut [u64],
+    held: usize,
+    plan: Plan,
+    faulty: u64,
+    p: u64,
+    sends: Sends,
+    time: u64,
+) -> usize
+    requires { ⌜ (0 < plan .n) × (p < 64) × (held + length (sentBy plan faulty p sends) ≤ capacity (now network)) ⌝ }
+    ensures { λ r. ⌜ Posts (sentBy plan faulty p sends) held time (now (network .entry)) r (now (network .exit)) × (now (tally .exit) ≡ enteredBy (now (tally .entry)) p sends) ⌝ }
+{
+    match sends {
+        Sends::Nothing => held,
+        Sends::Vote(w) => enter_later(tally, network, held, plan, faulty, p, w, time),
+        Sends::ViewAndVote(w) => enter_initial(tally, network, held, plan, faulty, p, w, time),
+    }
+}
+
+// Whether the leader of view w is correct.
+pub(crate) fn led(plan: Plan, faulty: u64, w: u64) -> bool
+    requires { ⌜ 0 < plan .n ⌝ }
+    ensures { λ r. ⌜ r ≡ correct plan faulty (lead plan w) ⌝ }
+{
+    plan.correct(faulty, plan.lead(w))
+}
+
+// So many, or none.
+fn share(goes: bool, k: usize) -> usize
+    ensures { λ r. ⌜ r ≡ cond goes k 0 ⌝ }
+{
+    if goes {
+        return k;
+    }
+    0
+}
+
+// How many messages go into the network of what processor p sends in one move.
+pub(crate) fn count_entry(plan: Plan, faulty: u64, p: u64, sends: Sends) -> usize
+    requires { ⌜ 0 < plan .n ⌝ }
+    ensures { λ r. ⌜ r ≡ length (sentBy plan faulty p sends) ⌝ }
+{
+    match sends {
+        Sends::Nothing => 0,
+        Sends::Vote(w) => share(led(plan, faulty, w), 1),
+        Sends::ViewAndVote(w) => share(led(plan, faulty, w), 2),
+    }
+}
+
+// How many signers a certificate of the stage needs.
+pub(crate) fn signers_needed(plan: Plan, stage: bool) -> u64
+    ensures { λ r. ⌜ r ≡ needed stage plan ⌝ }
+{
+    if stage {
+        return plan.n - plan.tolerated();
+    }
+    plan.tolerated() + 1
+}
+
+// Whether the certificate of the stage is formed already.
+pub(crate) fn is_formed(stage: bool, marks: u64) -> bool
+    ensures { λ r. ⌜ r ≡ member marks (markBit stage) ⌝ }
+{
+    if stage {
+        return base::member(marks, 1);
+    }
+    base::member(marks, 0)
+}
+
+// Whether hearing p makes the leader of w, whose own view is given, form the certificate.
+pub(crate) fn would_form(stage: bool, plan: Plan, own: u64, w: u64, p: u64, tally: &[u64]) -> bool
+    requires { ⌜ p < 64 ⌝ }
+    ensures { λ r. ⌜ r ≡ ripe stage plan own (now (tally .entry)) w p ⌝ }
+{
+    let signers = base::insert(buffers::heard(tally, stage, w), p);
+    if base::size(signers) < signers_needed(plan, stage) {
+        return false;
+    }
+    if is_formed(stage, buffers::marks(tally, w)) {
+        return false;
+    }
+    if stage {
+        return true;
+    }
+    own <= w
+}
+
+// The leader of w hears p, and forms the certificate or not.
+pub(crate) fn hear(
+    tally: &mut [u64],
+    network: &mut [u64],
+    held: usize,
+    plan: Plan,
+    faulty: u64,
+    stage: bool,
+    w: u64,
+    p: u64,
+    formed: bool,
+    time: u64,
+) -> usize
+    requires { ⌜ (0 < plan .n) × (p < 64) × (held + length (formedBy plan faulty stage w formed) ≤ capacity (now network)) ⌝ }
+    ensures { λ r. ⌜ Posts (formedBy plan faulty stage w formed) held time (now (network .entry)) r (now (network .exit)) × (now (tally .exit) ≡ heardBy (now (tally .entry)) stage w p formed) ⌝ }
+{
+    buffers::hear(tally, stage, w, p);
+    if formed {
+        buffers::mark(tally, stage, w);
+        return broadcast(network, held, plan, faulty, stage, w, time);
+    }
+    held
+}
+
+// How many messages go out with a certificate that is formed or not.
+pub(crate) fn count_formed(plan: Plan, faulty: u64, formed: bool) -> usize
+    requires { ⌜ (size faulty ≤ plan .n) × (plan .n ≤ 64) ⌝ }
+    ensures { λ r. ⌜ r ≡ cond formed (plan .n - size faulty) 0 ⌝ }
+{
+    if formed {
+        return (plan.n - base::size(faulty)) as usize;
+    }
+    0
+}

@@ -62,16 +62,21 @@ module _ (plan : Plan) (faulty time : ℕ) (ws : List ℕ) (i : ℕ) where
       ≡ (noView plan w || noProcessor plan p || toFaulty k w p || ltb time (sentAt ws i))
   tests-as k w p k' w' p' a b c = rw (a, b, c)
 
-  -- a message
-  pub held-unsound : (m : Message) → stored ws i ≡ Holds m → heldUnsound plan faulty time m (sentAt ws i) ≡ messageUnsound (flying plan faulty time ws) i
+  held-as : (m : Message) → stored ws i ≡ Holds m → heldUnsound plan faulty time m (sentAt ws i) ≡ messageUnsound (flying plan faulty time ws) i
   unfolding messageUnsound
-  held-unsound m e =
+  held-as m e =
       let h = stored-holds ws i m e in
       tests-as (kindAt ws i) (viewAt ws i) (processorAt ws i) (kindOf m) (viewIn m) (processorIn m) (h .0) (h .1) (h .2)
       ∙ first-fails kindOutside (noView plan (viewAt ws i)) (noProcessor plan (processorAt ws i))
       (toFaulty (kindAt ws i) (viewAt ws i) (processorAt ws i)) (ltb time (sentAt ws i)) (h .3)
 
+  -- a message, asked with its sending time
+  pub held-unsound : (m : Message) (sent : ℕ) (r : Bool) → stored ws i ≡ Holds m → sent ≡ sentAt ws i → r ≡ heldUnsound plan faulty time m sent
+      → r ≡ messageUnsound (flying plan faulty time ws) i
+  held-unsound m sent r e q x = x ∙ ap (heldUnsound plan faulty time m) q ∙ held-as m e
+
 -- the rest of the run does not matter
-pub some-flying : (r : Run) (t ws : List ℕ) (k : ℕ) → some (messageUnsound (flying (r .plan) (r .faulty) (r .time) ws)) k ≡ some (messageUnsound (stateOf r t ws)) k
+pub some-flying : (r : Run) (t ws : List ℕ) (k : ℕ)
+    → some (messageUnsound (flying (r .plan) (r .faulty) (r .time) ws)) k ≡ some (messageUnsound (stateOf r t ws)) k
 unfolding messageUnsound
 some-flying r t ws k = refl

@@ -1,5 +1,5 @@
--- Check 9 as a chain of seven tests: the first that passes, or the last. Assumes nothing.
-use mathlib.Core.Path.{_≡_, refl, sym, ap, _∙_}
+-- Check 9 as a chain of seven tests: the first that passes, or the last, and what a run has that none of them finds. Assumes nothing.
+use mathlib.Core.Path.{_≡_, _∙_}
 use mathlib.Core.Bool.{Bool, true, false, _||_}
 use Prim.Native.Nat.{ℕ, _≤_, _<_}
 use native.Mathlib.Nat.{le-refl}
@@ -11,7 +11,8 @@ use Rattle.model.specs.declared.Plan.{Plan}
 use Rattle.model.specs.Quantities.{endTime}
 use Rattle.model.specs.PlanFunctions.{clockTimeWord}
 use Rattle.model.specs.State.{State}
-use Rattle.model.specs.Checks.{planOutside, faultyOutside, buffersOutside, limitsBroken, clocksUnsound, timeUnsound, heldTooMany, messageUnsound, settlingUnsound, tailNotZero, unsound}
+use Rattle.model.specs.Checks.{planOutside, faultyOutside, buffersOutside}
+use Rattle.model.specs.Checks.{limitsBroken, clocksUnsound, timeUnsound, heldTooMany, messageUnsound, settlingUnsound, tailNotZero, unsound}
 use Rattle.pacemaker.proofs.LimitLaws.{neither, within, time-word}
 
 module _ (a b c d e f g : Bool) where
@@ -39,44 +40,103 @@ module _ (a b c d e f g : Bool) where
   stop7 : a ≡ false → b ≡ false → c ≡ false → d ≡ false → e ≡ false → f ≡ false → g ≡ chain
   stop7 u v w p q x = rw (u, v, w, p, q, x)
 
+-- what a run that passes check 9 has, part by part
+pub record Sound (s : State) : Type 0 where
+  pub plan : planOutside (s .run .plan) ≡ false
+  pub faulty : faultyOutside (s .run .plan) (s .run .faulty) ≡ false
+  pub buffers : buffersOutside (s .run .plan) (s .tally) (s .network) ≡ false
+  pub clocks : clocksUnsound s ≡ false
+  pub time : timeUnsound s ≡ false
+  pub room : heldTooMany s ≡ false
+  pub messages : some (messageUnsound s) (s .run .held) ≡ false
+  pub settling : settlingUnsound s ≡ false
+  pub tail : tailNotZero s ≡ false
+
 module _ (s : State) where
-  abbrev anyUnsound : Bool
-  anyUnsound = some (messageUnsound s) (s .run .held)
+  abbrev limits : Bool
+  limits = limitsBroken s
 
-  pub by-limits : limitsBroken s ≡ true → true ≡ unsound s
-  unfolding unsound
-  by-limits = stop1 (limitsBroken s) (clocksUnsound s) (timeUnsound s) (heldTooMany s) anyUnsound (settlingUnsound s) (tailNotZero s)
+  abbrev clocks : Bool
+  clocks = clocksUnsound s
 
-  pub by-clocks : limitsBroken s ≡ false → clocksUnsound s ≡ true → true ≡ unsound s
-  unfolding unsound
-  by-clocks = stop2 (limitsBroken s) (clocksUnsound s) (timeUnsound s) (heldTooMany s) anyUnsound (settlingUnsound s) (tailNotZero s)
+  abbrev time : Bool
+  time = timeUnsound s
 
-  pub by-time : limitsBroken s ≡ false → clocksUnsound s ≡ false → timeUnsound s ≡ true → true ≡ unsound s
-  unfolding unsound
-  by-time = stop3 (limitsBroken s) (clocksUnsound s) (timeUnsound s) (heldTooMany s) anyUnsound (settlingUnsound s) (tailNotZero s)
+  abbrev room : Bool
+  room = heldTooMany s
 
-  pub by-room : limitsBroken s ≡ false → clocksUnsound s ≡ false → timeUnsound s ≡ false → heldTooMany s ≡ true → true ≡ unsound s
-  unfolding unsound
-  by-room = stop4 (limitsBroken s) (clocksUnsound s) (timeUnsound s) (heldTooMany s) anyUnsound (settlingUnsound s) (tailNotZero s)
+  abbrev messages : Bool
+  messages = some (messageUnsound s) (s .run .held)
 
-  pub by-messages : limitsBroken s ≡ false → clocksUnsound s ≡ false → timeUnsound s ≡ false → heldTooMany s ≡ false → anyUnsound ≡ true → true ≡ unsound s
-  unfolding unsound
-  by-messages = stop5 (limitsBroken s) (clocksUnsound s) (timeUnsound s) (heldTooMany s) anyUnsound (settlingUnsound s) (tailNotZero s)
+  abbrev settling : Bool
+  settling = settlingUnsound s
 
-  pub by-settling : limitsBroken s ≡ false → clocksUnsound s ≡ false → timeUnsound s ≡ false → heldTooMany s ≡ false → anyUnsound ≡ false → settlingUnsound s ≡ true → true ≡ unsound s
-  unfolding unsound
-  by-settling = stop6 (limitsBroken s) (clocksUnsound s) (timeUnsound s) (heldTooMany s) anyUnsound (settlingUnsound s) (tailNotZero s)
+  abbrev tail : Bool
+  tail = tailNotZero s
 
-  pub by-tail : limitsBroken s ≡ false → clocksUnsound s ≡ false → timeUnsound s ≡ false → heldTooMany s ≡ false → anyUnsound ≡ false → settlingUnsound s ≡ false → tailNotZero s ≡ unsound s
+  pub by-limits : limits ≡ true → true ≡ unsound s
   unfolding unsound
-  by-tail = stop7 (limitsBroken s) (clocksUnsound s) (timeUnsound s) (heldTooMany s) anyUnsound (settlingUnsound s) (tailNotZero s)
+  by-limits = stop1 limits clocks time room messages settling tail
+
+  pub by-clocks : limits ≡ false → clocks ≡ true → true ≡ unsound s
+  unfolding unsound
+  by-clocks = stop2 limits clocks time room messages settling tail
+
+  pub by-time : limits ≡ false → clocks ≡ false → time ≡ true → true ≡ unsound s
+  unfolding unsound
+  by-time = stop3 limits clocks time room messages settling tail
+
+  pub by-room : limits ≡ false → clocks ≡ false → time ≡ false → room ≡ true → true ≡ unsound s
+  unfolding unsound
+  by-room = stop4 limits clocks time room messages settling tail
+
+  pub by-messages : limits ≡ false → clocks ≡ false → time ≡ false → room ≡ false → messages ≡ true → true ≡ unsound s
+  unfolding unsound
+  by-messages = stop5 limits clocks time room messages settling tail
+
+  pub by-settling : limits ≡ false → clocks ≡ false → time ≡ false → room ≡ false → messages ≡ false → settling ≡ true → true ≡ unsound s
+  unfolding unsound
+  by-settling = stop6 limits clocks time room messages settling tail
+
+  pub by-tail : limits ≡ false → clocks ≡ false → time ≡ false → room ≡ false → messages ≡ false → settling ≡ false → tail ≡ unsound s
+  unfolding unsound
+  by-tail = stop7 limits clocks time room messages settling tail
+
+  abbrev plan-out : Bool
+  plan-out = planOutside (s .run .plan)
+
+  abbrev faulty-out : Bool
+  faulty-out = faultyOutside (s .run .plan) (s .run .faulty)
+
+  abbrev buffers-out : Bool
+  buffers-out = buffersOutside (s .run .plan) (s .tally) (s .network)
 
   -- the plan is within its limits
-  pub plan-passes : limitsBroken s ≡ false → planOutside (s .run .plan) ≡ false
-  plan-passes e =
-      let plan = s .run .plan in
-      let a = neither (planOutside plan || faultyOutside plan (s .run .faulty)) (buffersOutside plan (s .tally) (s .network)) e in
-      neither (planOutside plan) (faultyOutside plan (s .run .faulty)) (a .0) .0
+  pub plan-passes : limits ≡ false → plan-out ≡ false
+  plan-passes e = neither plan-out faulty-out (neither (plan-out || faulty-out) buffers-out e .0) .0
+
+  pub sound : unsound s ≡ false → Sound s
+  unfolding unsound
+  sound x =
+      let g = neither (limits || clocks || time || room || messages || settling) tail x in
+      let f = neither (limits || clocks || time || room || messages) settling (g .0) in
+      let e = neither (limits || clocks || time || room) messages (f .0) in
+      let d = neither (limits || clocks || time) room (e .0) in
+      let c = neither (limits || clocks) time (d .0) in
+      let b = neither limits clocks (c .0) in
+      let a = neither (plan-out || faulty-out) buffers-out (b .0) in
+      let p = neither plan-out faulty-out (a .0) in
+      record {
+        plan = p .0;
+        faulty = p .1;
+        buffers = a .1;
+        clocks = b .1;
+        time = c .1;
+        room = d .1;
+        messages = e .1;
+        settling = f .1;
+        tail = g .1;
+      }
 
 -- the time against the end, as the plan's own function gives it
 module _ (plan : Plan) (time e : ℕ) (ok : planOutside plan ≡ false) (is : e ≡ clockTimeWord plan (plan .views)) where

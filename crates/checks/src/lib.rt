@@ -151,10 +151,13 @@ fn message_unsound(plan: Plan, faulty: u64, time: u64, network: &[u64], i: usize
     requires { ⌜ Within plan × (i < capacity (now network)) ⌝ }
     ensures { λ r. ⌜ r ≡ messageUnsound (flying plan faulty time (now (network .entry))) i ⌝ }
 {
-    let Stored::Holds(message) = buffers::decode(network, i) else {
-        return true;
-    };
-    held_unsound(plan, faulty, time, message, buffers::sent(network, i))
+    let stored = buffers::decode(network, i);
+    match stored {
+        Stored::Holds(message) => {
+            held_unsound(plan, faulty, time, message, buffers::sent(network, i))
+        }
+        Stored::Unknown => true,
+    }
 }
 
 // Whether some held message is unsound.

@@ -11,13 +11,13 @@ enum-known-message : tie.Need-enum-known-message
 enum-known-message c = search needs
 
 lead-requires : tie.Need-lead-requires
-lead-requires c κs = search needs
+lead-requires c κs = tt
 
 enum-known-message-2 : tie.Need-enum-known-message-2
 enum-known-message-2 c = search needs
 
 lead-requires-2 : tie.Need-lead-requires-2
-lead-requires-2 c κs = search needs
+lead-requires-2 c κs = tt
 
 enum-known-message-3 : tie.Need-enum-known-message-3
 enum-known-message-3 c = search needs

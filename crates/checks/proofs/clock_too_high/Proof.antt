@@ -5,7 +5,6 @@ use lib.Dec.{leb}
 use native.Mathlib.Omega.{arith}
 use Prim.Native.Nat.{ℕ}
 use mathlib.Core.Path.{sym, ap, _∙_}
-use borrow.Author.Needs.{needs}
 use Rattle.checks.proofs.clock_too_high.Statement.{statement}
 use Rattle.checks.proofs.clock_too_high.Tie as tie
 use Rattle.checks.proofs.clock_too_high.Reads as reads
@@ -14,10 +13,10 @@ use Rattle.model.proofs.Plan.clock_time.Reads as clock-time-reads
 use Rattle.model.proofs.Plan.correct.Reads as correct-reads
 
 correct-requires : tie.Need-correct-requires
-correct-requires c κs = search needs
+correct-requires c κs = tt
 
 clock-time-requires : tie.Need-clock-time-requires
-clock-time-requires c κs = search needs
+clock-time-requires c κs = tt
 
 returns : tie.Need-returns
 unfolding perLeader

@@ -2,7 +2,6 @@ use Rattle.checks.proofs.Arithmetic.{or-skip}
 use Rattle.base.specs.Choice.{and-rest, and-not-first}
 use mathlib.Core.Bool.{_||_}
 use mathlib.Core.Path.{sym, _∙_}
-use borrow.Author.Needs.{needs}
 use Rattle.checks.proofs.clock_unsound.Statement.{statement}
 use Rattle.checks.proofs.clock_unsound.Tie as tie
 use Rattle.checks.proofs.clock_unsound.Reads as reads
@@ -11,10 +10,10 @@ use Rattle.model.proofs.Plan.correct.Reads as correct-reads
 use Rattle.pacemaker.proofs.unsound.Reads as unsound-reads
 
 correct-requires : tie.Need-correct-requires
-correct-requires c κs = search needs
+correct-requires c κs = tt
 
 unsound-requires : tie.Need-unsound-requires
-unsound-requires c κs = search needs
+unsound-requires c κs = tt
 
 returns : tie.Need-returns
 returns c = and-rest _ _ _ (sym (c .before .before .correct .ensures) ∙ c .before .if1 .taken) (c .unsound .ensures ∙ or-skip _ _ (c .before .before .before .pre))

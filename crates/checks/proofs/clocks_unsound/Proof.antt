@@ -1,4 +1,3 @@
-use borrow.Author.Needs.{needs}
 use Rattle.checks.specs.Scans.{outsideAt}
 use Rattle.pacemaker.proofs.LimitLaws.{within}
 use Rattle.base.specs.ScanLaws.{some-start, some-on, some-here, some-below}
@@ -44,7 +43,7 @@ add-q : tie.Need-add-q Inv-loop μ-loop
 add-q c = omega (arith, within (c .before .before .before .before .before .before .before .args .t1 .plan) (c .before .before .before .before .before .before .before .pre) .n-most)
 
 loop-less : tie.Need-loop-less Inv-loop μ-loop
-loop-less c = search needs
+loop-less c = omega arith
 
 loop-again : tie.Need-loop-again Inv-loop μ-loop
 loop-again c = some-on (outsideAt (c .before .before .before .before .before .before .before .args .t1)) (c .before .before .before .before .before .before .loop .q) (c .before .before .before .before .before .before .loop .inv) (sym (c .before .clock-unsound .ensures) ∙ c .if1 .left)

@@ -20,22 +20,22 @@ loop-holds : tie.Need-loop-holds Inv-loop μ-loop
 loop-holds c = (zero≤, sym (count-start (supportAt (c .args .t1) (c .args .c))))
 
 mul-support : tie.Need-mul-support Inv-loop μ-loop
-mul-support c = search needs
+mul-support c = omega (arith, c .before .before .before .pre .n-most)
 
 element-copy-out-support : tie.Need-element-copy-out-support Inv-loop μ-loop
-element-copy-out-support c = search needs
+element-copy-out-support c = omega (arith, c .before .before .before .pre .n-most)
 
 support-requires : tie.Need-support-requires Inv-loop μ-loop
-support-requires c κs = search needs
+support-requires c κs = tt
 
 add-k : tie.Need-add-k Inv-loop μ-loop
 add-k c = omega (arith, c .support .ensures .1, count-le (c .before .before .before .before .loop .q) (supportAt (c .before .before .before .before .before .args .t1) (c .before .before .before .before .before .args .c)))
 
 add-q : tie.Need-add-q Inv-loop μ-loop
-add-q c = search needs
+add-q c = omega (arith, c .before .before .before .before .before .pre .n-most)
 
 loop-less : tie.Need-loop-less Inv-loop μ-loop
-loop-less c = search needs
+loop-less c = omega arith
 
 loop-again : tie.Need-loop-again Inv-loop μ-loop
 loop-again c = (omega arith, omega (arith, c .support .ensures .0, count-on (c .before .before .before .before .loop .q) (supportAt (c .before .before .before .before .before .args .t1) (c .before .before .before .before .before .args .c))))

@@ -1,3 +1,4 @@
+use native.Mathlib.Omega.{arith}
 use Rattle.checks.proofs.Arithmetic.{beyond-none, beyond-shift}
 use mathlib.Core.Path.{sym}
 use borrow.Author.Needs.{needs}
@@ -7,10 +8,10 @@ use Rattle.checks.proofs.has_beyond.Reads as reads
 use Rattle.checks.proofs.has_beyond.Lts as lts
 
 returns : tie.Need-returns
-returns c = sym (beyond-none (c .before .args .n) (c .before .args .faulty) (c .if1 .taken) (c .before .fits .faulty .fits))
+returns c = sym (beyond-none (c .before .args .n) (c .before .args .faulty) (omega (arith, c .if1 .taken)) (c .before .fits .faulty .fits))
 
 shr-result : tie.Need-shr-result
-shr-result c = search needs
+shr-result c = omega (arith, c .if1 .left)
 
 returns-2 : tie.Need-returns-2
 returns-2 c = beyond-shift (c .before .args .n) (c .before .args .faulty)

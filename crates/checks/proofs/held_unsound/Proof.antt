@@ -1,10 +1,10 @@
+use Rattle.model.specs.State.{viewIn, processorIn}
+use native.Mathlib.Omega.{arith}
 use Rattle.checks.proofs.Held.{four1, four2, four3, four4}
 use Rattle.model.specs.Quantities.{correct}
 use Rattle.base.specs.Choice.{not-yes, not-no}
 use borrow.Author.Tests.{le-leb, lt-leb}
-use lib.Dec.{leb}
 use mathlib.Core.Path.{sym, ap, _∙_}
-use borrow.Author.Needs.{needs}
 use Rattle.checks.proofs.held_unsound.Statement.{statement}
 use Rattle.checks.proofs.held_unsound.Tie as tie
 use Rattle.checks.proofs.held_unsound.Reads as reads
@@ -15,28 +15,28 @@ use Rattle.model.proofs.Message.view.Reads as view-reads
 use Rattle.model.proofs.Plan.correct.Reads as correct-reads
 
 view-requires : tie.Need-view-requires
-view-requires c κs = search needs
+view-requires c κs = tt
 
 returns : tie.Need-returns
-returns c = four1 _ _ _ _ (ap (leb (c .before .before .before .args .plan .views)) (sym (c .before .before .view .ensures)) ∙ le-leb _ _ (c .if1 .taken))
+returns c = four1 _ _ _ _ (le-leb (c .before .before .before .args .plan .views) (viewIn (c .before .before .before .args .message)) (omega (arith, c .before .before .view .ensures, c .if1 .taken)))
 
 processor-requires : tie.Need-processor-requires
-processor-requires c κs = search needs
+processor-requires c κs = tt
 
 returns-2 : tie.Need-returns-2
-returns-2 c = four2 _ _ _ _ (ap (leb (c .before .before .before .before .before .before .args .plan .views)) (sym (c .before .before .before .before .before .view .ensures)) ∙ lt-leb _ _ (c .before .before .before .if1 .left)) (ap (leb (c .before .before .before .before .before .before .args .plan .n)) (sym (c .before .before .processor .ensures)) ∙ le-leb _ _ (c .if2 .taken))
+returns-2 c = four2 _ _ _ _ (lt-leb (c .before .before .before .before .before .before .args .plan .views) (viewIn (c .before .before .before .before .before .before .args .message)) (omega (arith, c .before .before .before .before .before .view .ensures, c .before .before .before .if1 .left))) (le-leb (c .before .before .before .before .before .before .args .plan .n) (processorIn (c .before .before .before .before .before .before .args .message)) (omega (arith, c .before .before .processor .ensures, c .if2 .taken)))
 
 addressee-requires : tie.Need-addressee-requires
-addressee-requires c κs = search needs
+addressee-requires c κs = c .before .before .before .before .before .before .pre
 
 correct-requires : tie.Need-correct-requires
-correct-requires c κs = search needs
+correct-requires c κs = tt
 
 returns-3 : tie.Need-returns-3
-returns-3 c = four4 _ _ _ _ (ap (leb (c .before .before .before .before .before .before .before .before .before .args .plan .views)) (sym (c .before .before .before .before .before .before .before .before .view .ensures)) ∙ lt-leb _ _ (c .before .before .before .before .before .before .if1 .left)) (ap (leb (c .before .before .before .before .before .before .before .before .before .args .plan .n)) (sym (c .before .before .before .before .before .processor .ensures)) ∙ lt-leb _ _ (c .before .before .before .if2 .left)) (not-yes _ (ap (correct (c .before .before .before .before .before .before .before .before .before .args .plan) (c .before .before .before .before .before .before .before .before .before .args .faulty)) (sym (c .before .before .addressee .ensures)) ∙ sym (c .before .correct .ensures) ∙ c .if3 .taken))
+returns-3 c = four4 _ _ _ _ (lt-leb (c .before .before .before .before .before .before .before .before .before .args .plan .views) (viewIn (c .before .before .before .before .before .before .before .before .before .args .message)) (omega (arith, c .before .before .before .before .before .before .before .before .view .ensures, c .before .before .before .before .before .before .if1 .left))) (lt-leb (c .before .before .before .before .before .before .before .before .before .args .plan .n) (processorIn (c .before .before .before .before .before .before .before .before .before .args .message)) (omega (arith, c .before .before .before .before .before .processor .ensures, c .before .before .before .if2 .left))) (not-yes _ (ap (correct (c .before .before .before .before .before .before .before .before .before .args .plan) (c .before .before .before .before .before .before .before .before .before .args .faulty)) (sym (c .before .before .addressee .ensures)) ∙ sym (c .before .correct .ensures) ∙ c .if3 .taken))
 
 returns-4 : tie.Need-returns-4
-returns-4 c = four3 _ _ _ _ (ap (leb (c .before .before .before .before .before .before .before .before .before .args .plan .views)) (sym (c .before .before .before .before .before .before .before .before .view .ensures)) ∙ lt-leb _ _ (c .before .before .before .before .before .before .if1 .left)) (ap (leb (c .before .before .before .before .before .before .before .before .before .args .plan .n)) (sym (c .before .before .before .before .before .processor .ensures)) ∙ lt-leb _ _ (c .before .before .before .if2 .left)) (not-no _ (ap (correct (c .before .before .before .before .before .before .before .before .before .args .plan) (c .before .before .before .before .before .before .before .before .before .args .faulty)) (sym (c .before .before .addressee .ensures)) ∙ sym (c .before .correct .ensures) ∙ c .if3 .left))
+returns-4 c = four3 _ _ _ _ (lt-leb (c .before .before .before .before .before .before .before .before .before .args .plan .views) (viewIn (c .before .before .before .before .before .before .before .before .before .args .message)) (omega (arith, c .before .before .before .before .before .before .before .before .view .ensures, c .before .before .before .before .before .before .if1 .left))) (lt-leb (c .before .before .before .before .before .before .before .before .before .args .plan .n) (processorIn (c .before .before .before .before .before .before .before .before .before .args .message)) (omega (arith, c .before .before .before .before .before .processor .ensures, c .before .before .before .if2 .left))) (not-no _ (ap (correct (c .before .before .before .before .before .before .before .before .before .args .plan) (c .before .before .before .before .before .before .before .before .before .args .faulty)) (sym (c .before .before .addressee .ensures)) ∙ sym (c .before .correct .ensures) ∙ c .if3 .left))
 
 pub held-unsound-spec : {M : Type 1} → statement M
 held-unsound-spec =

@@ -3,7 +3,6 @@ use Rattle.model.specs.Checks.{planOutside, faultyOutside}
 use Rattle.base.specs.Choice.{or-first, or-second, or-neither, or-rest}
 use native.Mathlib.Omega.{arith}
 use mathlib.Core.Path.{sym, _∙_}
-use borrow.Author.Needs.{needs}
 use Rattle.checks.proofs.limits_broken.Statement.{statement}
 use Rattle.checks.proofs.limits_broken.Tie as tie
 use Rattle.checks.proofs.limits_broken.Reads as reads
@@ -13,13 +12,13 @@ use Rattle.checks.proofs.lengths_outside.Reads as lengths-outside-reads
 use Rattle.pacemaker.proofs.plan_check.Reads as plan-check-reads
 
 plan-check-requires : tie.Need-plan-check-requires
-plan-check-requires c κs = search needs
+plan-check-requires c κs = tt
 
 returns : tie.Need-returns
 returns c = sym (or-first _ _ (or-first _ _ (check-refuses (c .before .before .args .plan) (omega (arith, c .before .plan-check .ensures, c .if1 .taken)))))
 
 faulty-outside-requires : tie.Need-faulty-outside-requires
-faulty-outside-requires c κs = search needs
+faulty-outside-requires c κs = tt
 
 returns-2 : tie.Need-returns-2
 returns-2 c = sym (or-first _ _ (or-second (planOutside (c .before .before .before .before .args .plan)) (faultyOutside (c .before .before .before .before .args .plan) (c .before .before .before .before .args .faulty)) (sym (c .before .faulty-outside .ensures) ∙ c .if2 .taken)))

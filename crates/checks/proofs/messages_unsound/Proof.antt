@@ -1,4 +1,3 @@
-use borrow.Author.Needs.{needs}
 use Rattle.checks.specs.Scans.{flying}
 use Rattle.model.specs.Checks.{messageUnsound}
 use Rattle.base.specs.ScanLaws.{some-start, some-on, some-here, some-below}
@@ -29,10 +28,10 @@ returns : tie.Need-returns Inv-loop μ-loop
 returns c = sym (some-here (messageUnsound (flying (c .before .before .before .before .before .args .plan) (c .before .before .before .before .before .args .faulty) (c .before .before .before .before .before .args .time) (c .before .before .before .before .before .args .network .now))) (c .before .before .before .before .before .args .held) (c .before .before .before .loop .i) (c .before .before .loop-test .taken) (sym (c .before .message-unsound .ensures) ∙ c .if1 .taken))
 
 add-i : tie.Need-add-i Inv-loop μ-loop
-add-i c = search needs
+add-i c = omega (arith, c .before .before .before .before .before .pre .1, c .before .before .before .before .before .good)
 
 loop-less : tie.Need-loop-less Inv-loop μ-loop
-loop-less c = search needs
+loop-less c = omega arith
 
 loop-again : tie.Need-loop-again Inv-loop μ-loop
 loop-again c = some-on (messageUnsound (flying (c .before .before .before .before .before .args .plan) (c .before .before .before .before .before .args .faulty) (c .before .before .before .before .before .args .time) (c .before .before .before .before .before .args .network .now))) (c .before .before .before .loop .i) (c .before .before .before .loop .inv) (sym (c .before .message-unsound .ensures) ∙ c .if1 .left)

@@ -2,7 +2,6 @@ use Rattle.checks.proofs.Opens.{by-plan, by-faulty, by-lengths, by-star
 use Rattle.pacemaker.proofs.LimitLaws.{check-passes, within}
 use native.Mathlib.Omega.{arith}
 use mathlib.Core.Path.{sym, _∙_}
-use borrow.Author.Needs.{needs}
 use Rattle.checks.proofs.setup_check.Statement.{statement}
 use Rattle.checks.proofs.setup_check.Tie as tie
 use Rattle.checks.proofs.setup_check.Reads as reads
@@ -14,13 +13,13 @@ use Rattle.checks.proofs.too_far_ahead.Reads as too-far-ahead-reads
 use Rattle.pacemaker.proofs.plan_check.Reads as plan-check-reads
 
 plan-check-requires : tie.Need-plan-check-requires
-plan-check-requires c κs = search needs
+plan-check-requires c κs = tt
 
 returns : tie.Need-returns
-returns c = by-plan (c .before .before .args .setup) (c .before .before .args .tally) (c .before .before .args .network) _ (c .before .plan-check .ensures) (c .if1 .taken)
+returns c = by-plan (c .before .before .args .setup) (c .before .before .args .tally) (c .before .before .args .network) (c .before .plan-check .result) (c .before .plan-check .ensures) (omega (arith, c .if1 .taken))
 
 faulty-outside-requires : tie.Need-faulty-outside-requires
-faulty-outside-requires c κs = search needs
+faulty-outside-requires c κs = tt
 
 returns-2 : tie.Need-returns-2
 returns-2 c = by-faulty (c .before .before .before .before .args .setup) (c .before .before .before .before .args .tally) (c .before .before .before .before .args .network) (omega (arith, c .before .before .before .plan-check .ensures, c .before .before .if1 .left)) (sym (c .before .faulty-outside .ensures) ∙ c .if2 .taken)

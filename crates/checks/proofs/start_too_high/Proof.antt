@@ -1,4 +1,4 @@
-use borrow.Author.Needs.{needs}
+use native.Mathlib.Omega.{arith}
 use Rattle.checks.specs.Scans.{highAt}
 use Rattle.model.specs.Checks.{startTooHigh}
 use Rattle.base.specs.ScanLaws.{some-start, some-on, some-here, some-below}
@@ -22,23 +22,23 @@ loop-holds : tie.Need-loop-holds Inv-loop μ-loop
 loop-holds c = some-start _
 
 mul-clock-too-high : tie.Need-mul-clock-too-high Inv-loop μ-loop
-mul-clock-too-high c = search needs
+mul-clock-too-high c = omega (arith, c .before .before .before .pre .n-most)
 
 element-copy-out-clock-too-high : tie.Need-element-copy-out-clock-too-high Inv-loop μ-loop
-element-copy-out-clock-too-high c = search needs
+element-copy-out-clock-too-high c = omega (arith, c .before .before .before .pre .n-most)
 
 clock-too-high-requires : tie.Need-clock-too-high-requires Inv-loop μ-loop
-clock-too-high-requires c κs = search needs
+clock-too-high-requires c κs = c .before .before .before .before .pre
 
 returns : tie.Need-returns Inv-loop μ-loop
 unfolding startTooHigh
 returns c = sym (some-here (highAt (c .before .before .before .before .before .before .args .t1)) (c .before .before .before .before .before .before .args .t1 .plan .n) (c .before .before .before .before .before .loop .q) (c .before .before .before .before .loop-test .taken) (sym (c .before .clock-too-high .ensures) ∙ c .if1 .taken))
 
 add-q : tie.Need-add-q Inv-loop μ-loop
-add-q c = search needs
+add-q c = omega (arith, c .before .before .before .before .before .before .pre .n-most)
 
 loop-less : tie.Need-loop-less Inv-loop μ-loop
-loop-less c = search needs
+loop-less c = omega arith
 
 loop-again : tie.Need-loop-again Inv-loop μ-loop
 loop-again c = some-on (highAt (c .before .before .before .before .before .before .args .t1)) (c .before .before .before .before .before .loop .q) (c .before .before .before .before .before .loop .inv) (sym (c .before .clock-too-high .ensures) ∙ c .if1 .left)

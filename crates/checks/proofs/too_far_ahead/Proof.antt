@@ -1,4 +1,4 @@
-use borrow.Author.Needs.{needs}
+use native.Mathlib.Omega.{arith}
 use Rattle.checks.specs.Scans.{aloneAt}
 use Rattle.model.specs.Checks.{tooFarAhead}
 use Rattle.base.specs.ScanLaws.{some-start, some-on, some-here, some-below}
@@ -29,10 +29,10 @@ unfolding tooFarAhead
 returns c = sym (some-here (aloneAt (c .before .before .before .before .args .setup)) (c .before .before .before .before .args .setup .plan .n) (c .before .before .before .loop .q) (c .before .before .loop-test .taken) (sym (c .before .clock-alone .ensures) ∙ c .if1 .taken))
 
 add-q : tie.Need-add-q Inv-loop μ-loop
-add-q c = search needs
+add-q c = omega (arith, c .before .before .before .before .pre .n-most)
 
 loop-less : tie.Need-loop-less Inv-loop μ-loop
-loop-less c = search needs
+loop-less c = omega arith
 
 loop-again : tie.Need-loop-again Inv-loop μ-loop
 loop-again c = some-on (aloneAt (c .before .before .before .before .args .setup)) (c .before .before .before .loop .q) (c .before .before .before .loop .inv) (sym (c .before .clock-alone .ensures) ∙ c .if1 .left)

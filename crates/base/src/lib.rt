@@ -3,7 +3,7 @@ ghost use mathlib.Core.Path.{_≡_};
 ghost use Rattle.base.specs.Sets.{member, insertWord, size};
 
 // How many numbers a set can hold.
-const BITS: u64 = 64;
+pub const BITS: u64 = 64;
 
 // Whether p is in s.
 pub fn member(s: u64, p: u64) -> bool

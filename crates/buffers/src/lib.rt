@@ -5,6 +5,7 @@ ghost use mathlib.Core.List.{[], _∷_, _++_};
 ghost use Prim.Native.Nat.{_+_, _*_, _<_, _≤_};
 ghost use lib.ListN.{length, take, drop};
 ghost use Rattle.base.specs.Scan.{first};
+ghost use Rattle.base.specs.Sets.{member};
 ghost use Rattle.model.specs.Quantities.{messageWords};
 ghost use Rattle.model.specs.State.{word, slot, added, enteredWord, heardWord, marksWord, markBit, capacity, posted, removed, sentAt};
 ghost use Rattle.model.specs.Checks.{isAt};
@@ -13,7 +14,7 @@ ghost use Rattle.buffers.specs.Network.{appended, found, taken, moved};
 ghost use Rattle.buffers.specs.Kinds.{storedAs, stored};
 
 // The words of a view in the tally.
-const ROW_WORDS: usize = 4;
+pub const ROW_WORDS: usize = 4;
 
 // Which of them holds what.
 const ENTERED: usize = 0;
@@ -30,7 +31,7 @@ const VIEW_CERTIFICATE_FORMED: u64 = 0;
 const QUORUM_CERTIFICATE_FORMED: u64 = 1;
 
 // The words of a message in the network.
-const MESSAGE_WORDS: usize = 4;
+pub const MESSAGE_WORDS: usize = 4;
 
 // Where word j of view w stands in a tally of `len` words, or `len` where it lies beyond the end.
 fn place_in(len: usize, w: u64, j: usize) -> usize
@@ -104,11 +105,11 @@ pub fn heard(tally: &[u64], stage: bool, w: u64) -> u64
     read(tally, w, heard_word(stage))
 }
 
-// The certificates formed for view w.
-pub fn marks(tally: &[u64], w: u64) -> u64
-    ensures { λ r. ⌜ r ≡ word (now (tally .entry)) w marksWord ⌝ }
+// Whether the stage's certificate for view w was formed.
+pub fn is_marked(tally: &[u64], stage: bool, w: u64) -> bool
+    ensures { λ r. ⌜ r ≡ member (word (now (tally .entry)) w marksWord) (markBit stage) ⌝ }
 {
-    read(tally, w, MARKS)
+    base::member(read(tally, w, MARKS), mark_bit(stage))
 }
 
 // Processor p entered view w.

@@ -21,10 +21,6 @@ use Rattle.buffers.specs.Kinds.{stored}
 use Rattle.buffers.specs.KindLaws.{stored-holds, stored-unknown}
 use Rattle.checks.specs.Scans.{heldUnsound, flying}
 
--- there are processors, so one leads
-pub leads : (plan : Plan) (w : ℕ) → Within plan → leadWord plan w ≡ lead plan w
-leads plan w h = sym (cond-no (eqb (plan .n) 0) (lead plan w) 0 (lead plan w) (ne-eqb (plan .n) 0 (λ e. absurd (omega (arith, h .n-least)))) refl)
-
 -- the first of five tests passes, or is left out
 first-passes : (k v p a s : Bool) → k ≡ true → (k || v || p || a || s) ≡ true
 first-passes k v p a s e = rw e

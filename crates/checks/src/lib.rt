@@ -13,20 +13,11 @@ ghost use lib.ListN.{drop};
 ghost use Rattle.base.specs.Count.{bit};
 ghost use Rattle.base.specs.Scan.{some};
 ghost use Rattle.model.specs.Quantities.{correct, startLimit};
-ghost use Rattle.model.specs.State.{stateOf, kindOf, viewIn, processorIn, addressee, capacity};
+ghost use Rattle.model.specs.State.{stateOf, capacity};
 ghost use Rattle.model.specs.Checks.{planOutside, faultyOutside, lengthsOutside, clockOutside, messageUnsound, someNonZero, unsound, startTooHigh, supporting, tooFarAhead};
 ghost use Rattle.pacemaker.specs.Limits.{Within};
 ghost use Rattle.checks.specs.Scans.{outsideAt, heldUnsound, flying, aloneAt};
 ghost use Rattle.checks.specs.Setups.{setupCheck};
-
-// How many numbers a set can hold.
-const BITS: u64 = 64;
-
-// The words of a view in the tally.
-const ROW_WORDS: u64 = 4;
-
-// The words of a message in the network.
-const MESSAGE_WORDS: usize = 4;
 
 // The network has at least so many words for each processor.
 const WORDS_EACH: u64 = 8;
@@ -38,7 +29,7 @@ const NETWORK_MOST: u64 = 524288;
 fn has_beyond(n: u64, faulty: u64) -> bool
     ensures { λ r. ⌜ r ≡ leb (2 ^ n) faulty ⌝ }
 {
-    if BITS <= n {
+    if base::BITS <= n {
         return false;
     }
     faulty >> n != 0
@@ -59,7 +50,7 @@ fn lengths_outside(plan: Plan, tally: usize, network: usize) -> bool
     requires { ⌜ Within plan ⌝ }
     ensures { λ r. ⌜ r ≡ lengthsOutside plan tally network ⌝ }
 {
-    if (tally as u64) < ROW_WORDS * plan.views {
+    if (tally as u64) < buffers::ROW_WORDS as u64 * plan.views {
         return true;
     }
     if (network as u64) < WORDS_EACH * plan.n {
@@ -116,19 +107,6 @@ fn clocks_unsound(run: Run) -> bool
     false
 }
 
-// Whom the message is for.
-fn addressee(plan: Plan, message: Message) -> u64
-    requires { ⌜ Within plan ⌝ }
-    ensures { λ r. ⌜ r ≡ addressee plan (kindOf message) (viewIn message) (processorIn message) ⌝ }
-{
-    match message {
-        Message::View(w, _) => plan.lead(w),
-        Message::Vote(w, _) => plan.lead(w),
-        Message::Vc(_, p) => p,
-        Message::Qc(_, p) => p,
-    }
-}
-
 // Whether the message names too much, is for no correct processor or was sent later than now.
 fn held_unsound(plan: Plan, faulty: u64, time: u64, message: Message, sent: u64) -> bool
     requires { ⌜ Within plan ⌝ }
@@ -140,7 +118,7 @@ fn held_unsound(plan: Plan, faulty: u64, time: u64, message: Message, sent: u64)
     if plan.n <= message.processor() {
         return true;
     }
-    if plan.correct(faulty, addressee(plan, message)) {
+    if plan.correct(faulty, message.addressee(plan)) {
         return time < sent;
     }
     true
@@ -215,7 +193,7 @@ pub fn unsound(run: Run, tally: &[u64], network: &[u64]) -> bool
     if run.plan.clock_time(run.plan.views) <= run.time {
         return true;
     }
-    if network.len() / MESSAGE_WORDS < run.held {
+    if network.len() / buffers::MESSAGE_WORDS < run.held {
         return true;
     }
     if messages_unsound(run.plan, run.faulty, run.time, run.held, network) {
@@ -224,7 +202,7 @@ pub fn unsound(run: Run, tally: &[u64], network: &[u64]) -> bool
     if settling_unsound(run.time, run.settled, run.gst) {
         return true;
     }
-    tail_not_zero(network, MESSAGE_WORDS * run.held)
+    tail_not_zero(network, buffers::MESSAGE_WORDS * run.held)
 }
 
 // Whether q is correct and its start clock too high.

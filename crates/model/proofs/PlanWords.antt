@@ -1,14 +1,18 @@
--- When a clock time fits 64 bits. Assumes nothing.
+-- Where the plan's functions answer document 01's number. Assumes nothing.
 use mathlib.Core.Path.{_≡_, refl, sym, ap, _∙_}
+use mathlib.Core.Bool.{cond}
+use mathlib.Core.Logic.{_≢_}
 use Prim.Native.Nat.{ℕ, _-_, _*_, _/_, _^_, _≤_, _<_}
 use native.Mathlib.Omega.{arith}
 use native.Mathlib.Nat.{mul-zero, mul-le-mul, div-lt-iff-lt-mul, le-div-iff-mul-le}
-use lib.Dec.{ltb}
-use borrow.Author.Tests.{lt-ltb, le-ltb}
+use lib.Dec.{leb, ltb}
+use borrow.Author.Tests.{lt-ltb, le-ltb, ne-eqb}
 use Rattle.base.specs.Choice.{cond-yes, cond-no}
 use Rattle.model.specs.declared.Plan.{Plan}
-use Rattle.model.specs.Quantities.{clockTime}
-use Rattle.model.specs.PlanFunctions.{clockTimeWord}
+use Rattle.model.specs.declared.Message.{Message}
+use Rattle.model.specs.Quantities.{lead, clockTime}
+use Rattle.model.specs.State.{kindOf, viewIn, processorIn, lastSignatureKind, addressee}
+use Rattle.model.specs.PlanFunctions.{leadWord, addresseeWord, clockTimeWord}
 
 pub small-fits : (w g : ℕ) → w < 4294967296 → g < 4294967296 → w * g < 2 ^ 64
 small-fits w g l h = let a : w ≤ 4294967295 = omega arith in let b : g ≤ 4294967295 = omega arith in omega (arith, mul-le-mul a b)
@@ -29,3 +33,10 @@ pub time-zero : (plan : Plan) (w : ℕ) → plan .gamma ≡ 0 → 0 ≡ clockTim
 time-zero plan w e =
     let z : w * plan .gamma ≡ 0 = ap (λ (g : ℕ). w * g) e ∙ mul-zero w in
     sym z ∙ time-fits plan w (omega arith)
+
+-- where there are processors one of them leads
+pub lead-fits : (plan : Plan) (w : ℕ) → 0 < plan .n → leadWord plan w ≡ lead plan w
+lead-fits plan w l = let ne : plan .n ≢ 0 = λ e. absurd (omega (arith, e)) in rw (ne-eqb (plan .n) 0 ne) refl
+
+pub addressee-fits : (plan : Plan) (m : Message) → 0 < plan .n → addresseeWord plan m ≡ addressee plan (kindOf m) (viewIn m) (processorIn m)
+addressee-fits plan m l = ap (λ (q : ℕ). cond (leb (kindOf m) lastSignatureKind) q (processorIn m)) (lead-fits plan (viewIn m) l)

@@ -2,7 +2,7 @@
 ghost use mathlib.Core.Path.{_≡_};
 ghost use Rattle.model.specs.Quantities.{tolerated, initial, correct};
 ghost use Rattle.model.specs.State.{kindOf, viewIn, processorIn, stageOf};
-ghost use Rattle.model.specs.PlanFunctions.{leadWord, clockTimeWord};
+ghost use Rattle.model.specs.PlanFunctions.{leadWord, clockTimeWord, addresseeWord};
 
 // The protocol's parameters (document 01: the plan): processors, delay, slot, view limit.
 pub struct Plan {
@@ -134,6 +134,18 @@ impl Message {
         match self {
             Message::View(_, p) => p,
             Message::Vote(_, p) => p,
+            Message::Vc(_, p) => p,
+            Message::Qc(_, p) => p,
+        }
+    }
+
+    // Whom it is for: the leader of its view, or the processor that it names.
+    pub fn addressee(self, plan: Plan) -> u64
+        ensures { λ r. ⌜ r ≡ addresseeWord plan self ⌝ }
+    {
+        match self {
+            Message::View(w, _) => plan.lead(w),
+            Message::Vote(w, _) => plan.lead(w),
             Message::Vc(_, p) => p,
             Message::Qc(_, p) => p,
         }

@@ -15,7 +15,6 @@ use Rattle.model.specs.declared.Plan.{Plan}
 use Rattle.model.specs.declared.Message.{Message}
 use Rattle.model.specs.declared.Run.{Run}
 use Rattle.model.specs.Quantities.{nLeast, nMost, deltaLeast, deltaMost, gammaLeast, gammaMost, viewsLeast, viewsMost, rowWords, networkMost, tolerated, perLeader, lead, endTime}
-use Rattle.model.specs.PlanFunctions.{leadWord}
 use Rattle.model.specs.State.{State, clockOf, viewOf, isCorrect, capacity}
 use Rattle.model.specs.Checks.{nOutside, delaysOutside, viewsOutside, planOutside, faultyOutside, buffersOutside, limitsBroken, clockOutside, atEnd, heldTooMany, timeUnsound, unsound}
 use Rattle.liveness.proofs.Judging.{neither, not-ltb, not-leb}
@@ -95,9 +94,6 @@ some-correct r fit =
     let x = count-some (r .plan .n) (isCorrect r) (omega (arith, correct-count (r .plan) (r .faulty) ok, ok .faulty-few, third (r .plan) (r .faulty) ok)) in
     (x .0, T-true (isCorrect r (x .0)) (x .2))
 
--- where there are processors one of them leads
-pub lead-word : (plan : Plan) (w : ℕ) → 0 < plan .n → leadWord plan w ≡ lead plan w
-lead-word plan w l = let ne : plan .n ≢ 0 = λ e. absurd (omega (arith, e)) in rw (ne-eqb (plan .n) 0 ne) refl
-
+-- where there are processors the leader is one of them
 pub lead-low : (plan : Plan) (w : ℕ) → 0 < plan .n → lead plan w < plan .n
 lead-low plan w l = mod-lt (w / perLeader plan) l

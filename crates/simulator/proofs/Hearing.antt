@@ -11,8 +11,7 @@ use Rattle.model.specs.declared.Plan.{Plan}
 use Rattle.model.specs.State.{heardWord, marksWord, markBit, word}
 use Rattle.model.specs.Moves.{needed, ripe}
 
-module _ (stage : Bool) (plan : Plan) (own : ℕ) (t : List ℕ) (w p signers marks : ℕ) (is-heard : signers ≡ insert (word t w (heardWord stage)) p)
-    (is-marks : marks ≡ word t w marksWord) where
+module _ (stage : Bool) (plan : Plan) (own : ℕ) (t : List ℕ) (w p signers : ℕ) (is-heard : signers ≡ insert (word t w (heardWord stage)) p) where
   abbrev enough : Bool
   enough = leb (needed stage plan) (size (insert (word t w (heardWord stage)) p))
 
@@ -25,16 +24,16 @@ module _ (stage : Bool) (plan : Plan) (own : ℕ) (t : List ℕ) (w p signers ma
       let e : enough ≡ false = ap (λ (s : ℕ). leb (needed stage plan) (size s)) (sym is-heard) ∙ lt-leb _ _ l in
       sym (and-not-first (enough && fresh) (stage || leb own w) (and-not-first enough fresh e))
 
-  pub ripe-formed : member marks (markBit stage) ≡ true → false ≡ ripe stage plan own t w p
+  pub ripe-formed : member (word t w marksWord) (markBit stage) ≡ true → false ≡ ripe stage plan own t w p
   unfolding ripe
   ripe-formed m =
-      let e : fresh ≡ false = not-yes _ (ap (λ (s : ℕ). member s (markBit stage)) (sym is-marks) ∙ m) in
+      let e : fresh ≡ false = not-yes _ m in
       sym (and-not-first (enough && fresh) (stage || leb own w) (and-not-second enough fresh e))
 
   -- with enough signers and no such certificate yet, it is the leader's own view that decides
-  pub ripe-then : needed stage plan ≤ size signers → member marks (markBit stage) ≡ false → (stage || leb own w) ≡ ripe stage plan own t w p
+  pub ripe-then : needed stage plan ≤ size signers → member (word t w marksWord) (markBit stage) ≡ false → (stage || leb own w) ≡ ripe stage plan own t w p
   unfolding ripe
   ripe-then l m =
       let e : enough ≡ true = ap (λ (s : ℕ). leb (needed stage plan) (size s)) (sym is-heard) ∙ le-leb _ _ l in
-      let f : fresh ≡ true = not-no _ (ap (λ (s : ℕ). member s (markBit stage)) (sym is-marks) ∙ m) in
+      let f : fresh ≡ true = not-no _ m in
       and-rest (enough && fresh) (stage || leb own w) (stage || leb own w) (and-both enough fresh e f) refl

@@ -25,9 +25,6 @@ ghost use Rattle.model.specs.Events.{applied};
 ghost use Rattle.simulator.specs.Inner.{Fit, Decides, ReachesCorrect, seat, namedCheck, sentBy, formedBy, signedChange, movedChange, changeBy, sentFor, finished};
 ghost use Rattle.liveness.proofs.Link.{Planned};
 
-// The words of a message in the network.
-const MESSAGE_WORDS: usize = 4;
-
 // A refusal: the check's number alone.
 pub(crate) fn refuse(run: Run, check: u64) -> Applied
     ensures { λ r. ⌜ (r .run ≡ run) × (r .answer ≡ Answer.Refused check) ⌝ }
@@ -249,7 +246,9 @@ pub(crate) fn deliver(run: Run, message: Message, tally: &mut [u64], network: &m
     if x.ends {
         return refuse(run, 17);
     }
-    if network.len() / MESSAGE_WORDS < next.held + count_sent(run.plan, run.faulty, message, x) {
+    if network.len() / buffers::MESSAGE_WORDS
+        < next.held + count_sent(run.plan, run.faulty, message, x)
+    {
         return refuse(run, 18);
     }
     buffers::remove(network, run.held, i);
@@ -265,7 +264,9 @@ fn finish(run: Run, message: Message, tally: &mut [u64], network: &mut [u64]) ->
     if x.ends {
         return refuse(run, 17);
     }
-    if network.len() / MESSAGE_WORDS < run.held + count_sent(run.plan, run.faulty, message, x) {
+    if network.len() / buffers::MESSAGE_WORDS
+        < run.held + count_sent(run.plan, run.faulty, message, x)
+    {
         return refuse(run, 18);
     }
     done(perform(run, message, x, tally, network))
@@ -295,7 +296,7 @@ fn has_certificate(run: Run, stage: bool, w: u64, tally: &[u64]) -> bool
     ensures { λ r. ⌜ r ≡ exists stage run (now (tally .entry)) w ⌝ }
 {
     if moves::led(run.plan, run.faulty, w) {
-        return moves::is_formed(stage, buffers::marks(tally, w));
+        return buffers::is_marked(tally, stage, w);
     }
     moves::signers_needed(run.plan, stage)
         <= base::size(run.faulty) + base::size(buffers::entered(tally, w))

@@ -14,19 +14,6 @@ ghost use Rattle.model.specs.State.{enteredWord, markBit, added, kindOf, viewIn
 ghost use Rattle.model.specs.Moves.{toCorrect, needed, ripe, certificate, toEach};
 ghost use Rattle.simulator.specs.Inner.{Posts, sentBy, enteredBy, heardBy, formedBy};
 
-// Whom a message is for: the leader of its view, or the processor that it names.
-fn addressee_of(plan: Plan, message: Message) -> u64
-    requires { ⌜ 0 < plan .n ⌝ }
-    ensures { λ r. ⌜ r ≡ addressee plan (kindOf message) (viewIn message) (processorIn message) ⌝ }
-{
-    match message {
-        Message::View(w, _) => plan.lead(w),
-        Message::Vote(w, _) => plan.lead(w),
-        Message::Vc(_, p) => p,
-        Message::Qc(_, p) => p,
-    }
-}
-
 // The one door by which a message goes into the network: to a correct processor, behind the held ones. Answers how many are held then.
 pub(crate) fn send(
     network: &mut [u64],
@@ -39,7 +26,7 @@ pub(crate) fn send(
     requires { ⌜ (0 < plan .n) × (held + length (toCorrect plan faulty (message ∷ [])) ≤ capacity (now network)) ⌝ }
     ensures { λ r. ⌜ Posts (toCorrect plan faulty (message ∷ [])) held time (now (network .entry)) r (now (network .exit)) ⌝ }
 {
-    if plan.correct(faulty, addressee_of(plan, message)) {
+    if plan.correct(faulty, message.addressee(plan)) {
         buffers::append(network, held, message, time);
         return held + 1;
     }
@@ -176,16 +163,6 @@ pub(crate) fn signers_needed(plan: Plan, stage: bool) -> u64
     plan.tolerated() + 1
 }
 
-// Whether the certificate of the stage is formed already.
-pub(crate) fn is_formed(stage: bool, marks: u64) -> bool
-    ensures { λ r. ⌜ r ≡ member marks (markBit stage) ⌝ }
-{
-    if stage {
-        return base::member(marks, 1);
-    }
-    base::member(marks, 0)
-}
-
 // Whether hearing p makes the leader of w, whose own view is given, form the certificate.
 pub(crate) fn would_form(stage: bool, plan: Plan, own: u64, w: u64, p: u64, tally: &[u64]) -> bool
     requires { ⌜ p < 64 ⌝ }
@@ -195,7 +172,7 @@ pub(crate) fn would_form(stage: bool, plan: Plan, own: u64, w: u64, p: u64, tall
     if base::size(signers) < signers_needed(plan, stage) {
         return false;
     }
-    if is_formed(stage, buffers::marks(tally, w)) {
+    if buffers::is_marked(tally, stage, w) {
         return false;
     }
     if stage {

@@ -16,9 +16,6 @@ ghost use Rattle.checks.specs.Setups.{setupCheck};
 ghost use Rattle.simulator.specs.Inner.{Posts};
 ghost use Rattle.simulator.specs.Opening.{firstSends, enteredFirst};
 
-// The words of a view in the tally.
-const ROW_WORDS: usize = 4;
-
 // What the run keeps of a start clock that is not read.
 const NOT_READ: u64 = 0;
 
@@ -100,7 +97,7 @@ pub(crate) fn start(setup: Setup, tally: &mut [u64], network: &mut [u64]) -> Run
     ensures { λ r. ⌜ stateOf r (now (tally .exit)) (now (network .exit)) ≡ opened setup (stateOf (blankRun setup) (now (tally .entry)) (now (network .entry))) ⌝ }
 {
     let rows = setup.plan.views as usize;
-    zero(tally, ROW_WORDS * rows);
+    zero(tally, buffers::ROW_WORDS * rows);
     zero(network, network.len());
     let mut run = blank(setup);
     let held = enter_all(setup, tally, network);

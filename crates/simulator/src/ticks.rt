@@ -27,9 +27,6 @@ ghost use Rattle.pacemaker.specs.Steps.{movingBy};
 ghost use Rattle.pacemaker.proofs.AnswerLaws.{Named};
 ghost use Rattle.simulator.specs.Inner.{Reacts, Arrives, Fit, Foretells, CanTick, TickedTo, ranTo, lateAt};
 
-// The words of a message in the network.
-const MESSAGE_WORDS: usize = 4;
-
 // Whether a message that was sent then is late, once the network has settled.
 fn is_late(gst: u64, delta: u64, time: u64, sent: u64) -> bool
     ensures { λ r. ⌜ r ≡ leb (max sent gst + delta) time ⌝ }
@@ -207,7 +204,7 @@ fn tick_once(run: Run, tally: &mut [u64], network: &mut [u64]) -> Ticked
             check: 17,
         };
     }
-    if network.len() / MESSAGE_WORDS < run.held + due.sent {
+    if network.len() / buffers::MESSAGE_WORDS < run.held + due.sent {
         return Ticked {
             run: run,
             check: 18,

@@ -1,8 +1,7 @@
-use Rattle.model.specs.Moves.{needed}
 use Rattle.model.specs.Checks.{exists}
-use Rattle.model.specs.State.{markBit}
+use Rattle.model.specs.Moves.{needed}
 use Rattle.base.specs.Choice.{cond-yes, cond-no}
-use Rattle.base.specs.Sets.{member, size}
+use Rattle.base.specs.Sets.{size}
 use lib.Count.{ones-le}
 use lib.Dec.{leb}
 use native.Mathlib.Omega.{arith}
@@ -15,23 +14,19 @@ use Rattle.simulator.proofs.events.has_certificate.Reads as reads
 use Rattle.simulator.proofs.events.has_certificate.Lts as lts
 use Rattle.base.proofs.size.Reads as size-reads
 use Rattle.buffers.proofs.entered.Reads as entered-reads
-use Rattle.buffers.proofs.marks.Reads as marks-reads
-use Rattle.simulator.proofs.moves.is_formed.Reads as is-formed-reads
+use Rattle.buffers.proofs.is_marked.Reads as is-marked-reads
 use Rattle.simulator.proofs.moves.led.Reads as led-reads
 use Rattle.simulator.proofs.moves.signers_needed.Reads as signers-needed-reads
 
 led-requires : tie.Need-led-requires
 led-requires c κs = search needs
 
-marks-requires : tie.Need-marks-requires
-marks-requires c κs = search needs
-
-is-formed-requires : tie.Need-is-formed-requires
-is-formed-requires c κs = search needs
+is-marked-requires : tie.Need-is-marked-requires
+is-marked-requires c κs = search needs
 
 returns : tie.Need-returns
 unfolding exists
-returns c = cond-yes _ _ _ _ (sym (c .before .before .before .led .ensures) ∙ c .before .before .if1 .taken) (c .is-formed .ensures ∙ ap (λ (x : ℕ). member x (markBit (c .before .before .before .before .before .args .stage))) (c .before .marks .ensures))
+returns c = cond-yes _ _ _ _ (sym (c .before .before .led .ensures) ∙ c .before .if1 .taken) (c .is-marked .ensures)
 
 signers-needed-requires : tie.Need-signers-needed-requires
 signers-needed-requires c κs = search needs
@@ -57,8 +52,7 @@ has-certificate-spec =
     tie.close
     (tie.spec
     led-requires
-    marks-requires
-    is-formed-requires
+    is-marked-requires
     returns
     signers-needed-requires
     size-requires

@@ -1,4 +1,4 @@
-use Rattle.simulator.proofs.Fitness.{lead-word}
+use Rattle.model.proofs.PlanWords.{lead-fits}
 use Rattle.model.specs.Quantities.{correct}
 use mathlib.Core.Path.{_∙_, ap}
 use borrow.Author.Needs.{needs}
@@ -16,7 +16,7 @@ correct-requires : tie.Need-correct-requires
 correct-requires c κs = search needs
 
 returns : tie.Need-returns
-returns c = c .correct .ensures ∙ ap (correct (c .before .before .args .plan) (c .before .before .args .faulty)) (c .before .lead .ensures ∙ lead-word (c .before .before .args .plan) _ (c .before .before .pre))
+returns c = c .correct .ensures ∙ ap (correct (c .before .before .args .plan) (c .before .before .args .faulty)) (c .before .lead .ensures ∙ lead-fits (c .before .before .args .plan) _ (c .before .before .pre))
 
 pub led-spec : {M : Type 1} → statement M
 led-spec = tie.close (tie.spec lead-requires correct-requires returns)

@@ -11,10 +11,11 @@ use Rattle.simulator.proofs.moves.send.Reads as reads
 use Rattle.simulator.proofs.moves.send.Lts as lts
 use Rattle.buffers.proofs.append.Reads as append-reads
 use Rattle.model.proofs.Plan.correct.Reads as correct-reads
-use Rattle.simulator.proofs.moves.addressee_of.Reads as addressee-of-reads
+use Rattle.model.proofs.PlanWords.{addressee-fits}
+use Rattle.model.proofs.Message.addressee.Reads as addressee-reads
 
-addressee-of-requires : tie.Need-addressee-of-requires
-addressee-of-requires c κs = search needs
+addressee-requires : tie.Need-addressee-requires
+addressee-requires c κs = search needs
 
 correct-requires : tie.Need-correct-requires
 correct-requires c κs = search needs
@@ -29,16 +30,16 @@ same-length : tie.Need-same-length
 same-length c = search needs
 
 returns : tie.Need-returns
-returns c = sends-yes (c .before .before .before .before .before .before .before .before .args .plan) (c .before .before .before .before .before .before .before .before .args .faulty) (c .before .before .before .before .before .before .before .before .args .message) _ _ _ _ (ap (correct (c .before .before .before .before .before .before .before .before .args .plan) (c .before .before .before .before .before .before .before .before .args .faulty)) (sym (c .before .before .before .before .before .before .addressee-of .ensures)) ∙ sym (c .before .before .before .before .before .correct .ensures) ∙ c .before .before .before .before .if1 .taken) (c .before .before .before .before .before .before .before .before .pre .1) (c .before .before .append .ensures)
+returns c = sends-yes (c .before .before .before .before .before .before .before .before .args .plan) (c .before .before .before .before .before .before .before .before .args .faulty) (c .before .before .before .before .before .before .before .before .args .message) _ _ _ _ (ap (correct (c .before .before .before .before .before .before .before .before .args .plan) (c .before .before .before .before .before .before .before .before .args .faulty)) (sym (c .before .before .before .before .before .before .addressee .ensures ∙ addressee-fits (c .before .before .before .before .before .before .before .before .args .plan) (c .before .before .before .before .before .before .before .before .args .message) (c .before .before .before .before .before .before .before .before .pre .0))) ∙ sym (c .before .before .before .before .before .correct .ensures) ∙ c .before .before .before .before .if1 .taken) (c .before .before .before .before .before .before .before .before .pre .1) (c .before .before .append .ensures)
 
 returns-2 : tie.Need-returns-2
-returns-2 c = sends-no (c .before .before .before .before .args .plan) (c .before .before .before .before .args .faulty) (c .before .before .before .before .args .message) _ _ _ (ap (correct (c .before .before .before .before .args .plan) (c .before .before .before .before .args .faulty)) (sym (c .before .before .addressee-of .ensures)) ∙ sym (c .before .correct .ensures) ∙ c .if1 .left)
+returns-2 c = sends-no (c .before .before .before .before .args .plan) (c .before .before .before .before .args .faulty) (c .before .before .before .before .args .message) _ _ _ (ap (correct (c .before .before .before .before .args .plan) (c .before .before .before .before .args .faulty)) (sym (c .before .before .addressee .ensures ∙ addressee-fits (c .before .before .before .before .args .plan) (c .before .before .before .before .args .message) (c .before .before .before .before .pre .0))) ∙ sym (c .before .correct .ensures) ∙ c .if1 .left)
 
 pub send-spec : {M : Type 1} → statement M
 send-spec =
     tie.close
     (tie.spec
-    addressee-of-requires
+    addressee-requires
     correct-requires
     append-requires
     add-result

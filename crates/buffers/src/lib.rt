@@ -7,7 +7,7 @@ ghost use lib.ListN.{length, take, drop};
 ghost use Rattle.base.specs.Scan.{first};
 ghost use Rattle.base.specs.Sets.{member};
 ghost use Rattle.model.specs.Quantities.{messageWords};
-ghost use Rattle.model.specs.State.{word, slot, added, enteredWord, heardWord, marksWord, markBit, capacity, posted, removed, sentAt};
+ghost use Rattle.model.specs.State.{word, added, enteredWord, heardWord, marksWord, markBit, posted, removed, sentAt};
 ghost use Rattle.model.specs.Checks.{isAt};
 ghost use Rattle.buffers.specs.Tally.{place, addedWord};
 ghost use Rattle.buffers.specs.Network.{appended, found, taken, moved};

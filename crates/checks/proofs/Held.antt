@@ -1,21 +1,16 @@
 -- What check 9 asks of a held message, by what its words decode to. Assumes nothing.
-use mathlib.Core.Path.{_≡_, refl, sym, ap, _∙_}
+use mathlib.Core.Path.{_≡_, refl, ap, _∙_}
 use mathlib.Core.Bool.{Bool, true, false, not, _||_}
 use mathlib.Core.List.{List}
-use Prim.Native.Nat.{ℕ, _≤_, _<_}
-use native.Mathlib.Omega.{arith}
-use lib.Dec.{eqb, leb, ltb}
-use borrow.Author.Tests.{ne-eqb}
+use Prim.Native.Nat.{ℕ, _<_}
+use lib.Dec.{ltb}
 use Rattle.base.specs.Scan.{some}
-use Rattle.base.specs.Choice.{cond-no}
 use Rattle.model.specs.declared.Plan.{Plan}
 use Rattle.model.specs.declared.Message.{Message}
 use Rattle.model.specs.declared.Run.{Run}
-use Rattle.model.specs.Quantities.{lead, correct}
-use Rattle.model.specs.PlanFunctions.{leadWord}
+use Rattle.model.specs.Quantities.{correct}
 use Rattle.model.specs.State.{stateOf, kindOf, viewIn, processorIn, kindLeast, kindMost, kindAt, viewAt, processorAt, sentAt, addressee, capacity}
 use Rattle.model.specs.Checks.{noView, noProcessor, messageUnsound}
-use Rattle.pacemaker.specs.Limits.{Within}
 use Rattle.buffers.specs.declared.Stored.the-variants.{Holds, Unknown}
 use Rattle.buffers.specs.Kinds.{stored}
 use Rattle.buffers.specs.KindLaws.{stored-holds, stored-unknown}

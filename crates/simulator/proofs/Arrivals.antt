@@ -1,16 +1,16 @@
 -- A tick processor by processor: what the entries of those below k have left, and one processor more. Assumes nothing.
-use mathlib.Core.Path.{_≡_, refl, sym, ap, ap₂, _∙_, subst}
-use mathlib.Core.Bool.{Bool, true, false, _&&_, _||_, cond}
-use mathlib.Core.Logic.{⊎-elim, _≢_}
-use mathlib.Core.List.{List, [], _∷_, _++_}
+use mathlib.Core.Path.{_≡_, refl, sym, ap, _∙_, subst}
+use mathlib.Core.Bool.{Bool, true, false, _&&_, cond}
+use mathlib.Core.Logic.{_≢_}
+use mathlib.Core.List.{List, _++_}
 use Prim.Native.Nat.{ℕ, zero, suc, _+_, _-_, _*_, _/_, _%_, _≤_, _<_}
 use native.Mathlib.Numerals.{add-one}
 use native.Mathlib.Nat.{div-add-mod'}
 use native.Mathlib.Omega.{arith}
-use lib.Dec.{T, eqb, ltb, eqb→eq, ltb→lt}
-use lib.ListN.{length, getD, set, length-append}
+use lib.Dec.{T, eqb, ltb, eqb→eq}
+use lib.ListN.{length, getD, set}
 use lib.Seq.{set-getD, getD-set-other}
-use Rattle.base.specs.Tests.{T-left, T-true, le?, by-cond}
+use Rattle.base.specs.Tests.{T-left, by-cond}
 use Rattle.base.specs.Scan.{some}
 use Rattle.base.specs.ScanLaws.{some-ext}
 use Rattle.model.specs.declared.Plan.{Plan}
@@ -18,11 +18,11 @@ use Rattle.model.specs.declared.Message.{Message}
 use Rattle.model.specs.declared.Run.{Run}
 use Rattle.model.specs.declared.Processor.{Processor}
 use Rattle.model.specs.declared.Input.the-variants.{Tick}
-use Rattle.model.specs.Quantities.{initial, clockTime, correct}
+use Rattle.model.specs.Quantities.{initial, clockTime}
 use Rattle.model.specs.State.{State, clockOf, viewOf, isCorrect}
-use Rattle.model.specs.Moves.{Change, changed, still, also, Entry, stay, into, entryClock, entering, taking, entries, byClock, clocksOn, advanced, arrival, arrivals}
+use Rattle.model.specs.Moves.{Change, changed, Entry, stay, into, entryClock, entering, taking, entries, byClock, clocksOn, advanced, arrival, arrivals}
 use Rattle.model.specs.Checks.{atEnd, reachesEnd}
-use Rattle.model.specs.Processors.{Moved, messagesOf, moving}
+use Rattle.model.specs.Processors.{Moved, moving}
 use Rattle.liveness.proofs.TickLaws.{clock-up}
 use Rattle.pacemaker.specs.Steps.{movingBy}
 use Rattle.pacemaker.proofs.AnswerLaws.{tick-clock}

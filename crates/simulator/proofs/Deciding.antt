@@ -1,11 +1,10 @@
 -- What is named, and what a message makes of whom it reaches. Assumes nothing.
-use mathlib.Core.Path.{_≡_, refl, sym, ap, _∙_, subst}
-use mathlib.Core.Bool.{Bool, true, false, not, _&&_, _||_, cond}
-use mathlib.Core.List.{List, [], _∷_}
-use Prim.Native.Nat.{ℕ, _+_, _≤_, _<_}
+use mathlib.Core.Path.{_≡_, refl, sym, ap, _∙_}
+use mathlib.Core.Bool.{Bool, true, false, not, cond}
+use mathlib.Core.List.{List}
+use Prim.Native.Nat.{ℕ, _≤_, _<_}
 use native.Mathlib.Omega.{arith}
-use lib.Dec.{leb}
-use lib.ListN.{length, set}
+use lib.ListN.{length}
 use borrow.Author.Tests.{le-leb, lt-leb, leb-false}
 use Rattle.base.specs.Choice.{cond-yes, cond-no, or-first, or-second, or-neither, and-both, and-not-first, and-not-second, not-yes, not-no}
 use Rattle.model.specs.declared.Plan.{Plan}
@@ -14,13 +13,13 @@ use Rattle.model.specs.declared.Message.the-variants.{View, Vote, Vc, Qc}
 use Rattle.model.specs.declared.Run.{Run}
 use Rattle.model.specs.declared.Input.the-variants.{Vc as VcIn, Qc as QcIn}
 use Rattle.model.specs.Quantities.{initial}
-use Rattle.model.specs.State.{State, stateOf, withHeld, withClocks, withViews, viewStage, voteStage, clockOf, viewOf, isCorrect, viewIn, processorIn, stageOf, capacity}
-use Rattle.model.specs.Moves.{Change, toCorrect, toEach, Entry, byView, byQuorum, forms, hearing, taking, handling, made}
-use Rattle.model.specs.Checks.{noProcessor, noView, namedOutside, notInitial, atEnd, reachesEnd}
+use Rattle.model.specs.State.{State, stateOf, withHeld, withClocks, withViews, viewStage, voteStage, viewOf, isCorrect, viewIn, processorIn, stageOf}
+use Rattle.model.specs.Moves.{Change, byView, byQuorum, forms, hearing, handling, made}
+use Rattle.model.specs.Checks.{noProcessor, noView, namedOutside, notInitial, reachesEnd}
 use Rattle.pacemaker.specs.Steps.{movingBy}
 use Rattle.pacemaker.proofs.LimitLaws.{neither}
 use Rattle.simulator.specs.declared.Reaction.{Reaction}
-use Rattle.simulator.specs.Inner.{Posts, sentBy, enteredBy, heardBy, formedBy, Reacts, signedChange, movedChange, changeBy, sentFor, Fit, seat, namedCheck, Decides}
+use Rattle.simulator.specs.Inner.{Posts, heardBy, formedBy, Reacts, signedChange, changeBy, sentFor, Fit, seat, namedCheck, Decides}
 use Rattle.simulator.proofs.Moving.{moved-taking, stays-below, taking-reaches}
 use Rattle.simulator.proofs.Ticking.{state-by}
 

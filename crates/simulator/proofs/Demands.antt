@@ -5,15 +5,13 @@ use Prim.Native.Nat.{ℕ, zero, suc, _<_}
 use lib.Dec.{T}
 use lib.ListN.{take}
 use Rattle.model.specs.declared.Event.{Event}
-use Rattle.model.specs.declared.Setup.{Setup}
 use Rattle.model.specs.State.{State, After, checkOf, accepted}
 use Rattle.model.specs.Opening.{opening}
 use Rattle.model.specs.Events.{applied}
 use Rattle.model.specs.Lists.{after, ClockCondition, sinceSettling, ticksSince}
 use Rattle.liveness.specs.Promises.{settlingBound, Certified}
 use Rattle.liveness.proofs.Promises.{demand-three, stays-sound}
-use Rattle.simulator.specs.Contracts.{Opens, Applies}
-use Rattle.simulator.specs.Demands.{Fed, handed, Certifies, Demanded, DemandThreeOfCode, NeverUnsound}
+use Rattle.simulator.specs.Demands.{Fed, handed, Certifies, DemandThreeOfCode, NeverUnsound}
 
 -- what was handed back is what the list leaves
 handed-is : (s : State) (es : List Event) (hs : List After) → Fed s es hs → (i : ℕ) → handed s hs i ≡ after s (take i es)

@@ -1,22 +1,17 @@
 -- What the limits and check 9 leave to rely on. Assumes nothing.
-use mathlib.Core.Path.{_≡_, refl, sym, ap, _∙_, subst}
-use mathlib.Core.Bool.{Bool, true, false, not, _&&_, _||_}
-use mathlib.Core.Logic.{_≢_}
-use borrow.Author.Tests.{ne-eqb}
-use mathlib.Core.List.{List}
+use mathlib.Core.Path.{_≡_, subst}
+use mathlib.Core.Bool.{Bool, true, false, _||_}
 use Prim.Native.Nat.{ℕ, _/_, _^_, _≤_, _<_}
 use native.Mathlib.Omega.{arith}
 use native.Mathlib.Nat.{mod-lt}
 use lib.Dec.{T, ltb, leb}
-use lib.ListN.{length}
-use Rattle.base.specs.Tests.{T-true, T-false, T-left, passes?, not-not}
+use Rattle.base.specs.Tests.{T-true, T-false}
 use Rattle.base.specs.Sets.{size}
 use Rattle.model.specs.declared.Plan.{Plan}
-use Rattle.model.specs.declared.Message.{Message}
 use Rattle.model.specs.declared.Run.{Run}
-use Rattle.model.specs.Quantities.{nLeast, nMost, deltaLeast, deltaMost, gammaLeast, gammaMost, viewsLeast, viewsMost, rowWords, networkMost, tolerated, perLeader, lead, endTime}
+use Rattle.model.specs.Quantities.{tolerated, perLeader, lead, endTime}
 use Rattle.model.specs.State.{State, clockOf, viewOf, isCorrect, capacity}
-use Rattle.model.specs.Checks.{nOutside, delaysOutside, viewsOutside, planOutside, faultyOutside, buffersOutside, limitsBroken, clockOutside, atEnd, heldTooMany, timeUnsound, unsound}
+use Rattle.model.specs.Checks.{planOutside, faultyOutside, buffersOutside, clockOutside, atEnd, unsound}
 use Rattle.liveness.proofs.Judging.{neither, not-ltb, not-leb}
 use Rattle.base.specs.Count.{count-some}
 use Rattle.liveness.proofs.Link.{Planned, correct-count, third}

@@ -1,12 +1,12 @@
 -- Each event in each of its cases. Assumes nothing.
-use mathlib.Core.Path.{_≡_, refl, sym, ap, _∙_, subst}
+use mathlib.Core.Path.{_≡_, refl, sym, ap, _∙_}
 use mathlib.Core.Bool.{Bool, true, false, not, cond}
 use mathlib.Core.Logic.{_≢_}
-use mathlib.Core.List.{List, [], _∷_}
+use mathlib.Core.List.{List}
 use Prim.Native.Nat.{ℕ, _+_, _-_, _≤_, _<_}
 use native.Mathlib.Nat.{add-zero}
 use native.Mathlib.Omega.{arith}
-use lib.Dec.{ltb, eqb}
+use lib.Dec.{ltb}
 use lib.ListN.{length}
 use borrow.Author.Tests.{lt-ltb, le-ltb, eqb-false}
 use Rattle.base.specs.Choice.{cond-yes, cond-no, not-yes, not-no}
@@ -21,12 +21,12 @@ use Rattle.model.specs.declared.Applied.{Applied}
 use Rattle.model.specs.Quantities.{lead}
 use Rattle.model.specs.State.{State, After, stateOf, withHeld, handedBack, isCorrect, viewIn, processorIn, stageOf, capacity, refused, done}
 use Rattle.model.specs.Moves.{Change, still, handling, made}
-use Rattle.model.specs.Checks.{judged, lacksForm, unsound, namedOutside, notInitial, exists, notHeld, reachesEnd, overfull}
+use Rattle.model.specs.Checks.{lacksForm, unsound, namedOutside, notInitial, exists, notHeld, reachesEnd, overfull}
 use Rattle.model.specs.Events.{without, delivering, signing, nowSettled, tickRun, checks, effect, applied}
 use Rattle.liveness.proofs.Answers.{no-yes}
 use Rattle.buffers.specs.WordLaws.{posted-none}
 use Rattle.simulator.specs.declared.Reaction.{Reaction}
-use Rattle.simulator.specs.Inner.{changeBy, sentFor, Decides, ReachesCorrect, namedCheck, finished}
+use Rattle.simulator.specs.Inner.{sentFor, Decides, ReachesCorrect, namedCheck, finished}
 use Rattle.simulator.proofs.Fitness.{fit-of, room-of}
 use Rattle.simulator.proofs.Moving.{stays-below}
 use Rattle.simulator.proofs.Ticking.{state-by}

@@ -3,19 +3,15 @@ use mathlib.Core.Path.{_≡_, refl, sym, ap, _∙_, subst}
 use mathlib.Core.Bool.{Bool, true, false, _&&_, _||_}
 use mathlib.Core.Logic.{⊎-elim}
 use mathlib.Core.List.{List, []}
-use Prim.Native.Nat.{ℕ, _+_, _≤_, _<_}
-use native.Mathlib.Omega.{arith}
+use Prim.Native.Nat.{ℕ, _<_}
 use lib.Dec.{T, ltb}
 use lib.ListN.{length, getD, set}
 use lib.Seq.{set-getD, getD-set-same, getD-set-other}
-use Rattle.base.specs.Tests.{T-and, T-left, T-right, T-iff, T-true, T-false, eq?}
+use Rattle.base.specs.Tests.{T-and, T-left, T-right, T-iff, T-true, eq?}
 use Rattle.base.specs.Scan.{some}
 use Rattle.base.specs.ScanLaws.{some-by, some-gives, some-none}
-use Rattle.model.specs.declared.Plan.{Plan}
-use Rattle.model.specs.declared.Message.{Message}
 use Rattle.model.specs.declared.Run.{Run}
 use Rattle.model.specs.declared.Processor.{Processor}
-use Rattle.model.specs.Quantities.{endTime}
 use Rattle.model.specs.State.{clockOf, viewOf, isCorrect}
 use Rattle.model.specs.Moves.{Change, toCorrect, Entry, stay, into, taking, entering}
 use Rattle.model.specs.Checks.{clockOutside, atEnd, reachesEnd}

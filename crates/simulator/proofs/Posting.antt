@@ -9,7 +9,7 @@ use lib.ListN.{length, length-append}
 use borrow.Author.Tests.{lt-ltb}
 use Rattle.model.specs.declared.Message.{Message}
 use Rattle.model.specs.Quantities.{messageWords}
-use Rattle.model.specs.State.{posted, capacity}
+use Rattle.model.specs.State.{capacity}
 use Rattle.buffers.specs.WordLaws.{posted-none, posted-length, posted-turn}
 use Rattle.buffers.specs.Network.{appended}
 use Rattle.model.specs.declared.Plan.{Plan}

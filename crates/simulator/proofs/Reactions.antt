@@ -1,10 +1,9 @@
 -- What the pacemaker's step says of a reaction. Assumes nothing.
 use mathlib.Core.Path.{_≡_, refl, sym, ap, _∙_}
-use mathlib.Core.Bool.{Bool, true, false, _&&_, cond}
-use mathlib.Core.List.{List}
+use mathlib.Core.Bool.{Bool, true, false}
 use Prim.Native.Nat.{ℕ, _+_, _-_, _≤_, _<_, max}
 use native.Mathlib.Omega.{arith}
-use lib.Dec.{T, leb, leb→le, le→leb}
+use lib.Dec.{leb, leb→le, le→leb}
 use Rattle.base.specs.Tests.{T-iff}
 use Rattle.model.specs.declared.Plan.{Plan}
 use Rattle.model.specs.declared.Processor.{Processor}
@@ -21,7 +20,7 @@ use Rattle.liveness.proofs.Answers.{no-yes}
 use Rattle.pacemaker.specs.Steps.{movingBy}
 use Rattle.pacemaker.proofs.AnswerLaws.{Named, steps, sent-before-end, refused-at-end, sent-messages, tick-clock}
 use Rattle.simulator.specs.declared.Reaction.{Reaction}
-use Rattle.simulator.specs.Inner.{Reacts, Arrives, arrivalMove}
+use Rattle.simulator.specs.Inner.{Reacts, Arrives}
 
 moving-number : (plan : Plan) (p clock view : ℕ) (e : Entry) → moving plan p clock view e .processor .number ≡ p
 moving-number plan p clock view stay = refl

@@ -1,15 +1,12 @@
 -- What holds between the ticks of a run of them. Assumes nothing.
-use mathlib.Core.Path.{_≡_, refl, sym, ap, _∙_, subst}
-use mathlib.Core.Bool.{Bool, true, false}
-use mathlib.Core.List.{List}
-use Prim.Native.Nat.{ℕ, zero, suc, _+_, _-_, _^_, _≤_, _<_}
+use mathlib.Core.Path.{_≡_, sym, ap, _∙_, subst}
+use mathlib.Core.Bool.{true, false}
+use Prim.Native.Nat.{ℕ, _+_, _-_, _^_, _≤_, _<_}
 use native.Mathlib.Nat.{sub-zero}
 use native.Mathlib.Omega.{arith}
-use Rattle.model.specs.declared.Run.{Run}
-use Rattle.model.specs.Quantities.{endTime}
-use Rattle.model.specs.State.{State, stateOf, clockOf, viewOf, isCorrect, capacity}
+use Rattle.model.specs.State.{State, clockOf, viewOf, isCorrect, capacity}
 use Rattle.model.specs.Checks.{unsound}
-use Rattle.model.specs.Events.{Ticks, ticks}
+use Rattle.model.specs.Events.{ticks}
 use Rattle.liveness.specs.Promises.{countedFrom}
 use Rattle.pacemaker.proofs.LimitLaws.{within}
 use Rattle.simulator.specs.Inner.{Fit, Went, TickedTo}

@@ -1,16 +1,16 @@
 -- A single tick that no check refuses keeps a run fit, and moves time and every correct clock by one. Assumes nothing.
-use mathlib.Core.Path.{_≡_, refl, sym, ap, _∙_, subst}
+use mathlib.Core.Path.{_≡_, refl, ap, _∙_}
 use mathlib.Core.Bool.{Bool, true, false, _&&_, _||_, cond}
 use mathlib.Core.Logic.{⊎-elim, _≢_}
-use mathlib.Core.List.{List, [], _∷_}
+use mathlib.Core.List.{List}
 use Prim.Native.Nat.{ℕ, zero, suc, _+_, _-_, _*_, _/_, _%_, _≤_, _<_}
 use native.Mathlib.Omega.{arith}
-use native.Mathlib.Nat.{div-add-mod', mul-div-cancel, mul-mod-left, mul-le-mul-right, mod-lt}
+use native.Mathlib.Nat.{div-add-mod', mul-div-cancel, mul-mod-left, mul-le-mul-right}
 use lib.Dec.{T, eqb, leb, ltb, eqb→eq}
-use lib.ListN.{length, getD, set, length-set}
+use lib.ListN.{length, getD, length-set}
 use lib.Seq.{getD-set-same, getD-set-other}
-use borrow.Author.Tests.{lt-leb, le-ltb, le-leb, eq-eqb}
-use Rattle.base.specs.Tests.{T-true, T-false, T-left, T-right, le?, eq→eqb}
+use borrow.Author.Tests.{lt-leb, le-ltb, eq-eqb}
+use Rattle.base.specs.Tests.{T-left, le?}
 use Rattle.base.specs.Choice.{or-neither, and-both}
 use Rattle.base.specs.Scan.{some}
 use Rattle.base.specs.ScanLaws.{some-not}
@@ -20,7 +20,7 @@ use Rattle.model.specs.declared.Run.{Run}
 use Rattle.model.specs.Quantities.{messageWords, perLeader, initial, nextInitial, clockTime, endTime}
 use Rattle.model.specs.State.{State, clockOf, viewOf, isCorrect, capacity}
 use Rattle.buffers.specs.WordLaws.{posted-length}
-use Rattle.model.specs.Moves.{Change, changed, Entry, stay, into, entering, taking, entries, byClock, advanced, arrival, arrivals, made}
+use Rattle.model.specs.Moves.{changed, Entry, stay, into, entering, taking, entries, byClock, advanced, arrival, arrivals, made}
 use Rattle.model.specs.Checks.{clockOutside, atEnd}
 use Rattle.liveness.proofs.Link.{correct-below}
 use Rattle.liveness.proofs.TickLaws.{clock-up}

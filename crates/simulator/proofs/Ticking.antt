@@ -1,19 +1,15 @@
 -- The two passes of a tick over the processors: what it would send, and what it leaves. Assumes nothing.
-use mathlib.Core.Path.{_≡_, refl, sym, ap, ap₂, _∙_, subst}
-use mathlib.Core.Bool.{Bool, true, false}
-use mathlib.Core.List.{List, [], _++_}
+use mathlib.Core.Path.{_≡_, sym, ap, ap₂, _∙_, subst}
+use mathlib.Core.Bool.{false}
+use mathlib.Core.List.{List, _++_}
 use Prim.Native.Nat.{ℕ, zero, suc, _+_, _-_, _≤_, _<_}
-use native.Mathlib.Numerals.{add-one}
 use native.Mathlib.Omega.{arith}
 use lib.ListN.{length, set, length-append}
-use Rattle.base.specs.Scan.{some}
-use Rattle.base.specs.ScanLaws.{some-not}
-use Rattle.model.specs.declared.Message.{Message}
 use Rattle.model.specs.declared.Run.{Run}
-use Rattle.model.specs.State.{State, stateOf, runOf, withHeld, withTime, withClocks, withViews, posted, capacity}
-use Rattle.model.specs.Moves.{Change, changed, taking, entries, clocksOn, advanced, arrival, arrivals, made}
+use Rattle.model.specs.State.{State, stateOf, runOf, withHeld, withTime, withClocks, withViews, capacity}
+use Rattle.model.specs.Moves.{changed, taking, entries, clocksOn, advanced, arrival, arrivals, made}
 use Rattle.simulator.specs.declared.Reaction.{Reaction}
-use Rattle.simulator.specs.Inner.{Posts, sentBy, enteredBy, Arrives, seat, arrivedBelow, endsAt}
+use Rattle.simulator.specs.Inner.{Posts, sentBy, enteredBy, Arrives, seat, arrivedBelow}
 use Rattle.simulator.proofs.Posting.{posts-also, posts-as, also-fits}
 use Rattle.simulator.proofs.Arrivals.{arrived-clocks, views-more, tally-more, sent-more, clocks-more}
 

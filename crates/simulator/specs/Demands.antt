@@ -1,6 +1,5 @@
 -- Demand 3 of what the code hands back: start with what `open` leaves, feed any list of events to `apply`, each getting what the last one
 -- left. proofs/Demands.antt has the proofs, `demand-three-of-code` and `never-unsound`.
-use mathlib.Core.Path.{_≡_}
 use mathlib.Core.Logic.{_≢_}
 use mathlib.Core.List.{List, [], _∷_}
 use Prim.Native.Nat.{ℕ, zero, suc, _+_, _≤_, _<_}

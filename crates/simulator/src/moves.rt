@@ -8,9 +8,9 @@ ghost use mathlib.Core.List.{[], _∷_};
 ghost use mathlib.Core.Bool.{cond};
 ghost use Prim.Native.Nat.{_+_, _-_, _<_, _≤_};
 ghost use lib.ListN.{length};
-ghost use Rattle.base.specs.Sets.{member, size};
+ghost use Rattle.base.specs.Sets.{size};
 ghost use Rattle.model.specs.Quantities.{lead, correct};
-ghost use Rattle.model.specs.State.{enteredWord, markBit, added, kindOf, viewIn, processorIn, addressee, capacity};
+ghost use Rattle.model.specs.State.{enteredWord, added, addressee, capacity};
 ghost use Rattle.model.specs.Moves.{toCorrect, needed, ripe, certificate, toEach};
 ghost use Rattle.simulator.specs.Inner.{Posts, sentBy, enteredBy, heardBy, formedBy};
 

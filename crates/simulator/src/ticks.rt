@@ -15,7 +15,6 @@ ghost use mathlib.Core.Bool.{true, false, _&&_};
 ghost use mathlib.Core.List.{List};
 ghost use Prim.Native.Nat.{_+_, _^_, _<_, _≤_, max, ℕ};
 ghost use lib.Dec.{leb};
-ghost use lib.ListN.{length};
 ghost use Rattle.base.specs.Scan.{some};
 ghost use Rattle.model.specs.Quantities.{correct};
 ghost use Rattle.model.specs.State.{stateOf, handedBack, capacity};

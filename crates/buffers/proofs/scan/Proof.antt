@@ -1,7 +1,7 @@
 use mathlib.Core.Path.{_≡_, sym, ap, _∙_}
 use native.Mathlib.Omega.{arith}
 use borrow.Author.Needs.{needs, zero≤}
-use Prim.Native.Nat.{ℕ, _≤_, _-_}
+use Prim.Native.Nat.{_≤_, _-_}
 use Rattle.model.specs.Checks.{isAt}
 use Rattle.base.specs.Scan.{first}
 use Rattle.buffers.proofs.Firsts.{first-none, first-more, first-yes}

@@ -2,7 +2,6 @@ use Rattle.pacemaker.proofs.LimitLaws.{time-word}
 use Rattle.model.specs.Quantities.{perLeader}
 use Rattle.base.specs.Choice.{and-rest, and-not-first}
 use lib.Dec.{leb}
-use native.Mathlib.Omega.{arith}
 use Prim.Native.Nat.{ℕ}
 use mathlib.Core.Path.{sym, ap, _∙_}
 use Rattle.checks.proofs.clock_too_high.Statement.{statement}

@@ -1,6 +1,5 @@
 use Rattle.checks.proofs.Arithmetic.{or-skip}
 use Rattle.base.specs.Choice.{and-rest, and-not-first}
-use mathlib.Core.Bool.{_||_}
 use mathlib.Core.Path.{sym, _∙_}
 use Rattle.checks.proofs.clock_unsound.Statement.{statement}
 use Rattle.checks.proofs.clock_unsound.Tie as tie

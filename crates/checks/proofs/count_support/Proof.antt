@@ -1,6 +1,6 @@
 use Rattle.checks.specs.Scans.{supportAt}
 use Rattle.base.specs.Count.{count, count-start, count-on, count-le}
-use borrow.Author.Needs.{needs, zero≤}
+use borrow.Author.Needs.{zero≤}
 use native.Mathlib.Omega.{arith}
 use Prim.Native.Nat.{ℕ, _-_, _≤_}
 use mathlib.Core.Path.{_≡_, sym, ap, _∙_}

@@ -1,7 +1,6 @@
 use native.Mathlib.Omega.{arith}
 use Rattle.checks.proofs.Arithmetic.{beyond-none, beyond-shift}
 use mathlib.Core.Path.{sym}
-use borrow.Author.Needs.{needs}
 use Rattle.checks.proofs.has_beyond.Statement.{statement}
 use Rattle.checks.proofs.has_beyond.Tie as tie
 use Rattle.checks.proofs.has_beyond.Reads as reads

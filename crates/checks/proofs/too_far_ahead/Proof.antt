@@ -5,7 +5,7 @@ use Rattle.base.specs.ScanLaws.{some-start, some-on, some-here, some-below}
 use Rattle.base.specs.Scan.{some}
 use Prim.Native.Nat.{_-_}
 use mathlib.Core.Bool.{false}
-use mathlib.Core.Path.{_≡_, refl, sym, _∙_}
+use mathlib.Core.Path.{_≡_, sym, _∙_}
 use Rattle.checks.proofs.too_far_ahead.Statement.{statement}
 use Rattle.checks.proofs.too_far_ahead.Tie as tie
 use Rattle.checks.proofs.too_far_ahead.Reads as reads

@@ -1,9 +1,7 @@
 use Rattle.simulator.proofs.Happening.{refused-is, lacking, unsound-handed, ticks-applied, ticks-some}
 use Rattle.model.specs.Checks.{lacksForm}
 use Rattle.model.specs.State.{State, stateOf}
-use Rattle.model.specs.declared.Event.{Event}
-use mathlib.Core.Bool.{Bool, true, false}
-use mathlib.Core.Path.{_≡_, _∙_, ap, sym, refl}
+use mathlib.Core.Path.{_∙_, ap, sym}
 use borrow.Author.Needs.{needs}
 use Rattle.simulator.proofs.apply.Statement.{statement}
 use Rattle.simulator.proofs.apply.Tie as tie

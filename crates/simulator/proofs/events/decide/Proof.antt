@@ -1,15 +1,7 @@
 use Rattle.simulator.proofs.Deciding.{named-at, named-vc, decides-view, decides-vote, decides-vc, decides-qc}
 use Rattle.simulator.proofs.Fitness.{seat-sound}
 use Rattle.pacemaker.proofs.LimitLaws.{within}
-use Rattle.simulator.specs.Inner.{Reacts, namedCheck, ReachesCorrect}
-use Rattle.model.specs.Processors.{processorUnsound}
-use Rattle.model.specs.declared.Processor.{Processor}
-use Rattle.model.specs.declared.Message.{Message}
-use lib.ListN.{length}
-use Prim.Native.Nat.{_≤_, _<_}
 use native.Mathlib.Omega.{arith}
-use mathlib.Core.Bool.{true, false}
-use mathlib.Core.Path.{_≡_, _∙_, ap, sym, refl, subst}
 use borrow.Author.Needs.{needs}
 use Rattle.simulator.proofs.events.decide.Statement.{statement}
 use Rattle.simulator.proofs.events.decide.Tie as tie

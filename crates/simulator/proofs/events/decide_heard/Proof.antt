@@ -1,6 +1,6 @@
 use Rattle.model.specs.Moves.{ripe}
 use Prim.Native.Nat.{ℕ}
-use mathlib.Core.Path.{_≡_, _∙_, ap, refl}
+use mathlib.Core.Path.{_∙_, ap, refl}
 use borrow.Author.Needs.{needs}
 use Rattle.simulator.proofs.events.decide_heard.Statement.{statement}
 use Rattle.simulator.proofs.events.decide_heard.Tie as tie

@@ -5,17 +5,14 @@ use Rattle.simulator.proofs.Fitness.{fit-of, room-of, planned-of}
 use Rattle.simulator.specs.Inner.{namedCheck}
 use Rattle.pacemaker.proofs.LimitLaws.{within}
 use Rattle.model.specs.Events.{without, delivering}
-use Rattle.model.specs.Checks.{reachesEnd, notHeld}
-use Rattle.model.specs.Moves.{Change, handling, made}
+use Rattle.model.specs.Checks.{reachesEnd}
+use Rattle.model.specs.Moves.{made}
 use Rattle.model.specs.State.{State, stateOf, withHeld, capacity}
-use Rattle.model.specs.declared.Message.{Message}
 use lib.ListN.{length}
 use lib.Dec.{ltb}
 use native.Mathlib.Omega.{arith}
-use Prim.Native.Nat.{ℕ, _+_, _-_, _/_, _≤_, _<_}
-use mathlib.Core.List.{List}
-use mathlib.Core.Bool.{true, false}
-use mathlib.Core.Path.{_≡_, _∙_, ap, sym, refl, subst}
+use Prim.Native.Nat.{ℕ, _+_, _-_}
+use mathlib.Core.Path.{_≡_, _∙_, ap, sym}
 use borrow.Author.Needs.{needs}
 use Rattle.simulator.proofs.events.deliver.Statement.{statement}
 use Rattle.simulator.proofs.events.deliver.Tie as tie

@@ -2,12 +2,10 @@ use Rattle.simulator.proofs.Happening.{refused-is, done-is, finish-ends
 use Rattle.simulator.proofs.Deciding.{named-low}
 use Rattle.simulator.proofs.Fitness.{fit-of, room-of, planned-of}
 use Rattle.pacemaker.proofs.LimitLaws.{within}
-use Rattle.model.specs.Moves.{Change, handling, made}
+use Rattle.model.specs.Moves.{handling, made}
 use Rattle.model.specs.State.{State, stateOf}
 use native.Mathlib.Omega.{arith}
-use Prim.Native.Nat.{ℕ, _+_, _≤_, _<_}
-use mathlib.Core.Bool.{true, false}
-use mathlib.Core.Path.{_≡_, _∙_, ap, sym, refl}
+use mathlib.Core.Path.{_∙_, ap, sym}
 use borrow.Author.Needs.{needs}
 use Rattle.simulator.proofs.events.finish.Statement.{statement}
 use Rattle.simulator.proofs.events.finish.Tie as tie

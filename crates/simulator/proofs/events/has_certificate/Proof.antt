@@ -6,7 +6,7 @@ use lib.Count.{ones-le}
 use lib.Dec.{leb}
 use native.Mathlib.Omega.{arith}
 use Prim.Native.Nat.{ℕ, _+_}
-use mathlib.Core.Path.{_≡_, _∙_, ap, ap₂, sym, refl}
+use mathlib.Core.Path.{_∙_, ap, ap₂, sym}
 use borrow.Author.Needs.{needs}
 use Rattle.simulator.proofs.events.has_certificate.Statement.{statement}
 use Rattle.simulator.proofs.events.has_certificate.Tie as tie

@@ -3,8 +3,8 @@ use Rattle.simulator.proofs.Fitness.{lead-low}
 use Rattle.model.specs.Quantities.{lead}
 use lib.ListN.{getD}
 use native.Mathlib.Omega.{arith}
-use Prim.Native.Nat.{ℕ, _<_}
-use mathlib.Core.Path.{_≡_, _∙_, ap, sym}
+use Prim.Native.Nat.{ℕ}
+use mathlib.Core.Path.{_∙_, ap}
 use borrow.Author.Needs.{needs}
 use Rattle.simulator.proofs.events.leader_view.Statement.{statement}
 use Rattle.simulator.proofs.events.leader_view.Tie as tie

@@ -1,4 +1,3 @@
-use mathlib.Core.Path.{refl}
 use borrow.Author.Needs.{needs}
 use Rattle.simulator.proofs.events.perform.Statement.{statement}
 use Rattle.simulator.proofs.events.perform.Tie as tie

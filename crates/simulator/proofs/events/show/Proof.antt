@@ -4,12 +4,11 @@ use Rattle.simulator.specs.Inner.{namedCheck}
 use Rattle.pacemaker.proofs.LimitLaws.{within}
 use Rattle.model.specs.Checks.{exists}
 use Rattle.model.specs.State.{State, stateOf}
-use Rattle.model.specs.Quantities.{lead, correct}
-use Rattle.model.specs.declared.Message.{Message}
+use Rattle.model.specs.Quantities.{correct}
 use native.Mathlib.Omega.{arith}
-use Prim.Native.Nat.{ℕ, _+_, _≤_, _<_}
-use mathlib.Core.Bool.{Bool, true, false}
-use mathlib.Core.Path.{_≡_, _∙_, ap, ap₂, sym, refl}
+use Prim.Native.Nat.{ℕ}
+use mathlib.Core.Bool.{Bool}
+use mathlib.Core.Path.{_≡_, _∙_, ap, ap₂, sym}
 use borrow.Author.Needs.{needs}
 use Rattle.simulator.proofs.events.show.Statement.{statement}
 use Rattle.simulator.proofs.events.show.Tie as tie

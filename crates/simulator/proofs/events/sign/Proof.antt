@@ -1,14 +1,11 @@
 use Rattle.simulator.specs.Inner.{namedCheck}
 use Rattle.simulator.proofs.Happening.{refused-is, done-is, sign-named, sign-correct, sign-heard, sign-unheard, finish-still, signature-reaches}
-use Rattle.simulator.proofs.Fitness.{fit-of, room-of, planned-of}
+use Rattle.simulator.proofs.Fitness.{fit-of}
 use Rattle.pacemaker.proofs.LimitLaws.{within}
-use Rattle.model.specs.Moves.{Change, handling, still, made}
 use Rattle.model.specs.State.{State, stateOf}
 use Rattle.model.specs.Quantities.{lead, correct}
-use Rattle.model.specs.declared.Message.{Message}
 use native.Mathlib.Omega.{arith}
-use Prim.Native.Nat.{ℕ, _+_, _≤_, _<_}
-use mathlib.Core.Bool.{true, false}
+use Prim.Native.Nat.{ℕ}
 use mathlib.Core.Path.{_≡_, _∙_, ap, sym, refl}
 use borrow.Author.Needs.{needs}
 use Rattle.simulator.proofs.events.sign.Statement.{statement}

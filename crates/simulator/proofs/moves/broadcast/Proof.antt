@@ -1,13 +1,11 @@
 use Rattle.simulator.proofs.Posting.{posts-none, each-fits, each-turn}
 use Rattle.simulator.specs.Inner.{Posts}
-use Rattle.model.specs.declared.Message.{Message}
 use Rattle.model.specs.Moves.{toCorrect, toEach}
 use borrow.Author.Needs.{needs, zero≤}
 use lib.ListN.{length}
 use native.Mathlib.Omega.{arith}
-use Prim.Native.Nat.{ℕ, _≤_, _-_, _+_}
-use mathlib.Core.List.{List, [], _∷_}
-use mathlib.Core.Path.{_≡_, refl, sym, ap, _∙_, subst}
+use Prim.Native.Nat.{ℕ, _≤_, _-_}
+use mathlib.Core.Path.{_≡_, refl, subst}
 use Rattle.simulator.proofs.moves.broadcast.Statement.{statement}
 use Rattle.simulator.proofs.moves.broadcast.Tie as tie
 use Rattle.simulator.proofs.moves.broadcast.Reads as reads

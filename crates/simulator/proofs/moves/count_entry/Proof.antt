@@ -1,7 +1,7 @@
 use Rattle.simulator.proofs.Sending.{sent-none, share-length}
 use lib.ListN.{length}
 use mathlib.Core.Bool.{Bool, cond}
-use mathlib.Core.Path.{_∙_, ap, refl, sym}
+use mathlib.Core.Path.{_∙_, ap, sym}
 use borrow.Author.Needs.{needs}
 use Rattle.simulator.proofs.moves.count_entry.Statement.{statement}
 use Rattle.simulator.proofs.moves.count_entry.Tie as tie

@@ -3,13 +3,10 @@ use Rattle.simulator.proofs.Sending.{sent-both}
 use Rattle.model.specs.State.{enteredWord}
 use Rattle.buffers.specs.Tally.{added-word}
 use Rattle.model.specs.Moves.{toCorrect}
-use Rattle.model.specs.State.{capacity}
 use Rattle.model.specs.declared.Message.the-variants.{View, Vote}
-use Rattle.model.specs.declared.Message.{Message}
 use lib.ListN.{length, length-append}
 use native.Mathlib.Omega.{arith}
-use Prim.Native.Nat.{ℕ, _+_, _≤_}
-use mathlib.Core.List.{List, [], _∷_, _++_}
+use mathlib.Core.List.{[], _∷_}
 use mathlib.Core.Path.{_∙_, sym, ap}
 use borrow.Author.Needs.{needs}
 use Rattle.simulator.proofs.moves.enter_initial.Statement.{statement}

@@ -3,7 +3,7 @@ use Rattle.buffers.specs.Tally.{added-word}
 use Rattle.model.specs.State.{heardWord, marksWord, markBit, added}
 use Prim.Native.Nat.{ℕ}
 use mathlib.Core.List.{List}
-use mathlib.Core.Path.{_∙_, ap, refl}
+use mathlib.Core.Path.{_∙_, ap}
 use borrow.Author.Needs.{needs}
 use Rattle.simulator.proofs.moves.hear.Statement.{statement}
 use Rattle.simulator.proofs.moves.hear.Tie as tie

@@ -1,9 +1,6 @@
 use Rattle.simulator.proofs.Posting.{sends-yes, sends-no}
 use Rattle.model.specs.Quantities.{correct}
-use Prim.Native.Nat.{ℕ}
-use native.Mathlib.Omega.{arith}
-use mathlib.Core.Path.{_≡_, sym, ap, _∙_}
-use Rattle.simulator.proofs.Sending.{correct-yes, correct-no}
+use mathlib.Core.Path.{sym, ap, _∙_}
 use borrow.Author.Needs.{needs}
 use Rattle.simulator.proofs.moves.send.Statement.{statement}
 use Rattle.simulator.proofs.moves.send.Tie as tie

@@ -1,4 +1,4 @@
-use Prim.Native.Nat.{_-_, _+_}
+use Prim.Native.Nat.{_-_}
 use mathlib.Core.Path.{refl}
 use borrow.Author.Needs.{needs}
 use Rattle.simulator.proofs.moves.signers_needed.Statement.{statement}

@@ -1,12 +1,10 @@
 use Rattle.simulator.proofs.Hearing.{ripe-few, ripe-formed, ripe-then}
 use Rattle.base.specs.Choice.{or-first, or-rest}
 use Rattle.base.specs.SetLaws.{insert-word}
-use Prim.Native.Nat.{ℕ, _<_, _≤_}
+use Prim.Native.Nat.{ℕ}
 use Rattle.base.specs.Sets.{insert}
 use lib.Dec.{leb}
-use native.Mathlib.Omega.{arith}
-use mathlib.Core.Bool.{true, false}
-use mathlib.Core.Path.{_∙_, ap, refl, sym, _≡_}
+use mathlib.Core.Path.{_∙_, ap, refl, sym}
 use borrow.Author.Needs.{needs}
 use Rattle.simulator.proofs.moves.would_form.Statement.{statement}
 use Rattle.simulator.proofs.moves.would_form.Tie as tie

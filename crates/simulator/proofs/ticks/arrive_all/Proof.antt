@@ -1,7 +1,7 @@
 use Rattle.simulator.proofs.Ticking.{next-turn, tally-turn, arrival-fits, posts-turn, tick-made}
 use Rattle.simulator.proofs.Posting.{posts-none}
 use Rattle.simulator.proofs.Fitness.{seat-sound}
-use Rattle.simulator.specs.Inner.{Posts, sentBy, arrivedBelow, endsAt}
+use Rattle.simulator.specs.Inner.{Posts, arrivedBelow, endsAt}
 use Rattle.pacemaker.proofs.LimitLaws.{within}
 use Rattle.model.specs.Moves.{entries, clocksOn}
 use Rattle.model.specs.State.{stateOf, withClocks, withViews}
@@ -9,10 +9,9 @@ use Rattle.base.specs.ScanLaws.{some-not}
 use borrow.Author.Needs.{needs, zero≤}
 use lib.ListN.{length}
 use native.Mathlib.Omega.{arith}
-use Prim.Native.Nat.{ℕ, _+_, _*_, _-_, _≤_, _<_}
-use mathlib.Core.List.{List}
-use mathlib.Core.Bool.{Bool, true, false}
-use mathlib.Core.Path.{_≡_, refl, sym, ap, _∙_, subst}
+use Prim.Native.Nat.{ℕ, _+_, _-_, _≤_}
+use mathlib.Core.Bool.{false}
+use mathlib.Core.Path.{_≡_, refl, ap, _∙_, subst}
 use Rattle.simulator.proofs.ticks.arrive_all.Statement.{statement}
 use Rattle.simulator.proofs.ticks.arrive_all.Tie as tie
 use Rattle.simulator.proofs.ticks.arrive_all.Reads as reads

@@ -1,7 +1,7 @@
 use Rattle.simulator.proofs.Ticking.{sent-length}
 use Rattle.simulator.proofs.Fitness.{seat-sound}
 use Rattle.simulator.proofs.Sending.{sent-few}
-use Rattle.simulator.specs.Inner.{sentBy, arrivedBelow, endsAt}
+use Rattle.simulator.specs.Inner.{arrivedBelow, endsAt}
 use Rattle.pacemaker.proofs.LimitLaws.{within}
 use Rattle.liveness.proofs.Answers.{no-yes}
 use Rattle.model.specs.Moves.{entries}
@@ -11,9 +11,9 @@ use Rattle.base.specs.Scan.{some}
 use borrow.Author.Needs.{needs, zero≤}
 use lib.ListN.{length}
 use native.Mathlib.Omega.{arith}
-use Prim.Native.Nat.{ℕ, _+_, _*_, _-_, _≤_, _<_}
+use Prim.Native.Nat.{ℕ, _*_, _-_, _≤_}
 use mathlib.Core.List.{List}
-use mathlib.Core.Bool.{Bool, true, false}
+use mathlib.Core.Bool.{false}
 use mathlib.Core.Path.{_≡_, refl, sym, ap, _∙_}
 use Rattle.simulator.proofs.ticks.foretell.Statement.{statement}
 use Rattle.simulator.proofs.ticks.foretell.Tie as tie

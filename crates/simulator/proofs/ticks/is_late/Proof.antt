@@ -1,8 +1,8 @@
 use Rattle.simulator.proofs.Reactions.{late-then}
 use borrow.Author.Tests.{lt-leb}
-use Prim.Native.Nat.{_+_, _<_, _-_, _≤_, max}
+use Prim.Native.Nat.{_+_, _<_, _-_, max}
 use native.Mathlib.Omega.{arith}
-use mathlib.Core.Path.{sym, _≡_}
+use mathlib.Core.Path.{sym}
 use Rattle.simulator.proofs.ticks.is_late.Statement.{statement}
 use Rattle.simulator.proofs.ticks.is_late.Tie as tie
 use Rattle.simulator.proofs.ticks.is_late.Reads as reads

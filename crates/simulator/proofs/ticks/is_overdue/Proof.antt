@@ -1,4 +1,4 @@
-use mathlib.Core.Path.{_∙_, sym, refl}
+use mathlib.Core.Path.{_∙_, refl}
 use borrow.Author.Needs.{needs}
 use Rattle.simulator.proofs.ticks.is_overdue.Statement.{statement}
 use Rattle.simulator.proofs.ticks.is_overdue.Tie as tie

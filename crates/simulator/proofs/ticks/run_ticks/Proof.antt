@@ -1,20 +1,12 @@
 use Rattle.simulator.proofs.Runs.{Running, running-first, running-on, time-fits}
-use Rattle.simulator.proofs.Once.{ticks-went, ticks-ended, run-ended, run-done}
-use Rattle.simulator.proofs.Fitness.{fit-of, room-of, time-of, some-correct, clock-below, end-most}
-use Rattle.simulator.specs.Inner.{Fit, Went, TickedTo}
-use Rattle.pacemaker.proofs.LimitLaws.{within}
-use Rattle.liveness.specs.Promises.{countedFrom}
-use Rattle.model.specs.Events.{Ticks, ticks}
-use Rattle.model.specs.State.{stateOf, clockOf, viewOf, isCorrect, capacity}
-use Rattle.model.specs.Quantities.{endTime, messageWords}
+use Rattle.simulator.proofs.Once.{ticks-ended, run-ended, run-done}
+use Rattle.model.specs.State.{stateOf}
 use borrow.Author.Needs.{needs, zero≤}
 use lib.ListN.{length}
 use native.Mathlib.Omega.{arith}
-use native.Mathlib.Nat.{sub-zero, zero-add}
-use Prim.Native.Nat.{ℕ, _+_, _*_, _-_, _/_, _≤_, _<_}
-use mathlib.Core.List.{List, []}
-use mathlib.Core.Bool.{Bool, true, false}
-use mathlib.Core.Path.{_≡_, refl, sym, ap, _∙_, subst}
+use Prim.Native.Nat.{_-_, _≤_}
+use mathlib.Core.List.{[]}
+use mathlib.Core.Path.{_≡_, refl}
 use Rattle.simulator.proofs.ticks.run_ticks.Statement.{statement}
 use Rattle.simulator.proofs.ticks.run_ticks.Tie as tie
 use Rattle.simulator.proofs.ticks.run_ticks.Reads as reads

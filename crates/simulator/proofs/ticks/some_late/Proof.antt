@@ -5,8 +5,8 @@ use borrow.Author.Needs.{needs, zero≤}
 use lib.Dec.{leb}
 use native.Mathlib.Omega.{arith}
 use Prim.Native.Nat.{ℕ, _≤_, _-_, _+_, max}
-use mathlib.Core.Bool.{false, true}
-use mathlib.Core.Path.{_≡_, sym, _∙_, ap, refl}
+use mathlib.Core.Bool.{false}
+use mathlib.Core.Path.{_≡_, sym, _∙_, ap}
 use Rattle.simulator.proofs.ticks.some_late.Statement.{statement}
 use Rattle.simulator.proofs.ticks.some_late.Tie as tie
 use Rattle.simulator.proofs.ticks.some_late.Reads as reads

@@ -4,9 +4,8 @@ use Rattle.pacemaker.proofs.LimitLaws.{within}
 use Rattle.model.specs.State.{stateOf}
 use lib.ListN.{length}
 use native.Mathlib.Omega.{arith}
-use Prim.Native.Nat.{ℕ, _+_, _≤_, _<_}
-use mathlib.Core.Bool.{Bool, true, false}
-use mathlib.Core.Path.{_≡_, refl, sym, ap, _∙_}
+use Prim.Native.Nat.{_≤_}
+use mathlib.Core.Path.{_≡_, sym, _∙_}
 use borrow.Author.Needs.{needs}
 use Rattle.simulator.proofs.ticks.tick_once.Statement.{statement}
 use Rattle.simulator.proofs.ticks.tick_once.Tie as tie

@@ -1,6 +1,7 @@
 -- Which of two a test chooses, and what a test of several parts answers, as rules by which `search` finds it. Assumes nothing.
-use mathlib.Core.Path.{_≡_, refl, sym, _∙_}
+use mathlib.Core.Path.{_≡_, refl, sym, _∙_, subst}
 use mathlib.Core.Bool.{Bool, true, false, not, _&&_, _||_, cond}
+use lib.Dec.{T}
 use borrow.Author.Tests.{lt-ltb, le-ltb, le-leb, lt-leb, eq-eqb, ne-eqb}
 
 pub cond-yes : {A : Type 0} (t : Bool) (r a b : A) → t ≡ true → r ≡ a → r ≡ cond t a b
@@ -21,6 +22,11 @@ or-neither a b e q = rw e q
 
 pub or-rest : (a b r : Bool) → a ≡ false → r ≡ b → r ≡ (a || b)
 or-rest a b r e q = rw e q
+
+-- and what it says that neither passes
+pub or-parts : (a b : Bool) → (a || b) ≡ false → (a ≡ false) × (b ≡ false)
+or-parts true b e = absurd (subst T e tt)
+or-parts false b e = (refl, e)
 
 pub and-both : (a b : Bool) → a ≡ true → b ≡ true → (a && b) ≡ true
 and-both a b e q = rw e q

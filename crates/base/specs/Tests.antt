@@ -1,5 +1,5 @@
 -- Tests that pass or do not, and the order of numbers decided. Assumes nothing.
-use mathlib.Core.Path.{_≡_, refl}
+use mathlib.Core.Path.{_≡_, refl, subst}
 use mathlib.Core.Logic.{_⊎_, inl, inr, _≢_}
 use mathlib.Core.Bool.{Bool, true, false, not, _&&_, _||_, cond}
 use Prim.Native.Nat.{ℕ, _≤_, _<_}
@@ -42,6 +42,9 @@ T-true false t = absurd t
 pub T-false : (b : Bool) → (T b → ⊥) → b ≡ false
 T-false true f = absurd (f tt)
 T-false false f = refl
+
+pub fails : (b : Bool) → b ≡ false → T b → ⊥
+fails b e t = subst T e t
 
 pub not-not : (b : Bool) → (T (not b) → ⊥) → T b
 not-not true f = tt

@@ -1,4 +1,4 @@
--- Check 9 as a chain of seven tests: the first that passes, or the last, and what a run has that none of them finds. Assumes nothing.
+-- Check 9 as a chain of seven tests: the first that passes, or the last. Assumes nothing.
 use mathlib.Core.Path.{_≡_, _∙_}
 use mathlib.Core.Bool.{Bool, true, false, _||_}
 use Prim.Native.Nat.{ℕ, _≤_, _<_}
@@ -6,6 +6,7 @@ use native.Mathlib.Nat.{le-refl}
 use native.Mathlib.Omega.{arith}
 use lib.Dec.{leb}
 use borrow.Author.Tests.{le-leb, lt-leb}
+use Rattle.base.specs.Choice.{or-parts}
 use Rattle.base.specs.Scan.{some}
 use Rattle.model.specs.declared.Plan.{Plan}
 use Rattle.model.specs.Quantities.{endTime}
@@ -13,7 +14,7 @@ use Rattle.model.specs.PlanFunctions.{clockTimeWord}
 use Rattle.model.specs.State.{State}
 use Rattle.model.specs.Checks.{planOutside, faultyOutside, buffersOutside}
 use Rattle.model.specs.Checks.{limitsBroken, clocksUnsound, timeUnsound, heldTooMany, messageUnsound, settlingUnsound, tailNotZero, unsound}
-use Rattle.pacemaker.proofs.LimitLaws.{neither, within, time-word}
+use Rattle.pacemaker.proofs.LimitLaws.{within, time-word}
 
 module _ (a b c d e f g : Bool) where
   abbrev chain : Bool
@@ -39,18 +40,6 @@ module _ (a b c d e f g : Bool) where
 
   stop7 : a ≡ false → b ≡ false → c ≡ false → d ≡ false → e ≡ false → f ≡ false → g ≡ chain
   stop7 u v w p q x = rw (u, v, w, p, q, x)
-
--- what a run that passes check 9 has, part by part
-pub record Sound (s : State) : Type 0 where
-  pub plan : planOutside (s .run .plan) ≡ false
-  pub faulty : faultyOutside (s .run .plan) (s .run .faulty) ≡ false
-  pub buffers : buffersOutside (s .run .plan) (s .tally) (s .network) ≡ false
-  pub clocks : clocksUnsound s ≡ false
-  pub time : timeUnsound s ≡ false
-  pub room : heldTooMany s ≡ false
-  pub messages : some (messageUnsound s) (s .run .held) ≡ false
-  pub settling : settlingUnsound s ≡ false
-  pub tail : tailNotZero s ≡ false
 
 module _ (s : State) where
   abbrev limits : Bool
@@ -113,30 +102,8 @@ module _ (s : State) where
 
   -- the plan is within its limits
   pub plan-passes : limits ≡ false → plan-out ≡ false
-  plan-passes e = neither plan-out faulty-out (neither (plan-out || faulty-out) buffers-out e .0) .0
+  plan-passes e = or-parts plan-out faulty-out (or-parts (plan-out || faulty-out) buffers-out e .0) .0
 
-  pub sound : unsound s ≡ false → Sound s
-  unfolding unsound
-  sound x =
-      let g = neither (limits || clocks || time || room || messages || settling) tail x in
-      let f = neither (limits || clocks || time || room || messages) settling (g .0) in
-      let e = neither (limits || clocks || time || room) messages (f .0) in
-      let d = neither (limits || clocks || time) room (e .0) in
-      let c = neither (limits || clocks) time (d .0) in
-      let b = neither limits clocks (c .0) in
-      let a = neither (plan-out || faulty-out) buffers-out (b .0) in
-      let p = neither plan-out faulty-out (a .0) in
-      record {
-        plan = p .0;
-        faulty = p .1;
-        buffers = a .1;
-        clocks = b .1;
-        time = c .1;
-        room = d .1;
-        messages = e .1;
-        settling = f .1;
-        tail = g .1;
-      }
 
 -- the time against the end, as the plan's own function gives it
 module _ (plan : Plan) (time e : ℕ) (ok : planOutside plan ≡ false) (is : e ≡ clockTimeWord plan (plan .views)) where

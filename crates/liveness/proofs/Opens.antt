@@ -21,7 +21,7 @@ use Rattle.model.specs.declared.Setup.{Setup}
 use Rattle.model.specs.Quantities.{nLeast, nMost, deltaLeast, deltaMost, gammaLeast, gammaMost, viewsLeast, viewsMost, networkLeast, networkMost, tableClocks, rowWords, perLeader, tolerated, lead, initial, nextInitial, startLimit, correct}
 use Rattle.model.specs.State.{State, capacity, enteredWord, heardWord, marksWord, markBit, word}
 use Rattle.model.specs.Moves.{Change, entries, certificate, made}
-use Rattle.model.specs.Checks.{supporting, startTooHigh, tooFarAhead, nOutside, delaysOutside, viewsOutside, faultyOutside}
+use Rattle.model.specs.Checks.{supporting, startTooHigh, tooFarAhead, nOutside, delaysOutside, viewsOutside, faultyOutside, planOutside}
 use Rattle.model.specs.Opening.{blankRun, blank, firstEntry, opened, openingChecks}
 use Rattle.liveness.proofs.TallyLaws.{heard-low}
 use Rattle.liveness.proofs.Flight.{stamped}
@@ -31,27 +31,33 @@ use Rattle.liveness.proofs.FirstEntries.{zeros, blank-tally, views-posi
 use Rattle.liveness.proofs.Tracks.{Tracked}
 use Rattle.liveness.proofs.Judging.{Passes, neither, nor, not-ltb, not-leb}
 
--- checks 2 to 5 let pass only a plan within its limits
-pub planned : (u : Setup) (s : State) → Passes (openingChecks u s) → Planned (u .plan) (u .faulty)
-planned u s c =
-    let p : Plan = u .plan in
-    let a = neither (ltb (p .n) nLeast) (ltb nMost (p .n)) (c .0) in
-    let b = neither (ltb (p .delta) deltaLeast || ltb deltaMost (p .delta) || ltb (p .gamma) (gammaLeast p)) (ltb gammaMost (p .gamma)) (c .1 .0) in
+-- what is within the limits of checks 2 to 5
+pub planned-within : (p : Plan) (faulty : ℕ) → (T (planOutside p) → ⊥) → (T (faultyOutside p faulty) → ⊥) → Planned p faulty
+planned-within p faulty inside few =
+    let v = neither (nOutside p || delaysOutside p) (viewsOutside p) inside in
+    let d = neither (nOutside p) (delaysOutside p) (v .0) in
+    let a = neither (ltb (p .n) nLeast) (ltb nMost (p .n)) (d .0) in
+    let b = neither (ltb (p .delta) deltaLeast || ltb deltaMost (p .delta) || ltb (p .gamma) (gammaLeast p)) (ltb gammaMost (p .gamma)) (d .1) in
     let b' = neither (ltb (p .delta) deltaLeast || ltb deltaMost (p .delta)) (ltb (p .gamma) (gammaLeast p)) (b .0) in
     let b'' = neither (ltb (p .delta) deltaLeast) (ltb deltaMost (p .delta)) (b' .0) in
-    let v = neither (ltb (p .views) viewsLeast || ltb viewsMost (p .views)) (not (initial p (p .views))) (c .1 .1 .0) in
-    let v' = neither (ltb (p .views) viewsLeast) (ltb viewsMost (p .views)) (v .0) in
-    let f = neither (leb (2 ^ p .n) (u .faulty)) (ltb (tolerated p) (size (u .faulty))) (c .1 .1 .1 .0) in
+    let w = neither (ltb (p .views) viewsLeast || ltb viewsMost (p .views)) (not (initial p (p .views))) (v .1) in
+    let w' = neither (ltb (p .views) viewsLeast) (ltb viewsMost (p .views)) (w .0) in
+    let f = neither (leb (2 ^ p .n) faulty) (ltb (tolerated p) (size faulty)) few in
     record {
       n-least = not-ltb (p .n) nLeast (a .0);
       n-most = not-ltb nMost (p .n) (a .1);
       delta-least = not-ltb (p .delta) deltaLeast (b'' .0);
       gamma-least = not-ltb (p .gamma) (gammaLeast p) (b' .1);
-      views-least = not-ltb (p .views) viewsLeast (v' .0);
-      views-initial = not-not (initial p (p .views)) (v .1);
-      faulty-below = not-leb (2 ^ p .n) (u .faulty) (f .0);
-      faulty-few = not-ltb (tolerated p) (size (u .faulty)) (f .1);
+      views-least = not-ltb (p .views) viewsLeast (w' .0);
+      views-initial = not-not (initial p (p .views)) (w .1);
+      faulty-below = not-leb (2 ^ p .n) faulty (f .0);
+      faulty-few = not-ltb (tolerated p) (size faulty) (f .1);
     }
+
+-- checks 2 to 5 let pass only such a plan
+pub planned : (u : Setup) (s : State) → Passes (openingChecks u s) → Planned (u .plan) (u .faulty)
+planned u s c = planned-within (u .plan) (u .faulty) (nor (nOutside (u .plan) || delaysOutside (u .plan)) (viewsOutside (u .plan))
+    (nor (nOutside (u .plan)) (delaysOutside (u .plan)) (c .0) (c .1 .0)) (c .1 .1 .0)) (c .1 .1 .1 .0)
 
 module _ (u : Setup) (s : State) (c : Passes (openingChecks u s)) where
   abbrev plan : Plan

@@ -8,7 +8,7 @@ use native.Mathlib.Nat.{mul-le-mul, mul-le-mul-right, div-lt-iff-lt-mul}
 use lib.Dec.{T, leb, ltb}
 use borrow.Author.Tests.{ltb-false, leb-false, eqb-true, not-false, lt-ltb, le-ltb, le-leb, lt-leb}
 use Rattle.base.specs.Tests.{le?}
-use Rattle.base.specs.Choice.{or-first, or-second, or-neither, or-rest}
+use Rattle.base.specs.Choice.{or-first, or-second, or-neither, or-rest, or-parts}
 use Rattle.model.specs.declared.Plan.{Plan}
 use Rattle.model.specs.declared.Processor.{Processor}
 use Rattle.model.specs.Quantities.{nLeast, nMost, deltaLeast, deltaMost, gammaLeast, gammaMost, viewsLeast, viewsMost, perLeader, initial, nextInitial, clockTime, endTime}
@@ -17,10 +17,6 @@ use Rattle.model.specs.Checks.{nOutside, delaysOutside, viewsOutside, planOutsi
 use Rattle.model.specs.Processors.{processorUnsound}
 use Rattle.model.proofs.PlanWords.{time-fits}
 use Rattle.pacemaker.specs.Limits.{planCheck, Within, Sound}
-
-pub neither : (a b : Bool) → (a || b) ≡ false → (a ≡ false) × (b ≡ false)
-neither true b e = absurd (subst T e tt)
-neither false b e = (refl, e)
 
 -- ---- checks 2 to 4
 
@@ -44,14 +40,14 @@ check-passes p l = no-check (nOutside p) (delaysOutside p) (viewsOutside p) l
 
 pub within : (p : Plan) → planOutside p ≡ false → Within p
 within p e =
-    let a = neither (nOutside p || delaysOutside p) (viewsOutside p) e in
-    let b = neither (nOutside p) (delaysOutside p) (a .0) in
-    let n = neither (ltb (p .n) nLeast) (ltb nMost (p .n)) (b .0) in
-    let d = neither (ltb (p .delta) deltaLeast || ltb deltaMost (p .delta) || ltb (p .gamma) (gammaLeast p)) (ltb gammaMost (p .gamma)) (b .1) in
-    let g = neither (ltb (p .delta) deltaLeast || ltb deltaMost (p .delta)) (ltb (p .gamma) (gammaLeast p)) (d .0) in
-    let h = neither (ltb (p .delta) deltaLeast) (ltb deltaMost (p .delta)) (g .0) in
-    let v = neither (ltb (p .views) viewsLeast || ltb viewsMost (p .views)) (not (initial p (p .views))) (a .1) in
-    let w = neither (ltb (p .views) viewsLeast) (ltb viewsMost (p .views)) (v .0) in
+    let a = or-parts (nOutside p || delaysOutside p) (viewsOutside p) e in
+    let b = or-parts (nOutside p) (delaysOutside p) (a .0) in
+    let n = or-parts (ltb (p .n) nLeast) (ltb nMost (p .n)) (b .0) in
+    let d = or-parts (ltb (p .delta) deltaLeast || ltb deltaMost (p .delta) || ltb (p .gamma) (gammaLeast p)) (ltb gammaMost (p .gamma)) (b .1) in
+    let g = or-parts (ltb (p .delta) deltaLeast || ltb deltaMost (p .delta)) (ltb (p .gamma) (gammaLeast p)) (d .0) in
+    let h = or-parts (ltb (p .delta) deltaLeast) (ltb deltaMost (p .delta)) (g .0) in
+    let v = or-parts (ltb (p .views) viewsLeast || ltb viewsMost (p .views)) (not (initial p (p .views))) (a .1) in
+    let w = or-parts (ltb (p .views) viewsLeast) (ltb viewsMost (p .views)) (v .0) in
     record {
       n-least = ltb-false _ _ (n .0);
       n-most = ltb-false _ _ (n .1);
@@ -111,9 +107,9 @@ outside-next p clock view next before reached is =
 
 pub sound : (p : Plan) (c : Processor) → processorUnsound p c ≡ false → Sound p c
 sound p c e =
-    let a = neither (planOutside p) (clockOutside p (c .clock) (c .view)) e in
-    let b = neither (atEnd p (c .clock) || ltb (c .clock) (clockTime p (c .view))) (leb (clockTime p (nextInitial p (c .view))) (c .clock)) (a .1) in
-    let d = neither (atEnd p (c .clock)) (ltb (c .clock) (clockTime p (c .view))) (b .0) in
+    let a = or-parts (planOutside p) (clockOutside p (c .clock) (c .view)) e in
+    let b = or-parts (atEnd p (c .clock) || ltb (c .clock) (clockTime p (c .view))) (leb (clockTime p (nextInitial p (c .view))) (c .clock)) (a .1) in
+    let d = or-parts (atEnd p (c .clock)) (ltb (c .clock) (clockTime p (c .view))) (b .0) in
     record {
       within = within p (a .0);
       before-end = leb-false _ _ (d .0);

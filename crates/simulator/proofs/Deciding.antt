@@ -6,7 +6,7 @@ use Prim.Native.Nat.{ℕ, _≤_, _<_}
 use native.Mathlib.Omega.{arith}
 use lib.ListN.{length}
 use borrow.Author.Tests.{le-leb, lt-leb, leb-false}
-use Rattle.base.specs.Choice.{cond-yes, cond-no, or-first, or-second, or-neither, and-both, and-not-first, and-not-second, not-yes, not-no}
+use Rattle.base.specs.Choice.{cond-yes, cond-no, or-first, or-second, or-neither, or-parts, and-both, and-not-first, and-not-second, not-yes, not-no}
 use Rattle.model.specs.declared.Plan.{Plan}
 use Rattle.model.specs.declared.Message.{Message}
 use Rattle.model.specs.declared.Message.the-variants.{View, Vote, Vc, Qc}
@@ -17,7 +17,6 @@ use Rattle.model.specs.State.{State, stateOf, withHeld, withClocks, withViews, 
 use Rattle.model.specs.Moves.{Change, byView, byQuorum, forms, hearing, handling, made}
 use Rattle.model.specs.Checks.{noProcessor, noView, namedOutside, notInitial, reachesEnd}
 use Rattle.pacemaker.specs.Steps.{movingBy}
-use Rattle.pacemaker.proofs.LimitLaws.{neither}
 use Rattle.simulator.specs.declared.Reaction.{Reaction}
 use Rattle.simulator.specs.Inner.{Posts, heardBy, formedBy, Reacts, signedChange, changeBy, sentFor, Fit, seat, namedCheck, Decides}
 use Rattle.simulator.proofs.Moving.{moved-taking, stays-below, taking-reaches}
@@ -63,7 +62,7 @@ module _ (plan : Plan) (m : Message) where
 
   pub named-low : namedCheck plan m ≡ 0 → (processorIn m < plan .n) × (viewIn m < plan .views)
   named-low e =
-      let a = neither (noProcessor plan (processorIn m)) (noView plan (viewIn m)) (named-passed e .0) in
+      let a = or-parts (noProcessor plan (processorIn m)) (noView plan (viewIn m)) (named-passed e .0) in
       (leb-false _ _ (a .0), leb-false _ _ (a .1))
 
 -- the same of a message that is known

@@ -7,7 +7,7 @@ use native.Mathlib.Omega.{arith}
 use lib.ListN.{length, take, drop, replicate, length-append, length-drop}
 use lib.Seq.{slice, length-take-le, length-slice}
 use borrow.Author.Tests.{eq-eqb, ne-eqb}
-use Rattle.base.specs.Tests.{T-true}
+use Rattle.base.specs.Tests.{fails, T-true}
 use Rattle.base.specs.ScanLaws.{first-le}
 use Rattle.model.specs.declared.Message.{Message}
 use Rattle.model.specs.declared.Message.the-variants.{View, Vote, Vc, Qc}
@@ -19,7 +19,6 @@ use Rattle.model.specs.Events.{without}
 use Rattle.liveness.proofs.Marks.{addressed}
 use Rattle.buffers.specs.Network.{found, taken, found-fits, taken-fits}
 use Rattle.simulator.specs.Inner.{Fit, ReachesCorrect}
-use Rattle.simulator.proofs.Fitness.{fails}
 
 -- the run with one message less is as fit
 pub fit-held : (r : Run) (h : ℕ) → Fit r → Fit (withHeld h r)

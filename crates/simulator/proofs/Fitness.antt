@@ -5,7 +5,8 @@ use Prim.Native.Nat.{ℕ, _/_, _^_, _≤_, _<_}
 use native.Mathlib.Omega.{arith}
 use native.Mathlib.Nat.{mod-lt}
 use lib.Dec.{T, ltb, leb}
-use Rattle.base.specs.Tests.{T-true, T-false}
+use Rattle.liveness.proofs.Opens.{planned-within}
+use Rattle.base.specs.Tests.{fails, T-true, T-false}
 use Rattle.base.specs.Sets.{size}
 use Rattle.model.specs.declared.Plan.{Plan}
 use Rattle.model.specs.declared.Run.{Run}
@@ -22,28 +23,12 @@ use Rattle.pacemaker.specs.Limits.{Within}
 use Rattle.pacemaker.proofs.LimitLaws.{within, time-small}
 use Rattle.simulator.specs.Inner.{Fit, seat}
 
--- a test that is false does not pass
-pub fails : (b : Bool) → b ≡ false → T b → ⊥
-fails b e t = subst T e t
-
 -- no clock time that a run can reach is large
 pub end-most : (plan : Plan) → Within plan → endTime plan ≤ 60000000
 end-most plan l = time-small plan l (plan .views) (omega arith)
 
 pub planned-of : (plan : Plan) (faulty : ℕ) → planOutside plan ≡ false → faultyOutside plan faulty ≡ false → Planned plan faulty
-planned-of p m e f =
-    let l = within p e in
-    let o = neither (leb (2 ^ p .n) m) (ltb (tolerated p) (size m)) (fails (faultyOutside p m) f) in
-    record {
-      n-least = l .n-least;
-      n-most = l .n-most;
-      delta-least = l .delta-least;
-      gamma-least = l .gamma-least;
-      views-least = l .views-least;
-      views-initial = rw (l .views-initial) tt;
-      faulty-below = not-leb _ _ (o .0);
-      faulty-few = not-ltb _ _ (o .1);
-    }
+planned-of p m e f = planned-within p m (fails (planOutside p) e) (fails (faultyOutside p m) f)
 
 -- check 9 passed
 module _ (s : State) (sound : unsound s ≡ false) where

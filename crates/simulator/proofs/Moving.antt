@@ -7,7 +7,7 @@ use Prim.Native.Nat.{ℕ, _<_}
 use lib.Dec.{T, ltb}
 use lib.ListN.{length, getD, set}
 use lib.Seq.{set-getD, getD-set-same, getD-set-other}
-use Rattle.base.specs.Tests.{T-and, T-left, T-right, T-iff, T-true, eq?}
+use Rattle.base.specs.Tests.{fails, T-and, T-left, T-right, T-iff, T-true, eq?}
 use Rattle.base.specs.Scan.{some}
 use Rattle.base.specs.ScanLaws.{some-by, some-gives, some-none}
 use Rattle.model.specs.declared.Run.{Run}
@@ -21,7 +21,6 @@ use Rattle.liveness.proofs.Judging.{neither}
 use Rattle.simulator.specs.declared.Reaction.{Reaction}
 use Rattle.simulator.specs.Inner.{Fit, movedChange}
 use Rattle.simulator.proofs.Sending.{entered-into, entered-none}
-use Rattle.simulator.proofs.Fitness.{fails}
 
 -- two changes with equal parts are equal
 pub change-by : (c d : Change) → c .clocks ≡ d .clocks → c .views ≡ d .views → c .tally ≡ d .tally → c .sent ≡ d .sent → c ≡ d

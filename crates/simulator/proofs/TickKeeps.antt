@@ -10,7 +10,7 @@ use lib.Dec.{T, eqb, leb, ltb, eqb→eq}
 use lib.ListN.{length, getD, length-set}
 use lib.Seq.{getD-set-same, getD-set-other}
 use borrow.Author.Tests.{lt-leb, le-ltb, eq-eqb}
-use Rattle.base.specs.Tests.{T-left, le?}
+use Rattle.base.specs.Tests.{fails, T-left, le?}
 use Rattle.base.specs.Choice.{or-neither, and-both}
 use Rattle.base.specs.Scan.{some}
 use Rattle.base.specs.ScanLaws.{some-not}
@@ -25,7 +25,6 @@ use Rattle.model.specs.Checks.{clockOutside, atEnd}
 use Rattle.liveness.proofs.Link.{correct-below}
 use Rattle.liveness.proofs.TickLaws.{clock-up}
 use Rattle.liveness.proofs.Judging.{neither, not-ltb, not-leb}
-use Rattle.simulator.proofs.Fitness.{fails}
 use Rattle.simulator.specs.Inner.{Fit, Went, arrivedBelow, endsAt}
 use Rattle.simulator.proofs.Arrivals.{entries-views, arrived-clocks}
 

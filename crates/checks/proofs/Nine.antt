@@ -104,7 +104,6 @@ module _ (s : State) where
   pub plan-passes : limits ≡ false → plan-out ≡ false
   plan-passes e = or-parts plan-out faulty-out (or-parts (plan-out || faulty-out) buffers-out e .0) .0
 
-
 -- the time against the end, as the plan's own function gives it
 module _ (plan : Plan) (time e : ℕ) (ok : planOutside plan ≡ false) (is : e ≡ clockTimeWord plan (plan .views)) where
   the-end : e ≡ endTime plan

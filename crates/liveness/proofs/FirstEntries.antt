@@ -28,13 +28,13 @@ use Rattle.liveness.proofs.Sending.{signature, meant, signature-meant, 
 use Rattle.liveness.proofs.Link.{Planned, correct-below}
 use Rattle.liveness.proofs.Enters.{entry-max}
 
-correct-fewer : (r : Run) (ms : List Message) → length (toCorrect (r .plan) (r .faulty) ms) ≤ length ms
+pub correct-fewer : (r : Run) (ms : List Message) → length (toCorrect (r .plan) (r .faulty) ms) ≤ length ms
 unfolding toCorrect
 correct-fewer r [] = omega arith
 correct-fewer r (m ∷ ms) = by-cond (λ (l : List Message). length l ≤ suc (length ms)) (isCorrect r (meant (r .plan) m)) (m ∷ toCorrect (r .plan) (r .faulty) ms) (toCorrect (r .plan) (r .faulty) ms)
     (λ t. omega (arith, correct-fewer r ms)) (λ t. omega (arith, correct-fewer r ms))
 
-entry-few : (plan : Plan) (p w : ℕ) → length (entryMessages plan p w) ≤ 2
+pub entry-few : (plan : Plan) (p w : ℕ) → length (entryMessages plan p w) ≤ 2
 entry-few plan p w = by-cond (λ (l : List Message). length l ≤ 2) (initial plan w) (View w p ∷ Vote w p ∷ []) (Vote w p ∷ []) (λ t. omega arith)
     (λ t. omega arith)
 

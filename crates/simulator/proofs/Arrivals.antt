@@ -22,38 +22,13 @@ use Rattle.model.specs.Quantities.{initial, clockTime}
 use Rattle.model.specs.State.{State, clockOf, viewOf, isCorrect}
 use Rattle.model.specs.Moves.{Change, changed, Entry, stay, into, entryClock, entering, taking, entries, byClock, clocksOn, advanced, arrival, arrivals}
 use Rattle.model.specs.Checks.{atEnd, reachesEnd}
-use Rattle.model.specs.Processors.{Moved, moving}
+use Rattle.model.specs.Processors.{Moved, moving, messagesOf}
 use Rattle.liveness.proofs.TickLaws.{clock-up}
 use Rattle.pacemaker.specs.Steps.{movingBy}
 use Rattle.pacemaker.proofs.AnswerLaws.{tick-clock}
 use Rattle.simulator.specs.declared.Reaction.{Reaction}
 use Rattle.simulator.specs.Inner.{sentBy, enteredBy, arrivalMove, Arrives, movedChange, seat, arrivedBelow, endsAt}
-use Rattle.simulator.proofs.Moving.{moved-taking}
-
--- ---- entries that leave the clocks alone, and views of those that have not been asked yet
-
-pub entries-clocks : (e : ℕ → Entry) (r : Run) (t : List ℕ) (k : ℕ)
-    → ((q w : ℕ) → q < k → e q ≡ into w → entryClock (r .plan) (clockOf r q) w ≡ clockOf r q) → entries e r t k .clocks ≡ r .clocks
-unfolding entries taking entering
-entries-clocks e r t zero same = refl
-entries-clocks e r t (suc k) same = go (e k) refl (entries-clocks e r t k (λ q w l x. same q w (omega arith) x))
-  where
-    go : (x : Entry) → e k ≡ x → entries e r t k .clocks ≡ r .clocks
-        → taking (changed r (entries e r t k)) (entries e r t k .tally) k x .clocks ≡ r .clocks
-    go stay q h = h
-    go (into w) q h =
-        ap (λ (l : List ℕ). set l k (entryClock (r .plan) (getD l k 0) w)) h
-        ∙ ap (set (r .clocks) k) (same k w (omega arith) q) ∙ set-getD (r .clocks) k 0
-
-pub entries-views : (e : ℕ → Entry) (r : Run) (t : List ℕ) (k q : ℕ) → k ≤ q → getD (entries e r t k .views) q 0 ≡ viewOf r q
-unfolding entries taking entering
-entries-views e r t zero q l = refl
-entries-views e r t (suc k) q l = go (e k) (entries-views e r t k q (omega arith))
-  where
-    go : (x : Entry) → getD (entries e r t k .views) q 0 ≡ viewOf r q
-        → getD (taking (changed r (entries e r t k)) (entries e r t k .tally) k x .views) q 0 ≡ viewOf r q
-    go stay h = h
-    go (into w) h = let ne : q ≢ k = λ x. absurd (omega (arith, x)) in getD-set-other (entries e r t k .views) k q w 0 ne ∙ h
+use Rattle.simulator.proofs.Entries.{entries-clocks, entries-views}
 
 -- ---- clocks advanced so far
 
@@ -150,24 +125,11 @@ module _ (s : State) where
 
     -- one processor more
     module _ (k : ℕ) (low : k < r .plan .n) (x : Reaction) (arrives : Arrives (r .plan) (r .faulty) (seat r k) x) (goes-on : x .ends ≡ false) where
-      change-more : movedChange (changed a (below k)) (below k .tally) k x
-          ≡ taking (changed a (below k)) (below k .tally) k (arrival a k)
-      change-more = moved-taking (changed a (below k)) (below k .tally) k (arrival a k) x
-          (arrives .processor goes-on ∙ ap (λ (m : Moved). m .processor) (arrival-is k low))
-          (arrives .sent goes-on ∙ ap (λ (m : Moved). m .sent) (arrival-is k low))
+      pub same-processor : x .processor ≡ moving (r .plan) k (clockOf (changed a (below k)) k) (viewOf (changed a (below k)) k) (arrival a k) .processor
+      same-processor = arrives .processor goes-on ∙ ap (λ (m : Moved). m .processor) (arrival-is k low)
 
-      pub views-more : below (k + 1) .views ≡ set (below k .views) k (x .processor .view)
-      unfolding entries
-      views-more = ap (λ (j : ℕ). below j .views) (add-one k) ∙ sym (ap (λ (c : Change). c .views) change-more)
-
-      pub tally-more : below (k + 1) .tally ≡ enteredBy (below k .tally) k (x .sends)
-      unfolding entries
-      tally-more = ap (λ (j : ℕ). below j .tally) (add-one k) ∙ sym (ap (λ (c : Change). c .tally) change-more)
-
-      pub sent-more : below (k + 1) .sent ≡ below k .sent ++ sentBy (r .plan) (r .faulty) k (x .sends)
-      unfolding entries
-      sent-more = ap (λ (j : ℕ). below j .sent) (add-one k)
-          ∙ ap (λ (m : List Message). below k .sent ++ m) (sym (ap (λ (c : Change). c .sent) change-more))
+      pub same-sent : messagesOf k (x .sends) ≡ moving (r .plan) k (clockOf (changed a (below k)) k) (viewOf (changed a (below k)) k) (arrival a k) .sent
+      same-sent = arrives .sent goes-on ∙ ap (λ (m : Moved). m .sent) (arrival-is k low)
 
       pub clocks-more : clocksOn r (k + 1) ≡ set (clocksOn r k) k (x .processor .clock)
       unfolding clocksOn

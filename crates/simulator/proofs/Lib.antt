@@ -2,8 +2,9 @@
 pub mod Sending
 pub mod Fitness
 pub mod Moving
-pub mod Arrivals
 pub mod Posting
+pub mod Entries
+pub mod Arrivals
 pub mod Hearing
 pub mod Reactions
 pub mod Ticking

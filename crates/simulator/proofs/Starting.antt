@@ -10,8 +10,8 @@ use native.Mathlib.Nat.{zero-mod}
 use lib.Dec.{T, eqb, ltb, ltb→lt}
 use lib.ListN.{length, getD, set, drop, replicate, length-append, length-set, length-drop, length-replicate}
 use lib.Seq.{drop-length, drop-cons, set-at, getD-set-same, getD-set-other, ext-getD}
-use borrow.Author.Tests.{eq-eqb, ne-eqb}
-use Rattle.base.specs.Choice.{cond-yes, cond-no}
+use borrow.Author.Tests.{eq-eqb, ne-eqb, ltb-false}
+use Rattle.base.specs.Choice.{cond-yes, cond-no, or-parts}
 use Rattle.base.specs.Tests.{T-left, T-right, le?}
 use Rattle.base.specs.ScanLaws.{length-listed, getD-listed}
 use Rattle.model.specs.declared.Plan.{Plan}
@@ -31,14 +31,13 @@ use Rattle.liveness.proofs.Link.{Planned}
 use Rattle.liveness.proofs.FirstEntries.{Mid, mid-all}
 use Rattle.liveness.proofs.Opens.{planned}
 use Rattle.checks.specs.Setups.{setupCheck, lent}
-use Rattle.checks.proofs.Opens.{numbered, setup-check}
+use Rattle.checks.proofs.Opens.{Passed, setup-passed, setup-check}
 use Rattle.simulator.specs.declared.Reaction.{Reaction}
 use Rattle.simulator.specs.Inner.{Posts, sentBy, enteredBy, movedChange}
 use Rattle.simulator.specs.Opening.{firstSends, enteredFirst}
 use Rattle.simulator.specs.Contracts.{Opens}
-use Rattle.simulator.proofs.Sending.{sent-few}
-use Rattle.simulator.proofs.Moving.{moved-taking}
-use Rattle.simulator.proofs.Posting.{posts-also, posts-as, also-fits}
+use Rattle.simulator.proofs.Entries as entered
+use Rattle.simulator.proofs.Fitness.{planned-of}
 use Rattle.simulator.proofs.Ticking.{state-by}
 
 -- ---- words set to 0
@@ -89,14 +88,6 @@ starts-all u l h = ext-getD 0 l (startClocks u) (h .0 ∙ sym (length-listed (st
 
 -- ---- what passed checks 2 to 8
 
-passes : (cs : List Check) → T (numbered cs) → judged (λ r. r) cs 0 ≡ 0 → Passes cs
-passes [] h e = tt
-passes (c ∷ cs) h e = go (c .1) refl e (passes cs (T-right (ltb 0 (c .0)) (numbered cs) h))
-  where
-    go : (b : Bool) → c .1 ≡ b → cond b (c .0) (judged (λ r. r) cs 0) ≡ 0 → (judged (λ r. r) cs 0 ≡ 0 → Passes cs) → Passes (c ∷ cs)
-    go true x y rest = absurd (omega (arith, y, ltb→lt 0 (c .0) (T-left (ltb 0 (c .0)) (numbered cs) h)))
-    go false x y rest = (λ t. rw x at t, rest y)
-
 -- what an opening needs of a setup and the lengths of the buffers
 pub record Ready (u : Setup) (tally network : ℕ) : Type 0 where
   pub ok : Planned (u .plan) (u .faulty)
@@ -104,17 +95,14 @@ pub record Ready (u : Setup) (tally network : ℕ) : Type 0 where
   pub room : networkLeast (u .plan) ≤ network
 
 pub ready : (u : Setup) (tally network : ℕ) → setupCheck u tally network ≡ 0 → Ready u tally network
-unfolding setupCheck
 ready u tally network e =
-    let c : Passes (openingChecks u (lent u tally network)) = passes (openingChecks u (lent u tally network)) tt e in
-    let a = neither (ltb (length (replicate {A = ℕ} tally 0)) (rowWords * u .plan .views) || ltb (length (replicate {A = ℕ} network 0)) (networkLeast (u .plan)))
-    (ltb networkMost (length (replicate {A = ℕ} network 0))) (c .1 .1 .1 .1 .0) in
-    let b = neither (ltb (length (replicate {A = ℕ} tally 0)) (rowWords * u .plan .views)) (ltb (length (replicate {A = ℕ} network 0)) (networkLeast (u .plan)))
-    (a .0) in
+    let c : Passed u tally network = setup-passed u tally network e in
+    let b = or-parts (ltb tally (rowWords * u .plan .views) || ltb network (networkLeast (u .plan))) (ltb networkMost network) (c .lengths) in
+    let a = or-parts (ltb tally (rowWords * u .plan .views)) (ltb network (networkLeast (u .plan))) (b .0) in
     record {
-      ok = planned u (lent u tally network) c;
-      rows = omega (arith, not-ltb (length (replicate {A = ℕ} tally 0)) (rowWords * u .plan .views) (b .0), length-replicate {A = ℕ} tally 0);
-      room = omega (arith, not-ltb (length (replicate {A = ℕ} network 0)) (networkLeast (u .plan)) (b .1), length-replicate {A = ℕ} network 0);
+      ok = planned-of (u .plan) (u .faulty) (c .plan) (c .faulty);
+      rows = ltb-false tally (rowWords * u .plan .views) (a .0);
+      room = ltb-false network (networkLeast (u .plan)) (a .1);
     }
 
 -- ---- the first entries
@@ -134,56 +122,29 @@ module _ (u : Setup) (t : List ℕ) where
     r = changed (blankRun u) (below k)
 
     -- the messages are those of an entry into view 0, which is initial
-    first-messages : messagesOf k sends ≡ moving (u .plan) k (clockOf r k) (viewOf r k) (firstEntry u k) .sent
+    pub first-messages : messagesOf k sends ≡ moving (u .plan) k (clockOf r k) (viewOf r k) (firstEntry u k) .sent
     first-messages = go (correct (u .plan) (u .faulty) k)
       where
         go : (b : Bool) → messagesOf k (cond b (ViewAndVote 0) Nothing) ≡ moving (u .plan) k (clockOf r k) (viewOf r k) (cond b (into 0) stay) .sent
         go true = rw (zero-initial (u .plan)) refl
         go false = refl
 
-    abbrev reaction : Reaction
+    abbrev pub reaction : Reaction
     reaction = record { formed = false; processor = moving (u .plan) k (clockOf r k) (viewOf r k) (firstEntry u k) .processor; sends = sends; ends = false }
 
-    change-more : movedChange r (below k .tally) k reaction ≡ taking r (below k .tally) k (firstEntry u k)
-    change-more = moved-taking r (below k .tally) k (firstEntry u k) reaction refl first-messages
-
-    tally-more : below (k + 1) .tally ≡ enteredBy (below k .tally) k sends
-    unfolding entries
-    tally-more = ap (λ (j : ℕ). below j .tally) (add-one k) ∙ sym (ap (λ (c : Change). c .tally) change-more)
-
-    sent-more : below (k + 1) .sent ≡ below k .sent ++ sentBy (u .plan) (u .faulty) k sends
-    unfolding entries
-    sent-more = ap (λ (j : ℕ). below j .sent) (add-one k)
-        ∙ ap (λ (m : List Message). below k .sent ++ m) (sym (ap (λ (c : Change). c .sent) change-more))
-
+    -- one processor more
     pub tally-turn : (t' t'' : List ℕ) → t' ≡ below k .tally → t'' ≡ enteredBy t' k sends → t'' ≡ below (k + 1) .tally
-    tally-turn t' t'' e f = f ∙ ap (λ (y : List ℕ). enteredBy y k sends) e ∙ sym tally-more
+    tally-turn = entered.tally-turn (firstEntry u) (blankRun u) t k reaction refl first-messages
 
-  -- two messages at most of each processor
-  sent-below : (k : ℕ) → length (below k .sent) ≤ 2 * k
-  unfolding entries
-  sent-below zero = omega arith
-  sent-below (suc k) = subst (λ (j : ℕ). length (below j .sent) ≤ 2 * j) (add-one k)
-      (omega (
-        arith,
-        ap length (sent-more k),
-        length-append (below k .sent) (sentBy (u .plan) (u .faulty) k (sends k)),
-        sent-below k,
-        sent-few (u .plan) (u .faulty) k (sends k),
-      ))
+    module _ (held : ℕ) (ws ws' : List ℕ) (low : k < u .plan .n) (room : 2 * u .plan .n ≤ capacity ws) (posts : Posts (below k .sent) 0 0 ws held ws') where
+      enough : 0 + length (below (u .plan .n) .sent) ≤ capacity ws
+      enough = omega (arith, room, entered.sent-few (firstEntry u) (blankRun u) t (u .plan .n))
 
-  module _ (k held : ℕ) (ws ws' : List ℕ) (low : k < u .plan .n) (room : 2 * u .plan .n ≤ capacity ws) (posts : Posts (below k .sent) 0 0 ws held ws') where
-    both : 0 + length (below k .sent ++ sentBy (u .plan) (u .faulty) k (sends k)) ≤ capacity ws
-    both = omega (arith, room, sent-below (k + 1), ap length (sent-more k))
+      pub first-fits : held + length (sentBy (u .plan) (u .faulty) k sends) ≤ capacity ws'
+      first-fits = entered.entry-fits (firstEntry u) (blankRun u) t k reaction refl first-messages (u .plan .n) 0 0 held ws ws' low enough posts
 
-    pub first-fits : held + length (sentBy (u .plan) (u .faulty) k (sends k)) ≤ capacity ws'
-    first-fits = also-fits (below k .sent) _ 0 held 0 ws ws' posts both
-
-    pub posts-turn : (held' : ℕ) (ws'' : List ℕ) → Posts (sentBy (u .plan) (u .faulty) k (sends k)) held 0 ws' held' ws''
-        → Posts (below (k + 1) .sent) 0 0 ws held' ws''
-    posts-turn held' ws'' y = posts-as _ _ 0 held' 0 ws ws'' (sym (sent-more k))
-        (posts-also (below k .sent) (sentBy (u .plan) (u .faulty) k (sends k)) 0 held held' 0 ws ws' ws'' posts y
-        (omega (arith, both, length-append (below k .sent) (sentBy (u .plan) (u .faulty) k (sends k)))))
+      pub posts-turn : (held' : ℕ) (ws'' : List ℕ) → Posts (sentBy (u .plan) (u .faulty) k sends) held 0 ws' held' ws'' → Posts (below (k + 1) .sent) 0 0 ws held' ws''
+      posts-turn = entered.posts-turn (firstEntry u) (blankRun u) t k reaction refl first-messages (u .plan .n) 0 0 held ws ws' low enough posts
 
 -- ---- all together
 

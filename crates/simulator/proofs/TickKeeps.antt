@@ -26,7 +26,8 @@ use Rattle.liveness.proofs.Link.{correct-below}
 use Rattle.liveness.proofs.TickLaws.{clock-up}
 use Rattle.liveness.proofs.Judging.{neither, not-ltb, not-leb}
 use Rattle.simulator.specs.Inner.{Fit, Went, arrivedBelow, endsAt}
-use Rattle.simulator.proofs.Arrivals.{entries-views, arrived-clocks}
+use Rattle.simulator.proofs.Entries.{entries-views}
+use Rattle.simulator.proofs.Arrivals.{arrived-clocks}
 
 -- ---- the view after the entries
 

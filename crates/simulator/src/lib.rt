@@ -15,8 +15,8 @@ use model::Setup;
 ghost use Rattle.model.specs.State.{stateOf, handedBack};
 ghost use Rattle.simulator.specs.Contracts.{Opens, Applies};
 
-// What a message or a tick makes of the processor that it reaches: whether a leader forms the certificate, or the processor's next state and
-// what it sends, or that its clock would reach the end.
+// What a message or a tick makes of the processor that it reaches. Of a signature it says whether the leader forms the certificate; of a
+// certificate or a tick, the processor's next state and what it sends, or that its clock would reach the end.
 pub(crate) struct Reaction {
     pub(crate) formed: bool,
     pub(crate) processor: Processor,

@@ -40,7 +40,7 @@ by-number {A} refusal (c ∷ cs) a h = go (c .1) (by-number refusal cs a (T-righ
 -- check 6 reads the lengths alone
 setup-of : (u : Setup) (s : State) → judged (λ r. r) (openingChecks u s) 0 ≡ setupCheck u (length (s .tally)) (length (s .network))
 unfolding setupCheck
-setup-of u s = rw (length-replicate {A = ℕ} (length (s .tally)) 0, length-replicate {A = ℕ} (length (s .network)) 0)
+setup-of u s = refl
 
 -- an opening, by the number of the first check that refuses
 pub setup-check : (u : Setup) (s : State) (a : After) → judged (refused s) (openingChecks u s) a
@@ -111,8 +111,7 @@ module _ (u : Setup) (tally network : ℕ) where
   -- checks 2 to 4 together, then 5 to 8
   steps : setupCheck u tally network ≡ turns (eqb refusal 0) faulty short high ahead refusal
   unfolding setupCheck
-  steps = rw (length-replicate {A = ℕ} tally 0, length-replicate {A = ℕ} network 0)
-      (by-number (λ r. r) ((2, nOutside plan) ∷ (3, delaysOutside plan) ∷ (4, viewsOutside plan) ∷ []) _ tt)
+  steps = (by-number (λ r. r) ((2, nOutside plan) ∷ (3, delaysOutside plan) ∷ (4, viewsOutside plan) ∷ []) _ tt)
 
   passed : refusal ≤ 0 → eqb refusal 0 ≡ true
   passed l = eq-eqb refusal 0 (omega arith)

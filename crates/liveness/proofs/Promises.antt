@@ -187,10 +187,14 @@ module _ (plan : Plan) (faulty : ℕ) (ok : Planned plan faulty) where
 
 -- ---- demand 3
 
+-- of the run that the list leaves
+abbrev CertifiedAfter : Setup → State → List Event → Type 0
+CertifiedAfter u s es = Certified u s es (after s es .run)
+
 module _ (u : Setup) (ok : Planned (u .plan) (u .faulty)) where
   -- the accepted settle is the first of the list
   at-settling : (s : State) → Tracked (u .plan) (u .faulty) ok s → (es : List Event) → sinceSettling s (Settle ∷ es) ≡ since (nowSettled s) es
-      → applied Settle s .state ≡ nowSettled s → settlingBound u < ticksDone (nowSettled s) es → Certified u s (Settle ∷ es)
+      → applied Settle s .state ≡ nowSettled s → settlingBound u < ticksDone (nowSettled s) es → CertifiedAfter u s (Settle ∷ es)
   unfolding after proto.lead proto.row
   at-settling s x es e e' far =
       let y = found (u .plan) (u .faulty) ok s x es far in
@@ -207,11 +211,11 @@ module _ (u : Setup) (ok : Planned (u .plan) (u .faulty)) where
 
   -- an event before it
   onward : (e : Event) (es : List Event) (s : State) → sinceSettling s (e ∷ es) ≡ sinceSettling (applied e s .state) es
-      → Certified u (applied e s .state) es → Certified u s (e ∷ es)
+      → CertifiedAfter u (applied e s .state) es → CertifiedAfter u s (e ∷ es)
   unfolding after
   onward e es s i x = record { view = x .view; led = x .led; formed = subst (λ (j : Since). T (formedSince j (x .view))) (sym i) (x .formed); later = x .later }
 
-  certified : (es : List Event) (s : State) → Tracked (u .plan) (u .faulty) ok s → settlingBound u < ticksSince (sinceSettling s es) → Certified u s es
+  certified : (es : List Event) (s : State) → Tracked (u .plan) (u .faulty) ok s → settlingBound u < ticksSince (sinceSettling s es) → CertifiedAfter u s es
   unfolding sinceSettling
   certified [] s x far = absurd (omega arith)
   certified (Deliver m ∷ es) s x far = onward (Deliver m) es s refl
@@ -225,7 +229,7 @@ module _ (u : Setup) (ok : Planned (u .plan) (u .faulty)) where
   certified (Settle ∷ es) s x far = go (settle-cases s) (certified es (applied Settle s .state) (follows-event (u .plan) (u .faulty) ok Settle s x .tracked))
     where
       go : ((accepted (applied Settle s .answer) ≡ true) × (applied Settle s .state ≡ nowSettled s)) ⊎ (accepted (applied Settle s .answer) ≡ false)
-          → (settlingBound u < ticksSince (sinceSettling (applied Settle s .state) es) → Certified u (applied Settle s .state) es) → Certified u s (Settle ∷ es)
+          → (settlingBound u < ticksSince (sinceSettling (applied Settle s .state) es) → CertifiedAfter u (applied Settle s .state) es) → CertifiedAfter u s (Settle ∷ es)
       go (inl y) ih =
           let i : sinceSettling s (Settle ∷ es) ≡ since (nowSettled s) es =
           ap (λ (b : Bool). cond b (since (applied Settle s .state) es) (sinceSettling (applied Settle s .state) es)) (y .0)
@@ -310,5 +314,5 @@ stays-sound u before t es e =
 
 -- ---- a run to which the settling half applies: f is t, and the first leader is faulty
 
-applies : Certified setup (opening setup unopened .state) (take 62 events)
+applies : CertifiedAfter setup (opening setup unopened .state) (take 62 events)
 applies = demand-three setup unopened opening-accepted events 62 .1 (omega (arith, past-bound))

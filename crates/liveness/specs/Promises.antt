@@ -12,6 +12,7 @@ use Rattle.model.specs.declared.Event.{Event}
 use Rattle.model.specs.declared.Event.the-variants.{Tick}
 use Rattle.model.specs.declared.Answer.{Answer}
 use Rattle.model.specs.declared.Answer.the-variants.{Done, Stopped, Refused}
+use Rattle.model.specs.declared.Run.{Run}
 use Rattle.model.specs.declared.Setup.{Setup}
 use Rattle.model.specs.Quantities.{lead, correct}
 use Rattle.model.specs.State.{State, voteStage, clockOf, viewOf, marksWord, markBit, word, checkOf, accepted, refused}
@@ -26,12 +27,12 @@ use Rattle.model.specs.Lists.{after, ClockCondition, Since, sinceSettling, hasS
 abbrev pub settlingBound : Setup → ℕ
 settlingBound u = (3 * size (u .faulty) + 4) * u .plan .gamma + 4 * u .plan .delta
 
--- some correct leader has formed a quorum certificate since settling, and every correct processor is in a later view
-pub record Certified (u : Setup) (s : State) (es : List Event) : Type 0 where
+-- some correct leader has formed a quorum certificate since settling, and every correct processor is in a later view of r, which es left
+pub record Certified (u : Setup) (s : State) (es : List Event) (r : Run) : Type 0 where
   pub view : ℕ
   pub led : T (correct (u .plan) (u .faulty) (lead (u .plan) view))
   pub formed : T (formedSince (sinceSettling s es) view)
-  pub later : (p : ℕ) → T (correct (u .plan) (u .faulty) p) → view + 1 ≤ viewOf (after s es .run) p
+  pub later : (p : ℕ) → T (correct (u .plan) (u .faulty) p) → view + 1 ≤ viewOf r p
 
 -- For every setup, every run and lent buffers at hand, if the opening is accepted: for every list of events and every number of its first
 -- events (none: the opening; all: the whole list), the clock condition holds after them, and if by them more than (3f+4)Γ+4Δ ticks were
@@ -40,7 +41,8 @@ abbrev pub DemandThree : Type 0
 DemandThree =
     (u : Setup) (before : State) → T (accepted (opening u before .answer)) → (es : List Event) (i : ℕ)
     → ClockCondition (after (opening u before .state) (take i es) .run)
-    × (settlingBound u < ticksSince (sinceSettling (opening u before .state) (take i es)) → Certified u (opening u before .state) (take i es))
+    × (settlingBound u < ticksSince (sinceSettling (opening u before .state) (take i es)) 
+    → Certified u (opening u before .state) (take i es) (after (opening u before .state) (take i es) .run))
 
 -- ---- what goes with it, from an accepted opening on
 

@@ -167,8 +167,11 @@ abbrev pub settledBefore : State → Bool
 settledBefore s = s .run .settled
 
 -- "A message is overdue when settled and now is at or past the later of its sending and settling times, plus Δ."
+abbrev pub late : ℕ → ℕ → ℕ → ℕ → Bool
+late gst delta time sent = leb (max sent gst + delta) time
+
 abbrev pub overdueAt : State → ℕ → Bool
-overdueAt s i = leb (max (sentAt (s .network) i) (s .run .gst) + s .run .plan .delta) (s .run .time)
+overdueAt s i = late (s .run .gst) (s .run .plan .delta) (s .run .time) (sentAt (s .network) i)
 
 -- 16. "A tick finds an overdue message."
 unfoldable pub overdue : State → Bool

@@ -107,17 +107,26 @@ unfoldable pub toEach : Bool → ℕ → ℕ → List Message
 toEach stage w zero = []
 toEach stage w (suc k) = toEach stage w k ++ (certificate stage w k ∷ [])
 
+-- the tally with the signer heard, and the mark of a certificate that is formed
+abbrev pub heardTally : List ℕ → Bool → ℕ → ℕ → Bool → List ℕ
+heardTally t stage w p formed =
+    let heard = added t w (heardWord stage) p in
+    cond formed (added heard w marksWord (markBit stage)) heard
+
+-- "A formed certificate is sent to every correct cabinet, the leader included."
+abbrev pub formedMessages : Plan → ℕ → Bool → ℕ → Bool → List Message
+formedMessages plan faulty stage w formed = cond formed (toCorrect plan faulty (toEach stage w (plan .n))) []
+
 -- "A correct leader that hears a view message for w adds the signer." (That it is correct is tested by `signing`, and by check 9 for what
--- is delivered.) "A formed certificate is sent to every correct cabinet, the leader included."
+-- is delivered.)
 unfoldable pub hearing : Bool → Run → List ℕ → ℕ → ℕ → Change
 hearing stage r t w p =
-    let heard = added t w (heardWord stage) p in
     let formed = forms stage r t w p in
     record {
       clocks = r .clocks;
       views = r .views;
-      tally = cond formed (added heard w marksWord (markBit stage)) heard;
-      sent = cond formed (toCorrect (r .plan) (r .faulty) (toEach stage w (r .plan .n))) [];
+      tally = heardTally t stage w p formed;
+      sent = formedMessages (r .plan) (r .faulty) stage w formed;
     }
 
 -- a message that reaches whom it is for

@@ -9,7 +9,7 @@ use Rattle.model.specs.declared.Setup.{Setup}
 use Rattle.model.specs.Quantities.{tableClocks, rowWords, correct}
 use Rattle.model.specs.State.{State, After, runOf, refused, done}
 use Rattle.model.specs.Moves.{Entry, stay, into, entries, made}
-use Rattle.model.specs.Checks.{Check, judged, nOutside, delaysOutside, viewsOutside, faultyOutside, buffersOutside, startTooHigh, tooFarAhead}
+use Rattle.model.specs.Checks.{Check, judged, nOutside, delaysOutside, viewsOutside, faultyOutside, lengthsOutside, startTooHigh, tooFarAhead}
 
 -- "A table holds 64 start clocks; those of faulty cabinets and from n on are not read": they are 0 in the run.
 abbrev pub startClocks : Setup → List ℕ
@@ -34,12 +34,15 @@ firstEntry u p = cond (correct (u .plan) (u .faulty) p) (into 0) stay
 unfoldable pub opened : Setup → State → State
 opened u s = let b = blank u s in made b (entries (firstEntry u) (b .run) (b .tally) (u .plan .n))
 
--- "Checks 2 to 8 are for opening"
-abbrev pub openingChecks : Setup → State → List Check
-openingChecks u s =
+-- "Checks 2 to 8 are for opening", with buffers of these lengths
+abbrev pub setupChecks : Setup → ℕ → ℕ → List Check
+setupChecks u tally network =
     let p = u .plan in
-    (2, nOutside p) ∷ (3, delaysOutside p) ∷ (4, viewsOutside p) ∷ (5, faultyOutside p (u .faulty)) ∷ (6, buffersOutside p (s .tally) (s .network))
+    (2, nOutside p) ∷ (3, delaysOutside p) ∷ (4, viewsOutside p) ∷ (5, faultyOutside p (u .faulty)) ∷ (6, lengthsOutside p tally network)
     ∷ (7, startTooHigh p (u .faulty) (u .clocks)) ∷ (8, tooFarAhead p (u .faulty) (u .clocks)) ∷ []
+
+abbrev pub openingChecks : Setup → State → List Check
+openingChecks u s = setupChecks u (length (s .tally)) (length (s .network))
 
 -- a setup, with the run and the lent buffers at hand
 unfoldable pub opening : Setup → State → After

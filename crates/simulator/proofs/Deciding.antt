@@ -14,11 +14,11 @@ use Rattle.model.specs.declared.Run.{Run}
 use Rattle.model.specs.declared.Input.the-variants.{Vc as VcIn, Qc as QcIn}
 use Rattle.model.specs.Quantities.{initial}
 use Rattle.model.specs.State.{State, stateOf, withHeld, withClocks, withViews, viewStage, voteStage, viewOf, isCorrect, viewIn, processorIn, stageOf}
-use Rattle.model.specs.Moves.{Change, byView, byQuorum, forms, hearing, handling, made}
+use Rattle.model.specs.Moves.{Change, byView, byQuorum, forms, hearing, handling, made, heardTally, formedMessages}
 use Rattle.model.specs.Checks.{noProcessor, noView, namedOutside, notInitial, reachesEnd}
 use Rattle.pacemaker.specs.Steps.{movingBy}
 use Rattle.simulator.specs.declared.Reaction.{Reaction}
-use Rattle.simulator.specs.Inner.{Posts, heardBy, formedBy, Reacts, signedChange, changeBy, sentFor, Fit, seat, namedCheck, Decides}
+use Rattle.simulator.specs.Inner.{Posts, Reacts, signedChange, changeBy, sentFor, Fit, seat, namedCheck, Decides}
 use Rattle.simulator.proofs.Moving.{moved-taking, stays-below, taking-reaches}
 use Rattle.simulator.proofs.Ticking.{state-by}
 
@@ -106,8 +106,8 @@ module _ (r : Run) (t : List ℕ) (fit : Fit r) (x : Reaction) where
     ap (λ (b : Bool). record {
       clocks = r .clocks;
       views = r .views;
-      tally = heardBy t stage w p b;
-      sent = formedBy (r .plan) (r .faulty) stage w b;
+      tally = heardTally t stage w p b;
+      sent = formedMessages (r .plan) (r .faulty) stage w b;
     }) f,
   )
 

@@ -15,10 +15,10 @@ use Rattle.model.specs.declared.Sends.{Sends}
 use Rattle.model.specs.declared.Sends.the-variants.{Nothing, Vote as VoteFor, ViewAndVote}
 use Rattle.model.specs.Quantities.{lead, initial, correct}
 use Rattle.model.specs.State.{kindOf, viewIn, processorIn, addressee, added, enteredWord}
-use Rattle.model.specs.Moves.{toCorrect, certificate, toEach, entryMessages}
+use Rattle.model.specs.Moves.{toCorrect, certificate, toEach, entryMessages, formedMessages}
 use Rattle.model.specs.Processors.{messagesOf}
 use Rattle.liveness.proofs.Link.{Planned, correct-count}
-use Rattle.simulator.specs.Inner.{sentBy, enteredBy, formedBy}
+use Rattle.simulator.specs.Inner.{sentBy, enteredBy}
 
 module _ (plan : Plan) (faulty : ℕ) where
   -- whether a message goes to a correct processor
@@ -100,7 +100,7 @@ module _ (plan : Plan) (faulty : ℕ) where
   each-number ok stage w = omega (arith, each-length stage w (plan .n), correct-count plan faulty ok)
 
   pub formed-count : Planned plan faulty → (stage : Bool) (w : ℕ) (formed : Bool) (r : ℕ) → r ≡ cond formed (plan .n - size faulty) 0
-      → (r ≡ length (formedBy plan faulty stage w formed)) × (r ≤ 64)
+      → (r ≡ length (formedMessages plan faulty stage w formed)) × (r ≤ 64)
   formed-count ok stage w true r e = (e ∙ sym (each-number ok stage w), omega (arith, ok .n-most))
   formed-count ok stage w false r e = (e, omega arith)
 

@@ -30,7 +30,7 @@ use Rattle.liveness.proofs.Judging.{Passes, neither, not-ltb}
 use Rattle.liveness.proofs.Link.{Planned}
 use Rattle.liveness.proofs.FirstEntries.{Mid, mid-all}
 use Rattle.liveness.proofs.Opens.{planned}
-use Rattle.checks.specs.Setups.{setupCheck, lent}
+use Rattle.checks.specs.Setups.{setupCheck}
 use Rattle.checks.proofs.Opens.{Passed, setup-passed, setup-check}
 use Rattle.simulator.specs.declared.Reaction.{Reaction}
 use Rattle.simulator.specs.Inner.{Posts, sentBy, enteredBy, movedChange}

@@ -1,17 +1,18 @@
 -- Demand 3 of what the code hands back: start with what `open` leaves, feed any list of events to `apply`, each getting what the last one
--- left. proofs/Demands.antt has the proofs, `demand-three-of-code` and `never-unsound`.
+-- left. proofs/Demands.antt has a proof of each promise, under its name in small letters with hyphens (`demand-three-of-code`).
+use mathlib.Core.Path.{_≡_}
+use mathlib.Core.Bool.{false}
 use mathlib.Core.Logic.{_≢_}
 use mathlib.Core.List.{List, [], _∷_}
-use Prim.Native.Nat.{ℕ, zero, suc, _+_, _≤_, _<_}
+use Prim.Native.Nat.{ℕ, zero, suc, _<_}
 use lib.Dec.{T}
 use lib.ListN.{take}
 use Rattle.model.specs.declared.Event.{Event}
-use Rattle.model.specs.declared.Run.{Run}
 use Rattle.model.specs.declared.Setup.{Setup}
-use Rattle.model.specs.Quantities.{lead, correct}
-use Rattle.model.specs.State.{State, After, viewOf, checkOf, accepted}
-use Rattle.model.specs.Lists.{ClockCondition, sinceSettling, ticksSince, formedSince}
-use Rattle.liveness.specs.Promises.{settlingBound}
+use Rattle.model.specs.State.{State, After, checkOf, accepted}
+use Rattle.model.specs.Checks.{tooFarAhead}
+use Rattle.model.specs.Lists.{after, sinceSettling, ticksSince}
+use Rattle.liveness.specs.Promises.{settlingBound, Certified, Same}
 use Rattle.simulator.specs.Contracts.{Opens, Applies}
 
 -- the list es fed to `apply` from s on: hs is what the calls handed back, one for each event, as their contract says
@@ -27,27 +28,31 @@ handed s hs zero = s
 handed s [] (suc i) = s
 handed s (h ∷ hs) (suc i) = handed (h .state) hs i
 
--- demand 3's sentences of a run r that was handed back after the events es, s being what `open` left
-pub record Certifies (u : Setup) (s : State) (es : List Event) (r : Run) : Type 0 where
-  pub view : ℕ
-  pub led : T (correct (u .plan) (u .faulty) (lead (u .plan) view))
-  pub formed : T (formedSince (sinceSettling s es) view)
-  pub later : (p : ℕ) → T (correct (u .plan) (u .faulty) p) → view + 1 ≤ viewOf r p
+-- Demand 3's sentences of what was handed back after the events es, s being what `open` left of the setup u and of what was at hand before:
+-- the clock condition of the setup's plan and faulty set; the certificate; and that plan, faulty set and lengths are still the opening's.
+pub record Demanded (u : Setup) (before s : State) (es : List Event) (last : State) : Type 0 where
+  pub clocks : tooFarAhead (u .plan) (u .faulty) (last .run .clocks) ≡ false
+  pub certified : settlingBound u < ticksSince (sinceSettling s es) → Certified u s es (last .run)
+  pub same : Same u before last
 
-pub record Demanded (u : Setup) (s : State) (es : List Event) (r : Run) : Type 0 where
-  pub clocks : ClockCondition r
-  pub certified : settlingBound u < ticksSince (sinceSettling s es) → Certifies u s es r
-
--- Whatever was at hand before: if `open` hands back o and accepts, then after every number of the events fed to `apply` the sentences hold
--- of the run handed back.
+-- Whatever was at hand before: if `open` hands back o and accepts, then after every number of the events fed to `apply` they hold.
 abbrev pub DemandThreeOfCode : Type 0
 DemandThreeOfCode =
     (u : Setup) (before : State) (o : After) → Opens u before o → T (accepted (o .answer))
-    → (es : List Event) (hs : List After) → Fed (o .state) es hs → (i : ℕ) → Demanded u (o .state) (take i es) (handed (o .state) hs i .run)
+    → (es : List Event) (hs : List After) → Fed (o .state) es hs → (i : ℕ) → Demanded u before (o .state) (take i es) (handed (o .state) hs i)
 
--- and no event fed after them is refused by check 9
+-- No event fed after them is refused by check 9.
 abbrev pub NeverUnsound : Type 0
 NeverUnsound =
     (u : Setup) (before : State) (o : After) → Opens u before o → T (accepted (o .answer))
     → (es : List Event) (hs : List After) → Fed (o .state) es hs → (i : ℕ) (e : Event) (h : After) → Applies e (handed (o .state) hs i) h
     → checkOf (h .answer) ≢ 9
+
+-- What is handed back is what the definitions leave, whatever is handed in: so ticks and certificates since settling, which are defined by the
+-- events and what they leave, are those of the answers and states handed back.
+abbrev pub HandedIsAfter : Type 0
+HandedIsAfter = (s : State) (es : List Event) (hs : List After) → Fed s es hs → (i : ℕ) → handed s hs i ≡ after s (take i es)
+
+-- Every list can be fed.
+abbrev pub EveryListFed : Type 0
+EveryListFed = (s : State) (es : List Event) → (hs : List After) × Fed s es hs

@@ -16,8 +16,8 @@ use Rattle.model.specs.declared.Sends.the-variants.{Nothing, Vote as VoteFor, V
 use Rattle.model.specs.Quantities.{correct}
 use Rattle.base.specs.Scan.{some}
 use Rattle.model.specs.State.{State, After, stateOf, viewStage, voteStage, clockOf, viewOf, isCorrect, enteredWord, heardWord, marksWord, markBit, added, viewIn, processorIn, stageOf, sentAt, posted, capacity, checkOf, refused, done}
-use Rattle.model.specs.Moves.{Change, toCorrect, stay, entries, toEach, handling, advanced, arrival, made}
-use Rattle.model.specs.Checks.{judged, planOutside, faultyOutside, clockOutside, atEnd, namedOutside, notInitial, reachesEnd, overfull}
+use Rattle.model.specs.Moves.{Change, toCorrect, heardTally, formedMessages, stay, entries, toEach, handling, advanced, arrival, made}
+use Rattle.model.specs.Checks.{judged, planOutside, faultyOutside, clockOutside, atEnd, late, namedOutside, notInitial, reachesEnd, overfull}
 use Rattle.model.specs.Events.{tickOnce, Ticks}
 use Rattle.model.specs.Processors.{Moved, messagesOf, moving}
 use Rattle.pacemaker.specs.Steps.{movingBy}
@@ -41,13 +41,6 @@ enteredBy t p Nothing = t
 enteredBy t p (VoteFor w) = added t w enteredWord p
 enteredBy t p (ViewAndVote w) = added t w enteredWord p
 
--- a signature heard: the tally, and the messages, for a certificate that is formed or not
-abbrev pub heardBy : List ℕ → Bool → ℕ → ℕ → Bool → List ℕ
-heardBy t stage w p formed = cond formed (added (added t w (heardWord stage) p) w marksWord (markBit stage)) (added t w (heardWord stage) p)
-
-abbrev pub formedBy : Plan → ℕ → Bool → ℕ → Bool → List Message
-formedBy plan faulty stage w formed = cond formed (toCorrect plan faulty (toEach stage w (plan .n))) []
-
 -- ---- a reaction
 
 -- that it is what an input makes of a processor: rules 1 to 3, and check 17
@@ -70,8 +63,8 @@ abbrev pub signedChange : Run → List ℕ → Bool → ℕ → ℕ → Reaction
 signedChange r t stage w p x = record {
   clocks = r .clocks;
   views = r .views;
-  tally = heardBy t stage w p (x .formed);
-  sent = formedBy (r .plan) (r .faulty) stage w (x .formed);
+  tally = heardTally t stage w p (x .formed);
+  sent = formedMessages (r .plan) (r .faulty) stage w (x .formed);
 }
 
 abbrev pub movedChange : Run → List ℕ → ℕ → Reaction → Change
@@ -99,7 +92,7 @@ pub record Fit (r : Run) : Type 0 where
 
 -- a held message is late, once the network has settled
 abbrev pub lateAt : ℕ → ℕ → ℕ → List ℕ → ℕ → Bool
-lateAt gst delta time ws i = leb (max (sentAt ws i) gst + delta) time
+lateAt gst delta time ws i = late gst delta time (sentAt ws i)
 
 -- the processor as it stands in the run
 abbrev pub seat : Run → ℕ → Processor
@@ -163,8 +156,8 @@ pub record Decides (r : Run) (t : List ℕ) (m : Message) (x : Reaction) : Type 
 
 -- the messages of a reaction
 abbrev pub sentFor : Plan → ℕ → Message → Reaction → List Message
-sentFor plan faulty (View w p) x = formedBy plan faulty viewStage w (x .formed)
-sentFor plan faulty (Vote w p) x = formedBy plan faulty voteStage w (x .formed)
+sentFor plan faulty (View w p) x = formedMessages plan faulty viewStage w (x .formed)
+sentFor plan faulty (Vote w p) x = formedMessages plan faulty voteStage w (x .formed)
 sentFor plan faulty (Vc w p) x = sentBy plan faulty p (x .sends)
 sentFor plan faulty (Qc w p) x = sentBy plan faulty p (x .sends)
 

@@ -18,10 +18,10 @@ ghost use mathlib.Core.List.{List};
 ghost use lib.ListN.{length};
 ghost use Rattle.model.specs.Quantities.{lead, initial};
 ghost use Rattle.model.specs.State.{stateOf, handedBack, processorIn, isSignature, viewOf, capacity};
-ghost use Rattle.model.specs.Moves.{forms, handling, made};
+ghost use Rattle.model.specs.Moves.{forms, handling, made, formedMessages};
 ghost use Rattle.model.specs.Checks.{lacksForm, unsound, exists};
 ghost use Rattle.model.specs.Events.{applied};
-ghost use Rattle.simulator.specs.Inner.{Fit, Decides, ReachesCorrect, seat, namedCheck, sentBy, formedBy, signedChange, movedChange, changeBy, sentFor, finished};
+ghost use Rattle.simulator.specs.Inner.{Fit, Decides, ReachesCorrect, seat, namedCheck, sentBy, signedChange, movedChange, changeBy, sentFor, finished};
 ghost use Rattle.liveness.proofs.Link.{Planned};
 
 // A refusal: the check's number alone.
@@ -167,7 +167,7 @@ fn listen(
     tally: &mut [u64],
     network: &mut [u64],
 ) -> Run
-    requires { ⌜ (0 < run .plan .n) × (p < 64) × (run .held + length (formedBy (run .plan) (run .faulty) stage w (x .formed)) ≤ capacity (now network)) ⌝ }
+    requires { ⌜ (0 < run .plan .n) × (p < 64) × (run .held + length (formedMessages (run .plan) (run .faulty) stage w (x .formed)) ≤ capacity (now network)) ⌝ }
     ensures { λ r. ⌜ stateOf r (now (tally .exit)) (now (network .exit)) ≡ made (stateOf run (now (tally .entry)) (now (network .entry))) (signedChange run (now (tally .entry)) stage w p x) ⌝ }
 {
     let held = moves::hear(

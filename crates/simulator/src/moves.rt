@@ -11,8 +11,8 @@ ghost use lib.ListN.{length};
 ghost use Rattle.base.specs.Sets.{size};
 ghost use Rattle.model.specs.Quantities.{lead, correct};
 ghost use Rattle.model.specs.State.{enteredWord, added, addressee, capacity};
-ghost use Rattle.model.specs.Moves.{toCorrect, needed, ripe, certificate, toEach};
-ghost use Rattle.simulator.specs.Inner.{Posts, sentBy, enteredBy, heardBy, formedBy};
+ghost use Rattle.model.specs.Moves.{toCorrect, needed, ripe, certificate, toEach, heardTally, formedMessages};
+ghost use Rattle.simulator.specs.Inner.{Posts, sentBy, enteredBy};
 
 // The one door by which a message goes into the network: to a correct processor, behind the held ones. Answers how many are held then.
 pub(crate) fn send(
@@ -194,8 +194,8 @@ pub(crate) fn hear(
     formed: bool,
     time: u64,
 ) -> usize
-    requires { ⌜ (0 < plan .n) × (p < 64) × (held + length (formedBy plan faulty stage w formed) ≤ capacity (now network)) ⌝ }
-    ensures { λ r. ⌜ Posts (formedBy plan faulty stage w formed) held time (now (network .entry)) r (now (network .exit)) × (now (tally .exit) ≡ heardBy (now (tally .entry)) stage w p formed) ⌝ }
+    requires { ⌜ (0 < plan .n) × (p < 64) × (held + length (formedMessages plan faulty stage w formed) ≤ capacity (now network)) ⌝ }
+    ensures { λ r. ⌜ Posts (formedMessages plan faulty stage w formed) held time (now (network .entry)) r (now (network .exit)) × (now (tally .exit) ≡ heardTally (now (tally .entry)) stage w p formed) ⌝ }
 {
     buffers::hear(tally, stage, w, p);
     if formed {

@@ -265,7 +265,7 @@ fn count_support(setup: Setup, c: u64) -> u64
     k
 }
 
-// Whether q is correct and its clock has too few others with it.
+// Whether q is correct and too few correct clocks, its own counted, are with its clock.
 fn clock_alone(setup: Setup, q: u64) -> bool
     requires { ⌜ Within (setup .plan) × (q < setup .plan .n) ⌝ }
     ensures { λ r. ⌜ r ≡ aloneAt setup q ⌝ }

@@ -19,7 +19,7 @@ use Rattle.model.specs.Quantities.{initial, clockTime}
 use Rattle.model.specs.Moves.{Entry, stay, into}
 use Rattle.model.specs.Checks.{Check, judged, atEnd}
 use Rattle.model.specs.Processors.{Moved, Gives, messagesOf, moving, clockAt, entryBy, processorUnsound, stepChecks, stepped}
-use Rattle.pacemaker.specs.Steps.{refusing, movingBy, ending, stepping}
+use Rattle.pacemaker.specs.Steps.{refusing, movingBy, ending, stepping, Named}
 use Rattle.pacemaker.proofs.StepLaws.{ends, goes-on, certified, voted, is-stepping}
 
 -- ---- what an answer says
@@ -55,12 +55,6 @@ refused-same plan c i d r g =
     (moving-check plan (c .number) (clockAt c i) (c .view) (entryBy plan c i)) (refused-some g)
 
 -- ---- a step of a sound processor below n
-
--- the view that an input names passes checks 10 and 11
-abbrev pub Named : Plan → Input → Type 0
-Named plan Tick = Unit {0}
-Named plan (Vc w) = (w < plan .views) × (initial plan w ≡ true)
-Named plan (Qc w) = w < plan .views
 
 is-ending : (plan : Plan) (c : Processor) (i : Input) → Named plan i → ending plan c (movingBy plan c i) ≡ stepping plan c i
 is-ending plan c Tick named = refl

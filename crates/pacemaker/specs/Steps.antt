@@ -1,11 +1,14 @@
 -- A step of one processor, as far as each function of it goes.
+use mathlib.Core.Path.{_≡_}
+use mathlib.Core.Bool.{true}
 use mathlib.Core.List.{List, [], _∷_}
-use Prim.Native.Nat.{ℕ}
+use Prim.Native.Nat.{ℕ, _<_}
 use Rattle.model.specs.declared.Plan.{Plan}
 use Rattle.model.specs.declared.Message.{Message}
 use Rattle.model.specs.declared.Processor.{Processor}
 use Rattle.model.specs.declared.Input.{Input}
 use Rattle.model.specs.declared.Input.the-variants.{Tick, Vc, Qc}
+use Rattle.model.specs.Quantities.{initial}
 use Rattle.model.specs.State.{viewStage, voteStage}
 use Rattle.model.specs.Checks.{Check, judged, noView, notInitial, atEnd}
 use Rattle.model.specs.Processors.{Moved, clockAt, entryBy, moving}
@@ -35,3 +38,9 @@ viewChecks plan (Qc w) = (10, noView plan w) ∷ (11, notInitial plan voteStage 
 -- the step of a sound processor below n
 abbrev pub stepping : Plan → Processor → Input → Moved
 stepping plan c i = judged (refusing c) (viewChecks plan i) (ending plan c (movingBy plan c i))
+
+-- the view that an input names passes checks 10 and 11
+abbrev pub Named : Plan → Input → Type 0
+Named plan Tick = Unit {0}
+Named plan (Vc w) = (w < plan .views) × (initial plan w ≡ true)
+Named plan (Qc w) = w < plan .views

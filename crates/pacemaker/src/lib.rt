@@ -1,4 +1,4 @@
-// The pacemaker of one processor: rules 1 to 3 behind the checks of the processor's own face.
+// The pacemaker of one processor: rules 1 to 3 behind its own checks (document 01: at the cabinet's own face).
 use model::Input;
 use model::Plan;
 use model::Processor;
@@ -103,7 +103,7 @@ fn clock_outside(plan: Plan, processor: Processor) -> bool
         <= processor.clock
 }
 
-// Check 9, at the processor's own face.
+// Check 9 of one processor: the plan's limits, and its own clock and view.
 pub fn unsound(plan: Plan, processor: Processor) -> bool
     ensures { λ r. ⌜ r ≡ processorUnsound plan processor ⌝ }
 {
@@ -264,7 +264,7 @@ pub fn step(plan: Plan, processor: Processor, input: Input) -> Outcome
     by_input(plan, processor, input)
 }
 
-// The processor's own face: its clock and view are lent, and altered there.
+// The same on a lent record: its clock and view are altered there.
 pub fn step_in_place(plan: Plan, processor: &mut Processor, input: Input) -> Stepped
     ensures { λ r. ⌜ Gives (stepped plan (now (processor .entry)) input) (now (processor .exit)) r ⌝ }
 {

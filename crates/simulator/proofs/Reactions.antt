@@ -17,8 +17,8 @@ use Rattle.model.specs.Moves.{Entry, stay, into}
 use Rattle.model.specs.Checks.{atEnd}
 use Rattle.model.specs.Processors.{Moved, Gives, messagesOf, clockAt, entryBy, moving, processorUnsound, stepped}
 use Rattle.liveness.proofs.Answers.{no-yes}
-use Rattle.pacemaker.specs.Steps.{movingBy}
-use Rattle.pacemaker.proofs.AnswerLaws.{Named, steps, sent-before-end, refused-at-end, sent-messages, tick-clock}
+use Rattle.pacemaker.specs.Steps.{movingBy, Named}
+use Rattle.pacemaker.proofs.AnswerLaws.{steps, sent-before-end, refused-at-end, sent-messages, tick-clock}
 use Rattle.simulator.specs.declared.Reaction.{Reaction}
 use Rattle.simulator.specs.Inner.{Reacts, Arrives}
 

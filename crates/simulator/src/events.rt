@@ -19,10 +19,9 @@ ghost use lib.ListN.{length};
 ghost use Rattle.model.specs.Quantities.{lead, initial};
 ghost use Rattle.model.specs.State.{stateOf, handedBack, processorIn, isSignature, viewOf, capacity};
 ghost use Rattle.model.specs.Moves.{forms, handling, made, formedMessages};
-ghost use Rattle.model.specs.Checks.{lacksForm, unsound, exists};
+ghost use Rattle.model.specs.Checks.{lacksForm, planOutside, faultyOutside, unsound, exists};
 ghost use Rattle.model.specs.Events.{applied};
 ghost use Rattle.simulator.specs.Inner.{Fit, Decides, ReachesCorrect, seat, namedCheck, sentBy, signedChange, movedChange, changeBy, sentFor, finished};
-ghost use Rattle.liveness.proofs.Link.{Planned};
 
 // A refusal: the check's number alone.
 pub(crate) fn refuse(run: Run, check: u64) -> Applied
@@ -145,7 +144,7 @@ fn decide(run: Run, message: Message, tally: &[u64]) -> Reaction
 
 // How many messages that sends.
 fn count_sent(plan: Plan, faulty: u64, message: Message, x: Reaction) -> usize
-    requires { ⌜ Planned plan faulty ⌝ }
+    requires { ⌜ (planOutside plan ≡ false) × (faultyOutside plan faulty ≡ false) ⌝ }
     ensures { λ r. ⌜ (r ≡ length (sentFor plan faulty message x)) × (r ≤ 64) ⌝ }
 {
     let sends = x.sends;

@@ -1,5 +1,5 @@
 // The simulator: a setup is opened, and each event moves the run and the lent buffers exactly as the definitions say. Whatever is handed in gets
-// either the step or the number of the first check that fails, and then nothing has changed.
+// either the step or a refusal by the first check that fails, and a refused call has changed nothing.
 mod events;
 mod moves;
 mod opening;

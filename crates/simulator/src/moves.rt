@@ -14,7 +14,7 @@ ghost use Rattle.model.specs.State.{enteredWord, added, addressee, capacity};
 ghost use Rattle.model.specs.Moves.{toCorrect, needed, ripe, certificate, toEach, heardTally, formedMessages};
 ghost use Rattle.simulator.specs.Inner.{Posts, sentBy, enteredBy};
 
-// The one door by which a message goes into the network: to a correct processor, behind the held ones. Answers how many are held then.
+// The one way by which a message goes into the network: to a correct processor, behind the held ones. Answers how many are held then.
 pub(crate) fn send(
     network: &mut [u64],
     held: usize,

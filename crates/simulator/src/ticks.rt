@@ -22,8 +22,7 @@ ghost use Rattle.model.specs.Moves.{made, advanced, arrivals};
 ghost use Rattle.model.specs.Checks.{unsound};
 ghost use Rattle.model.specs.Events.{ticksAnswer, tickRun};
 ghost use Rattle.model.specs.Processors.{processorUnsound};
-ghost use Rattle.pacemaker.specs.Steps.{movingBy};
-ghost use Rattle.pacemaker.proofs.AnswerLaws.{Named};
+ghost use Rattle.pacemaker.specs.Steps.{movingBy, Named};
 ghost use Rattle.simulator.specs.Inner.{Reacts, Arrives, Fit, Foretells, CanTick, TickedTo, ranTo, lateAt};
 
 // Whether a message that was sent then is late, once the network has settled.

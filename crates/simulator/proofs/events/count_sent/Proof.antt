@@ -1,3 +1,4 @@
+use Rattle.simulator.proofs.Fitness.{planned-of}
 use Rattle.simulator.proofs.Sending.{formed-count, sent-count}
 use Rattle.model.specs.State.{viewStage, voteStage}
 use native.Mathlib.Omega.{arith}
@@ -13,31 +14,31 @@ enum-told : tie.Need-enum-told
 enum-told c = search needs
 
 count-formed-requires : tie.Need-count-formed-requires
-count-formed-requires c κs = (omega (arith, c .before .before .pre .faulty-few, c .before .before .pre .n-least), c .before .before .pre .n-most)
+count-formed-requires c κs = let ok = planned-of (c .before .before .args .plan) (c .before .before .args .faulty) (c .before .before .pre .0) (c .before .before .pre .1) in (omega (arith, ok .faulty-few, ok .n-least), ok .n-most)
 
 enum-told-2 : tie.Need-enum-told-2
 enum-told-2 c = search needs
 
 count-formed-requires-2 : tie.Need-count-formed-requires-2
-count-formed-requires-2 c κs = (omega (arith, c .before .before .pre .faulty-few, c .before .before .pre .n-least), c .before .before .pre .n-most)
+count-formed-requires-2 c κs = let ok = planned-of (c .before .before .args .plan) (c .before .before .args .faulty) (c .before .before .pre .0) (c .before .before .pre .1) in (omega (arith, ok .faulty-few, ok .n-least), ok .n-most)
 
 enum-known-message : tie.Need-enum-known-message
 enum-known-message c = search needs
 
 count-entry-requires : tie.Need-count-entry-requires
-count-entry-requires c κs = omega (arith, c .before .before .before .pre .n-least)
+count-entry-requires c κs = omega (arith, planned-of (c .before .before .before .args .plan) (c .before .before .before .args .faulty) (c .before .before .before .pre .0) (c .before .before .before .pre .1) .n-least)
 
 enum-known-message-2 : tie.Need-enum-known-message-2
 enum-known-message-2 c = search needs
 
 count-entry-requires-2 : tie.Need-count-entry-requires-2
-count-entry-requires-2 c κs = omega (arith, c .before .before .before .pre .n-least)
+count-entry-requires-2 c κs = omega (arith, planned-of (c .before .before .before .args .plan) (c .before .before .before .args .faulty) (c .before .before .before .pre .0) (c .before .before .before .pre .1) .n-least)
 
 returns : tie.Need-returns
-returns c = rw (c .before .enum-told .given .1) (formed-count (c .before .before .before .args .plan) (c .before .before .before .args .faulty) (c .before .before .before .pre) viewStage _ (c .before .before .before .args .x .formed) _ (c .count-formed .ensures))
+returns c = rw (c .before .enum-told .given .1) (formed-count (c .before .before .before .args .plan) (c .before .before .before .args .faulty) (planned-of (c .before .before .before .args .plan) (c .before .before .before .args .faulty) (c .before .before .before .pre .0) (c .before .before .before .pre .1)) viewStage _ (c .before .before .before .args .x .formed) _ (c .count-formed .ensures))
 
 returns-2 : tie.Need-returns-2
-returns-2 c = rw (c .before .enum-told2 .given .1) (formed-count (c .before .before .before .args .plan) (c .before .before .before .args .faulty) (c .before .before .before .pre) voteStage _ (c .before .before .before .args .x .formed) _ (c .count-formed2 .ensures))
+returns-2 c = rw (c .before .enum-told2 .given .1) (formed-count (c .before .before .before .args .plan) (c .before .before .before .args .faulty) (planned-of (c .before .before .before .args .plan) (c .before .before .before .args .faulty) (c .before .before .before .pre .0) (c .before .before .before .pre .1)) voteStage _ (c .before .before .before .args .x .formed) _ (c .count-formed2 .ensures))
 
 returns-3 : tie.Need-returns-3
 returns-3 c = rw (c .before .before .message .given .1) (sent-count (c .before .before .before .before .args .plan) (c .before .before .before .before .args .faulty) _ (c .before .before .before .before .args .x .sends) _ (c .count-entry .ensures))

@@ -68,7 +68,7 @@ unfolding delivering without reachesEnd
 returns-3 c = let s : State = stateOf (c .before .before .before .before .before .before .before .before .before .before .before .before .before .args .run) (c .before .before .before .before .before .before .before .before .before .before .before .before .before .args .tally .now) (c .before .before .before .before .before .before .before .before .before .before .before .before .before .args .network .now) in let named : namedCheck (c .before .before .before .before .before .before .before .before .before .before .before .before .before .args .run .plan) (c .before .before .before .before .before .before .before .before .before .before .before .before .before .args .message) ≡ 0 = omega (arith, c .before .before .before .before .before .before .before .before .before .before .check-named .ensures, c .before .before .before .before .before .before .before .before .before .if1 .left) in refused-is s _ 17 (c .refuse3 .ensures) ∙ deliver-ends s (c .before .before .before .before .before .before .before .before .before .before .before .before .before .args .message) (c .before .before .before .before .before .before .before .before .before .before .before .before .before .pre) named (found-some s (c .before .before .before .before .before .before .before .before .before .before .before .before .before .args .message) (room-of s (c .before .before .before .before .before .before .before .before .before .before .before .before .before .pre)) _ (c .before .before .before .before .before .before .before .find .ensures) (c .before .before .before .before .before .if2 .left)) (sym (c .before .before .decide .ensures .ends) ∙ c .before .if3 .taken)
 
 count-sent-requires : tie.Need-count-sent-requires
-count-sent-requires c κs = let s : State = stateOf (c .before .before .before .before .before .before .before .before .before .before .before .before .args .run) (c .before .before .before .before .before .before .before .before .before .before .before .before .args .tally .now) (c .before .before .before .before .before .before .before .before .before .before .before .before .args .network .now) in let f = fit-of s (c .before .before .before .before .before .before .before .before .before .before .before .before .pre) in planned-of (c .before .before .before .before .before .before .before .before .before .before .before .before .args .run .plan) (c .before .before .before .before .before .before .before .before .before .before .before .before .args .run .faulty) (f .plan) (f .faulty)
+count-sent-requires c κs = let s : State = stateOf (c .before .before .before .before .before .before .before .before .before .before .before .before .args .run) (c .before .before .before .before .before .before .before .before .before .before .before .before .args .tally .now) (c .before .before .before .before .before .before .before .before .before .before .before .before .args .network .now) in let f = fit-of s (c .before .before .before .before .before .before .before .before .before .before .before .before .pre) in (f .plan, f .faulty)
 
 add-if4 : tie.Need-add-if4
 add-if4 c = omega (arith, c .before .count-sent .ensures .1, room-of (stateOf (c .before .before .before .before .before .before .before .before .before .before .before .before .before .before .args .run) (c .before .before .before .before .before .before .before .before .before .before .before .before .before .before .args .tally .now) (c .before .before .before .before .before .before .before .before .before .before .before .before .before .before .args .network .now)) (c .before .before .before .before .before .before .before .before .before .before .before .before .before .before .pre), c .before .before .before .before .before .before .before .before .before .before .before .before .before .before .good)

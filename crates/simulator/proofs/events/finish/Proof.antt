@@ -30,7 +30,7 @@ returns : tie.Need-returns
 returns c = let s : State = stateOf (c .before .before .before .before .before .before .args .run) (c .before .before .before .before .before .before .args .tally .now) (c .before .before .before .before .before .before .args .network .now) in refused-is s _ 17 (c .refuse .ensures) ∙ finish-ends s (handling (c .before .before .before .before .before .before .args .run) (c .before .before .before .before .before .before .args .tally .now) (c .before .before .before .before .before .before .args .message)) (sym (c .before .before .decide .ensures .ends) ∙ c .before .if1 .taken)
 
 count-sent-requires : tie.Need-count-sent-requires
-count-sent-requires c κs = let s : State = stateOf (c .before .before .before .before .before .args .run) (c .before .before .before .before .before .args .tally .now) (c .before .before .before .before .before .args .network .now) in let f = fit-of s (c .before .before .before .before .before .pre .0) in planned-of (c .before .before .before .before .before .args .run .plan) (c .before .before .before .before .before .args .run .faulty) (f .plan) (f .faulty)
+count-sent-requires c κs = let s : State = stateOf (c .before .before .before .before .before .args .run) (c .before .before .before .before .before .args .tally .now) (c .before .before .before .before .before .args .network .now) in let f = fit-of s (c .before .before .before .before .before .pre .0) in (f .plan, f .faulty)
 
 add-if2 : tie.Need-add-if2
 add-if2 c = omega (arith, c .before .count-sent .ensures .1, room-of (stateOf (c .before .before .before .before .before .before .before .args .run) (c .before .before .before .before .before .before .before .args .tally .now) (c .before .before .before .before .before .before .before .args .network .now)) (c .before .before .before .before .before .before .before .pre .0), c .before .before .before .before .before .before .before .good)

@@ -7,7 +7,7 @@ ghost use lib.ListN.{length, take, drop};
 ghost use Rattle.base.specs.Scan.{first};
 ghost use Rattle.base.specs.Sets.{member};
 ghost use Rattle.model.specs.Quantities.{messageWords};
-ghost use Rattle.model.specs.State.{word, added, enteredWord, heardWord, marksWord, markBit, posted, removed, sentAt};
+ghost use Rattle.model.specs.State.{capacity, word, added, enteredWord, heardWord, marksWord, markBit, posted, removed, sentAt};
 ghost use Rattle.model.specs.Checks.{isAt};
 ghost use Rattle.buffers.specs.Tally.{place, addedWord};
 ghost use Rattle.buffers.specs.Network.{appended, found, taken, moved};
@@ -131,6 +131,13 @@ pub fn mark(tally: &mut [u64], stage: bool, w: u64)
     ensures { λ r. ⌜ now (tally .exit) ≡ added (now (tally .entry)) w marksWord (markBit stage) ⌝ }
 {
     add(tally, w, MARKS, mark_bit(stage));
+}
+
+// How many messages fit.
+pub fn capacity(network: &[u64]) -> usize
+    ensures { λ r. ⌜ r ≡ capacity (now (network .entry)) ⌝ }
+{
+    network.len() / MESSAGE_WORDS
 }
 
 // The message behind the h that are held.

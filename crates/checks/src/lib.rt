@@ -193,7 +193,7 @@ pub fn unsound(run: Run, tally: &[u64], network: &[u64]) -> bool
     if run.plan.clock_time(run.plan.views) <= run.time {
         return true;
     }
-    if network.len() / buffers::MESSAGE_WORDS < run.held {
+    if buffers::capacity(network) < run.held {
         return true;
     }
     if messages_unsound(run.plan, run.faulty, run.time, run.held, network) {

@@ -41,7 +41,7 @@ abbrev pub DemandThree : Type 0
 DemandThree =
     (u : Setup) (before : State) → T (accepted (opening u before .answer)) → (es : List Event) (i : ℕ)
     → ClockCondition (after (opening u before .state) (take i es) .run)
-    × (settlingBound u < ticksSince (sinceSettling (opening u before .state) (take i es)) 
+    × (settlingBound u < ticksSince (sinceSettling (opening u before .state) (take i es))
     → Certified u (opening u before .state) (take i es) (after (opening u before .state) (take i es) .run))
 
 -- ---- what goes with it, from an accepted opening on

@@ -244,9 +244,7 @@ pub(crate) fn deliver(run: Run, message: Message, tally: &mut [u64], network: &m
     if x.ends {
         return refuse(run, 17);
     }
-    if network.len() / buffers::MESSAGE_WORDS
-        < next.held + count_sent(run.plan, run.faulty, message, x)
-    {
+    if buffers::capacity(network) < next.held + count_sent(run.plan, run.faulty, message, x) {
         return refuse(run, 18);
     }
     buffers::remove(network, run.held, i);
@@ -262,9 +260,7 @@ fn finish(run: Run, message: Message, tally: &mut [u64], network: &mut [u64]) ->
     if x.ends {
         return refuse(run, 17);
     }
-    if network.len() / buffers::MESSAGE_WORDS
-        < run.held + count_sent(run.plan, run.faulty, message, x)
-    {
+    if buffers::capacity(network) < run.held + count_sent(run.plan, run.faulty, message, x) {
         return refuse(run, 18);
     }
     done(perform(run, message, x, tally, network))

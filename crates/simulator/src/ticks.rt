@@ -202,7 +202,7 @@ fn tick_once(run: Run, tally: &mut [u64], network: &mut [u64]) -> Ticked
             check: 17,
         };
     }
-    if network.len() / buffers::MESSAGE_WORDS < run.held + due.sent {
+    if buffers::capacity(network) < run.held + due.sent {
         return Ticked {
             run: run,
             check: 18,

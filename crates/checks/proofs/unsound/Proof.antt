@@ -1,14 +1,16 @@
-use Rattle.checks.proofs.Nine.{by-limits, by-clocks, by-time, by-room, by-messages, by-settling, by-tail, plan-passes, time-over, time-before}
-use Rattle.checks.proofs.Held.{some-flying}
-use Rattle.pacemaker.proofs.LimitLaws.{within}
-use Rattle.model.specs.State.{stateOf, capacity}
-use borrow.Author.Tests.{lt-ltb, le-ltb}
-use native.Mathlib.Omega.{arith}
 use mathlib.Core.Path.{sym, _∙_}
+use native.Mathlib.Omega.{arith}
+use borrow.Author.Tests.{lt-ltb, le-ltb}
+use Rattle.model.specs.State.{stateOf, capacity}
+use Rattle.pacemaker.proofs.LimitLaws.{within}
+use Rattle.checks.proofs.Held.{some-flying}
+use Rattle.checks.proofs.Nine.{by-limits, by-clocks, by-time, by-room, by-messages, by-settling, by-tail, plan-passes, time-over, time-before}
+use borrow.Author.Needs.{needs}
 use Rattle.checks.proofs.unsound.Statement.{statement}
 use Rattle.checks.proofs.unsound.Tie as tie
 use Rattle.checks.proofs.unsound.Reads as reads
 use Rattle.checks.proofs.unsound.Lts as lts
+use Rattle.buffers.proofs.capacity.Reads as capacity-reads
 use Rattle.checks.proofs.clocks_unsound.Reads as clocks-unsound-reads
 use Rattle.checks.proofs.limits_broken.Reads as limits-broken-reads
 use Rattle.checks.proofs.messages_unsound.Reads as messages-unsound-reads
@@ -34,29 +36,32 @@ clock-time-requires c κs = tt
 returns-3 : tie.Need-returns-3
 returns-3 c = by-time (stateOf (c .before .before .before .before .before .before .before .before .before .args .run) (c .before .before .before .before .before .before .before .before .before .args .tally .now) (c .before .before .before .before .before .before .before .before .before .args .network .now)) (sym (c .before .before .before .before .before .before .limits-broken .ensures) ∙ c .before .before .before .before .before .if1 .left) (sym (c .before .before .before .before .clocks-unsound .ensures) ∙ c .before .before .before .if2 .left) (time-over (c .before .before .before .before .before .before .before .before .before .args .run .plan) (c .before .before .before .before .before .before .before .before .before .args .run .time) (c .before .before .clock-time .result) (plan-passes (stateOf (c .before .before .before .before .before .before .before .before .before .args .run) (c .before .before .before .before .before .before .before .before .before .args .tally .now) (c .before .before .before .before .before .before .before .before .before .args .network .now)) (sym (c .before .before .before .before .before .before .limits-broken .ensures) ∙ c .before .before .before .before .before .if1 .left)) (c .before .before .clock-time .ensures) (omega (arith, c .if3 .taken)))
 
+capacity-requires : tie.Need-capacity-requires
+capacity-requires c κs = search needs
+
 returns-4 : tie.Need-returns-4
-returns-4 c = by-room (stateOf (c .before .before .before .before .before .before .before .before .before .before .before .args .run) (c .before .before .before .before .before .before .before .before .before .before .before .args .tally .now) (c .before .before .before .before .before .before .before .before .before .before .before .args .network .now)) (sym (c .before .before .before .before .before .before .before .before .limits-broken .ensures) ∙ c .before .before .before .before .before .before .before .if1 .left) (sym (c .before .before .before .before .before .before .clocks-unsound .ensures) ∙ c .before .before .before .before .before .if2 .left) (time-before (c .before .before .before .before .before .before .before .before .before .before .before .args .run .plan) (c .before .before .before .before .before .before .before .before .before .before .before .args .run .time) (c .before .before .before .before .clock-time .result) (plan-passes (stateOf (c .before .before .before .before .before .before .before .before .before .before .before .args .run) (c .before .before .before .before .before .before .before .before .before .before .before .args .tally .now) (c .before .before .before .before .before .before .before .before .before .before .before .args .network .now)) (sym (c .before .before .before .before .before .before .before .before .limits-broken .ensures) ∙ c .before .before .before .before .before .before .before .if1 .left)) (c .before .before .before .before .clock-time .ensures) (omega (arith, c .before .before .if3 .left))) (lt-ltb (capacity (c .before .before .before .before .before .before .before .before .before .before .before .args .network .now)) (c .before .before .before .before .before .before .before .before .before .before .before .args .run .held) (omega (arith, c .if4 .taken)))
+returns-4 c = by-room (stateOf (c .before .before .before .before .before .before .before .before .before .before .before .before .args .run) (c .before .before .before .before .before .before .before .before .before .before .before .before .args .tally .now) (c .before .before .before .before .before .before .before .before .before .before .before .before .args .network .now)) (sym (c .before .before .before .before .before .before .before .before .before .limits-broken .ensures) ∙ c .before .before .before .before .before .before .before .before .if1 .left) (sym (c .before .before .before .before .before .before .before .clocks-unsound .ensures) ∙ c .before .before .before .before .before .before .if2 .left) (time-before (c .before .before .before .before .before .before .before .before .before .before .before .before .args .run .plan) (c .before .before .before .before .before .before .before .before .before .before .before .before .args .run .time) (c .before .before .before .before .before .clock-time .result) (plan-passes (stateOf (c .before .before .before .before .before .before .before .before .before .before .before .before .args .run) (c .before .before .before .before .before .before .before .before .before .before .before .before .args .tally .now) (c .before .before .before .before .before .before .before .before .before .before .before .before .args .network .now)) (sym (c .before .before .before .before .before .before .before .before .before .limits-broken .ensures) ∙ c .before .before .before .before .before .before .before .before .if1 .left)) (c .before .before .before .before .before .clock-time .ensures) (omega (arith, c .before .before .before .if3 .left))) (lt-ltb (capacity (c .before .before .before .before .before .before .before .before .before .before .before .before .args .network .now)) (c .before .before .before .before .before .before .before .before .before .before .before .before .args .run .held) (omega (arith, c .before .before .capacity .ensures, c .if4 .taken)))
 
 messages-unsound-requires : tie.Need-messages-unsound-requires
-messages-unsound-requires c κs = (within (c .before .before .before .before .before .before .before .before .before .before .before .args .run .plan) (plan-passes (stateOf (c .before .before .before .before .before .before .before .before .before .before .before .args .run) (c .before .before .before .before .before .before .before .before .before .before .before .args .tally .now) (c .before .before .before .before .before .before .before .before .before .before .before .args .network .now)) (sym (c .before .before .before .before .before .before .before .before .limits-broken .ensures) ∙ c .before .before .before .before .before .before .before .if1 .left)), omega (arith, c .if4 .left))
+messages-unsound-requires c κs = (within (c .before .before .before .before .before .before .before .before .before .before .before .before .args .run .plan) (plan-passes (stateOf (c .before .before .before .before .before .before .before .before .before .before .before .before .args .run) (c .before .before .before .before .before .before .before .before .before .before .before .before .args .tally .now) (c .before .before .before .before .before .before .before .before .before .before .before .before .args .network .now)) (sym (c .before .before .before .before .before .before .before .before .before .limits-broken .ensures) ∙ c .before .before .before .before .before .before .before .before .if1 .left)), omega (arith, c .before .before .capacity .ensures, c .if4 .left))
 
 returns-5 : tie.Need-returns-5
-returns-5 c = by-messages (stateOf (c .before .before .before .before .before .before .before .before .before .before .before .before .before .args .run) (c .before .before .before .before .before .before .before .before .before .before .before .before .before .args .tally .now) (c .before .before .before .before .before .before .before .before .before .before .before .before .before .args .network .now)) (sym (c .before .before .before .before .before .before .before .before .before .before .limits-broken .ensures) ∙ c .before .before .before .before .before .before .before .before .before .if1 .left) (sym (c .before .before .before .before .before .before .before .before .clocks-unsound .ensures) ∙ c .before .before .before .before .before .before .before .if2 .left) (time-before (c .before .before .before .before .before .before .before .before .before .before .before .before .before .args .run .plan) (c .before .before .before .before .before .before .before .before .before .before .before .before .before .args .run .time) (c .before .before .before .before .before .before .clock-time .result) (plan-passes (stateOf (c .before .before .before .before .before .before .before .before .before .before .before .before .before .args .run) (c .before .before .before .before .before .before .before .before .before .before .before .before .before .args .tally .now) (c .before .before .before .before .before .before .before .before .before .before .before .before .before .args .network .now)) (sym (c .before .before .before .before .before .before .before .before .before .before .limits-broken .ensures) ∙ c .before .before .before .before .before .before .before .before .before .if1 .left)) (c .before .before .before .before .before .before .clock-time .ensures) (omega (arith, c .before .before .before .before .if3 .left))) (le-ltb (capacity (c .before .before .before .before .before .before .before .before .before .before .before .before .before .args .network .now)) (c .before .before .before .before .before .before .before .before .before .before .before .before .before .args .run .held) (omega (arith, c .before .before .if4 .left))) (sym (some-flying (c .before .before .before .before .before .before .before .before .before .before .before .before .before .args .run) (c .before .before .before .before .before .before .before .before .before .before .before .before .before .args .tally .now) (c .before .before .before .before .before .before .before .before .before .before .before .before .before .args .network .now) (c .before .before .before .before .before .before .before .before .before .before .before .before .before .args .run .held)) ∙ sym (c .before .messages-unsound .ensures) ∙ c .if5 .taken)
+returns-5 c = by-messages (stateOf (c .before .before .before .before .before .before .before .before .before .before .before .before .before .before .args .run) (c .before .before .before .before .before .before .before .before .before .before .before .before .before .before .args .tally .now) (c .before .before .before .before .before .before .before .before .before .before .before .before .before .before .args .network .now)) (sym (c .before .before .before .before .before .before .before .before .before .before .before .limits-broken .ensures) ∙ c .before .before .before .before .before .before .before .before .before .before .if1 .left) (sym (c .before .before .before .before .before .before .before .before .before .clocks-unsound .ensures) ∙ c .before .before .before .before .before .before .before .before .if2 .left) (time-before (c .before .before .before .before .before .before .before .before .before .before .before .before .before .before .args .run .plan) (c .before .before .before .before .before .before .before .before .before .before .before .before .before .before .args .run .time) (c .before .before .before .before .before .before .before .clock-time .result) (plan-passes (stateOf (c .before .before .before .before .before .before .before .before .before .before .before .before .before .before .args .run) (c .before .before .before .before .before .before .before .before .before .before .before .before .before .before .args .tally .now) (c .before .before .before .before .before .before .before .before .before .before .before .before .before .before .args .network .now)) (sym (c .before .before .before .before .before .before .before .before .before .before .before .limits-broken .ensures) ∙ c .before .before .before .before .before .before .before .before .before .before .if1 .left)) (c .before .before .before .before .before .before .before .clock-time .ensures) (omega (arith, c .before .before .before .before .before .if3 .left))) (le-ltb (capacity (c .before .before .before .before .before .before .before .before .before .before .before .before .before .before .args .network .now)) (c .before .before .before .before .before .before .before .before .before .before .before .before .before .before .args .run .held) (omega (arith, c .before .before .before .before .capacity .ensures, c .before .before .if4 .left))) (sym (some-flying (c .before .before .before .before .before .before .before .before .before .before .before .before .before .before .args .run) (c .before .before .before .before .before .before .before .before .before .before .before .before .before .before .args .tally .now) (c .before .before .before .before .before .before .before .before .before .before .before .before .before .before .args .network .now) (c .before .before .before .before .before .before .before .before .before .before .before .before .before .before .args .run .held)) ∙ sym (c .before .messages-unsound .ensures) ∙ c .if5 .taken)
 
 settling-unsound-requires : tie.Need-settling-unsound-requires
 settling-unsound-requires c κs = tt
 
 returns-6 : tie.Need-returns-6
-returns-6 c = by-settling (stateOf (c .before .before .before .before .before .before .before .before .before .before .before .before .before .before .before .args .run) (c .before .before .before .before .before .before .before .before .before .before .before .before .before .before .before .args .tally .now) (c .before .before .before .before .before .before .before .before .before .before .before .before .before .before .before .args .network .now)) (sym (c .before .before .before .before .before .before .before .before .before .before .before .before .limits-broken .ensures) ∙ c .before .before .before .before .before .before .before .before .before .before .before .if1 .left) (sym (c .before .before .before .before .before .before .before .before .before .before .clocks-unsound .ensures) ∙ c .before .before .before .before .before .before .before .before .before .if2 .left) (time-before (c .before .before .before .before .before .before .before .before .before .before .before .before .before .before .before .args .run .plan) (c .before .before .before .before .before .before .before .before .before .before .before .before .before .before .before .args .run .time) (c .before .before .before .before .before .before .before .before .clock-time .result) (plan-passes (stateOf (c .before .before .before .before .before .before .before .before .before .before .before .before .before .before .before .args .run) (c .before .before .before .before .before .before .before .before .before .before .before .before .before .before .before .args .tally .now) (c .before .before .before .before .before .before .before .before .before .before .before .before .before .before .before .args .network .now)) (sym (c .before .before .before .before .before .before .before .before .before .before .before .before .limits-broken .ensures) ∙ c .before .before .before .before .before .before .before .before .before .before .before .if1 .left)) (c .before .before .before .before .before .before .before .before .clock-time .ensures) (omega (arith, c .before .before .before .before .before .before .if3 .left))) (le-ltb (capacity (c .before .before .before .before .before .before .before .before .before .before .before .before .before .before .before .args .network .now)) (c .before .before .before .before .before .before .before .before .before .before .before .before .before .before .before .args .run .held) (omega (arith, c .before .before .before .before .if4 .left))) (sym (some-flying (c .before .before .before .before .before .before .before .before .before .before .before .before .before .before .before .args .run) (c .before .before .before .before .before .before .before .before .before .before .before .before .before .before .before .args .tally .now) (c .before .before .before .before .before .before .before .before .before .before .before .before .before .before .before .args .network .now) (c .before .before .before .before .before .before .before .before .before .before .before .before .before .before .before .args .run .held)) ∙ sym (c .before .before .before .messages-unsound .ensures) ∙ c .before .before .if5 .left) (sym (c .before .settling-unsound .ensures) ∙ c .if6 .taken)
+returns-6 c = by-settling (stateOf (c .before .before .before .before .before .before .before .before .before .before .before .before .before .before .before .before .args .run) (c .before .before .before .before .before .before .before .before .before .before .before .before .before .before .before .before .args .tally .now) (c .before .before .before .before .before .before .before .before .before .before .before .before .before .before .before .before .args .network .now)) (sym (c .before .before .before .before .before .before .before .before .before .before .before .before .before .limits-broken .ensures) ∙ c .before .before .before .before .before .before .before .before .before .before .before .before .if1 .left) (sym (c .before .before .before .before .before .before .before .before .before .before .before .clocks-unsound .ensures) ∙ c .before .before .before .before .before .before .before .before .before .before .if2 .left) (time-before (c .before .before .before .before .before .before .before .before .before .before .before .before .before .before .before .before .args .run .plan) (c .before .before .before .before .before .before .before .before .before .before .before .before .before .before .before .before .args .run .time) (c .before .before .before .before .before .before .before .before .before .clock-time .result) (plan-passes (stateOf (c .before .before .before .before .before .before .before .before .before .before .before .before .before .before .before .before .args .run) (c .before .before .before .before .before .before .before .before .before .before .before .before .before .before .before .before .args .tally .now) (c .before .before .before .before .before .before .before .before .before .before .before .before .before .before .before .before .args .network .now)) (sym (c .before .before .before .before .before .before .before .before .before .before .before .before .before .limits-broken .ensures) ∙ c .before .before .before .before .before .before .before .before .before .before .before .before .if1 .left)) (c .before .before .before .before .before .before .before .before .before .clock-time .ensures) (omega (arith, c .before .before .before .before .before .before .before .if3 .left))) (le-ltb (capacity (c .before .before .before .before .before .before .before .before .before .before .before .before .before .before .before .before .args .network .now)) (c .before .before .before .before .before .before .before .before .before .before .before .before .before .before .before .before .args .run .held) (omega (arith, c .before .before .before .before .before .before .capacity .ensures, c .before .before .before .before .if4 .left))) (sym (some-flying (c .before .before .before .before .before .before .before .before .before .before .before .before .before .before .before .before .args .run) (c .before .before .before .before .before .before .before .before .before .before .before .before .before .before .before .before .args .tally .now) (c .before .before .before .before .before .before .before .before .before .before .before .before .before .before .before .before .args .network .now) (c .before .before .before .before .before .before .before .before .before .before .before .before .before .before .before .before .args .run .held)) ∙ sym (c .before .before .before .messages-unsound .ensures) ∙ c .before .before .if5 .left) (sym (c .before .settling-unsound .ensures) ∙ c .if6 .taken)
 
 mul-tail-not-zero : tie.Need-mul-tail-not-zero
-mul-tail-not-zero c = omega (arith, c .before .before .before .before .before .if4 .left, c .before .before .before .before .before .before .before .before .before .before .before .before .before .before .before .before .good)
+mul-tail-not-zero c = omega (arith, c .before .before .before .before .before .before .before .capacity .ensures, c .before .before .before .before .before .if4 .left, c .before .before .before .before .before .before .before .before .before .before .before .before .before .before .before .before .before .good)
 
 tail-not-zero-requires : tie.Need-tail-not-zero-requires
 tail-not-zero-requires c κs = tt
 
 returns-7 : tie.Need-returns-7
-returns-7 c = c .tail-not-zero .ensures ∙ by-tail (stateOf (c .before .before .before .before .before .before .before .before .before .before .before .before .before .before .before .before .before .args .run) (c .before .before .before .before .before .before .before .before .before .before .before .before .before .before .before .before .before .args .tally .now) (c .before .before .before .before .before .before .before .before .before .before .before .before .before .before .before .before .before .args .network .now)) (sym (c .before .before .before .before .before .before .before .before .before .before .before .before .before .before .limits-broken .ensures) ∙ c .before .before .before .before .before .before .before .before .before .before .before .before .before .if1 .left) (sym (c .before .before .before .before .before .before .before .before .before .before .before .before .clocks-unsound .ensures) ∙ c .before .before .before .before .before .before .before .before .before .before .before .if2 .left) (time-before (c .before .before .before .before .before .before .before .before .before .before .before .before .before .before .before .before .before .args .run .plan) (c .before .before .before .before .before .before .before .before .before .before .before .before .before .before .before .before .before .args .run .time) (c .before .before .before .before .before .before .before .before .before .before .clock-time .result) (plan-passes (stateOf (c .before .before .before .before .before .before .before .before .before .before .before .before .before .before .before .before .before .args .run) (c .before .before .before .before .before .before .before .before .before .before .before .before .before .before .before .before .before .args .tally .now) (c .before .before .before .before .before .before .before .before .before .before .before .before .before .before .before .before .before .args .network .now)) (sym (c .before .before .before .before .before .before .before .before .before .before .before .before .before .before .limits-broken .ensures) ∙ c .before .before .before .before .before .before .before .before .before .before .before .before .before .if1 .left)) (c .before .before .before .before .before .before .before .before .before .before .clock-time .ensures) (omega (arith, c .before .before .before .before .before .before .before .before .if3 .left))) (le-ltb (capacity (c .before .before .before .before .before .before .before .before .before .before .before .before .before .before .before .before .before .args .network .now)) (c .before .before .before .before .before .before .before .before .before .before .before .before .before .before .before .before .before .args .run .held) (omega (arith, c .before .before .before .before .before .before .if4 .left))) (sym (some-flying (c .before .before .before .before .before .before .before .before .before .before .before .before .before .before .before .before .before .args .run) (c .before .before .before .before .before .before .before .before .before .before .before .before .before .before .before .before .before .args .tally .now) (c .before .before .before .before .before .before .before .before .before .before .before .before .before .before .before .before .before .args .network .now) (c .before .before .before .before .before .before .before .before .before .before .before .before .before .before .before .before .before .args .run .held)) ∙ sym (c .before .before .before .before .before .messages-unsound .ensures) ∙ c .before .before .before .before .if5 .left) (sym (c .before .before .before .settling-unsound .ensures) ∙ c .before .before .if6 .left)
+returns-7 c = c .tail-not-zero .ensures ∙ by-tail (stateOf (c .before .before .before .before .before .before .before .before .before .before .before .before .before .before .before .before .before .before .args .run) (c .before .before .before .before .before .before .before .before .before .before .before .before .before .before .before .before .before .before .args .tally .now) (c .before .before .before .before .before .before .before .before .before .before .before .before .before .before .before .before .before .before .args .network .now)) (sym (c .before .before .before .before .before .before .before .before .before .before .before .before .before .before .before .limits-broken .ensures) ∙ c .before .before .before .before .before .before .before .before .before .before .before .before .before .before .if1 .left) (sym (c .before .before .before .before .before .before .before .before .before .before .before .before .before .clocks-unsound .ensures) ∙ c .before .before .before .before .before .before .before .before .before .before .before .before .if2 .left) (time-before (c .before .before .before .before .before .before .before .before .before .before .before .before .before .before .before .before .before .before .args .run .plan) (c .before .before .before .before .before .before .before .before .before .before .before .before .before .before .before .before .before .before .args .run .time) (c .before .before .before .before .before .before .before .before .before .before .before .clock-time .result) (plan-passes (stateOf (c .before .before .before .before .before .before .before .before .before .before .before .before .before .before .before .before .before .before .args .run) (c .before .before .before .before .before .before .before .before .before .before .before .before .before .before .before .before .before .before .args .tally .now) (c .before .before .before .before .before .before .before .before .before .before .before .before .before .before .before .before .before .before .args .network .now)) (sym (c .before .before .before .before .before .before .before .before .before .before .before .before .before .before .before .limits-broken .ensures) ∙ c .before .before .before .before .before .before .before .before .before .before .before .before .before .before .if1 .left)) (c .before .before .before .before .before .before .before .before .before .before .before .clock-time .ensures) (omega (arith, c .before .before .before .before .before .before .before .before .before .if3 .left))) (le-ltb (capacity (c .before .before .before .before .before .before .before .before .before .before .before .before .before .before .before .before .before .before .args .network .now)) (c .before .before .before .before .before .before .before .before .before .before .before .before .before .before .before .before .before .before .args .run .held) (omega (arith, c .before .before .before .before .before .before .before .before .capacity .ensures, c .before .before .before .before .before .before .if4 .left))) (sym (some-flying (c .before .before .before .before .before .before .before .before .before .before .before .before .before .before .before .before .before .before .args .run) (c .before .before .before .before .before .before .before .before .before .before .before .before .before .before .before .before .before .before .args .tally .now) (c .before .before .before .before .before .before .before .before .before .before .before .before .before .before .before .before .before .before .args .network .now) (c .before .before .before .before .before .before .before .before .before .before .before .before .before .before .before .before .before .before .args .run .held)) ∙ sym (c .before .before .before .before .before .messages-unsound .ensures) ∙ c .before .before .before .before .if5 .left) (sym (c .before .before .before .settling-unsound .ensures) ∙ c .before .before .if6 .left)
 
 pub unsound-spec : {M : Type 1} → statement M
 unsound-spec =
@@ -68,6 +73,7 @@ unsound-spec =
     returns-2
     clock-time-requires
     returns-3
+    capacity-requires
     returns-4
     messages-unsound-requires
     returns-5

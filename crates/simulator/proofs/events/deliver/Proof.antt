@@ -1,23 +1,24 @@
-use Rattle.simulator.proofs.Happening.{refused-is, done-is, deliver-named, deliver-missing, deliver-ends, deliver-full, deliver-done, decided-over, decided-fits}
-use Rattle.simulator.proofs.Delivery.{fit-held, found-none, found-some, without-is, capacity-without, held-reaches}
-use Rattle.simulator.proofs.Deciding.{named-low}
-use Rattle.simulator.proofs.Fitness.{fit-of, room-of, planned-of}
-use Rattle.simulator.specs.Inner.{namedCheck}
-use Rattle.pacemaker.proofs.LimitLaws.{within}
-use Rattle.model.specs.Events.{without, delivering}
-use Rattle.model.specs.Checks.{reachesEnd}
-use Rattle.model.specs.Moves.{made}
-use Rattle.model.specs.State.{State, stateOf, withHeld, capacity}
-use lib.ListN.{length}
-use lib.Dec.{ltb}
-use native.Mathlib.Omega.{arith}
-use Prim.Native.Nat.{ℕ, _+_, _-_}
-use mathlib.Core.Path.{_≡_, _∙_, ap, sym}
 use borrow.Author.Needs.{needs}
+use mathlib.Core.Path.{_≡_, _∙_, ap, sym}
+use Prim.Native.Nat.{ℕ, _+_, _-_}
+use native.Mathlib.Omega.{arith}
+use lib.Dec.{ltb}
+use lib.ListN.{length}
+use Rattle.model.specs.State.{State, stateOf, withHeld, capacity}
+use Rattle.model.specs.Moves.{made}
+use Rattle.model.specs.Checks.{reachesEnd}
+use Rattle.model.specs.Events.{without, delivering}
+use Rattle.pacemaker.proofs.LimitLaws.{within}
+use Rattle.simulator.specs.Inner.{namedCheck}
+use Rattle.simulator.proofs.Fitness.{fit-of, room-of, planned-of}
+use Rattle.simulator.proofs.Deciding.{named-low}
+use Rattle.simulator.proofs.Delivery.{fit-held, found-none, found-some, without-is, capacity-without, held-reaches}
+use Rattle.simulator.proofs.Happening.{refused-is, done-is, deliver-named, deliver-missing, deliver-ends, deliver-full, deliver-done, decided-over, decided-fits}
 use Rattle.simulator.proofs.events.deliver.Statement.{statement}
 use Rattle.simulator.proofs.events.deliver.Tie as tie
 use Rattle.simulator.proofs.events.deliver.Reads as reads
 use Rattle.simulator.proofs.events.deliver.Lts as lts
+use Rattle.buffers.proofs.capacity.Reads as capacity-reads
 use Rattle.buffers.proofs.find.Reads as find-reads
 use Rattle.buffers.proofs.remove.Reads as remove-reads
 use Rattle.simulator.proofs.events.check_named.Reads as check-named-reads
@@ -67,11 +68,14 @@ returns-3 : tie.Need-returns-3
 unfolding delivering without reachesEnd
 returns-3 c = let s : State = stateOf (c .before .before .before .before .before .before .before .before .before .before .before .before .before .args .run) (c .before .before .before .before .before .before .before .before .before .before .before .before .before .args .tally .now) (c .before .before .before .before .before .before .before .before .before .before .before .before .before .args .network .now) in let named : namedCheck (c .before .before .before .before .before .before .before .before .before .before .before .before .before .args .run .plan) (c .before .before .before .before .before .before .before .before .before .before .before .before .before .args .message) ≡ 0 = omega (arith, c .before .before .before .before .before .before .before .before .before .before .check-named .ensures, c .before .before .before .before .before .before .before .before .before .if1 .left) in refused-is s _ 17 (c .refuse3 .ensures) ∙ deliver-ends s (c .before .before .before .before .before .before .before .before .before .before .before .before .before .args .message) (c .before .before .before .before .before .before .before .before .before .before .before .before .before .pre) named (found-some s (c .before .before .before .before .before .before .before .before .before .before .before .before .before .args .message) (room-of s (c .before .before .before .before .before .before .before .before .before .before .before .before .before .pre)) _ (c .before .before .before .before .before .before .before .find .ensures) (c .before .before .before .before .before .if2 .left)) (sym (c .before .before .decide .ensures .ends) ∙ c .before .if3 .taken)
 
+capacity-requires : tie.Need-capacity-requires
+capacity-requires c κs = search needs
+
 count-sent-requires : tie.Need-count-sent-requires
-count-sent-requires c κs = let s : State = stateOf (c .before .before .before .before .before .before .before .before .before .before .before .before .args .run) (c .before .before .before .before .before .before .before .before .before .before .before .before .args .tally .now) (c .before .before .before .before .before .before .before .before .before .before .before .before .args .network .now) in let f = fit-of s (c .before .before .before .before .before .before .before .before .before .before .before .before .pre) in (f .plan, f .faulty)
+count-sent-requires c κs = let s : State = stateOf (c .before .before .before .before .before .before .before .before .before .before .before .before .before .before .args .run) (c .before .before .before .before .before .before .before .before .before .before .before .before .before .before .args .tally .now) (c .before .before .before .before .before .before .before .before .before .before .before .before .before .before .args .network .now) in let f = fit-of s (c .before .before .before .before .before .before .before .before .before .before .before .before .before .before .pre) in (f .plan, f .faulty)
 
 add-if4 : tie.Need-add-if4
-add-if4 c = omega (arith, c .before .count-sent .ensures .1, room-of (stateOf (c .before .before .before .before .before .before .before .before .before .before .before .before .before .before .args .run) (c .before .before .before .before .before .before .before .before .before .before .before .before .before .before .args .tally .now) (c .before .before .before .before .before .before .before .before .before .before .before .before .before .before .args .network .now)) (c .before .before .before .before .before .before .before .before .before .before .before .before .before .before .pre), c .before .before .before .before .before .before .before .before .before .before .before .before .before .before .good)
+add-if4 c = omega (arith, c .before .count-sent .ensures .1, room-of (stateOf (c .before .before .before .before .before .before .before .before .before .before .before .before .before .before .before .before .args .run) (c .before .before .before .before .before .before .before .before .before .before .before .before .before .before .before .before .args .tally .now) (c .before .before .before .before .before .before .before .before .before .before .before .before .before .before .before .before .args .network .now)) (c .before .before .before .before .before .before .before .before .before .before .before .before .before .before .before .before .pre), c .before .before .before .before .before .before .before .before .before .before .before .before .before .before .before .before .good)
 
 refuse-requires-4 : tie.Need-refuse-requires-4
 refuse-requires-4 c κs = search needs
@@ -84,13 +88,13 @@ same-length-5 c = search needs
 
 returns-4 : tie.Need-returns-4
 unfolding delivering without reachesEnd
-returns-4 c = let s : State = stateOf (c .before .before .before .before .before .before .before .before .before .before .before .before .before .before .before .before .args .run) (c .before .before .before .before .before .before .before .before .before .before .before .before .before .before .before .before .args .tally .now) (c .before .before .before .before .before .before .before .before .before .before .before .before .before .before .before .before .args .network .now) in let named : namedCheck (c .before .before .before .before .before .before .before .before .before .before .before .before .before .before .before .before .args .run .plan) (c .before .before .before .before .before .before .before .before .before .before .before .before .before .before .before .before .args .message) ≡ 0 = omega (arith, c .before .before .before .before .before .before .before .before .before .before .before .before .before .check-named .ensures, c .before .before .before .before .before .before .before .before .before .before .before .before .if1 .left) in refused-is s _ 18 (c .refuse4 .ensures) ∙ deliver-full s (c .before .before .before .before .before .before .before .before .before .before .before .before .before .before .before .before .args .message) (c .before .before .before .before .before .before .before .before .before .before .before .before .before .before .before .before .pre) named (found-some s (c .before .before .before .before .before .before .before .before .before .before .before .before .before .before .before .before .args .message) (room-of s (c .before .before .before .before .before .before .before .before .before .before .before .before .before .before .before .before .pre)) _ (c .before .before .before .before .before .before .before .before .before .before .find .ensures) (c .before .before .before .before .before .before .before .before .if2 .left)) (sym (c .before .before .before .before .before .decide .ensures .ends) ∙ c .before .before .before .before .if3 .left) (ap (λ (k : ℕ). ltb k (c .before .before .before .before .before .before .before .before .before .before .before .before .before .before .before .before .args .run .held - 1 + length (delivering s (c .before .before .before .before .before .before .before .before .before .before .before .before .before .before .before .before .args .message) .sent))) (capacity-without s (c .before .before .before .before .before .before .before .before .before .before .before .before .before .before .before .before .args .message) (room-of s (c .before .before .before .before .before .before .before .before .before .before .before .before .before .before .before .before .pre)) _ (c .before .before .before .before .before .before .before .before .before .before .find .ensures) (c .before .before .before .before .before .before .before .before .if2 .left)) ∙ decided-over (withHeld (c .before .before .before .before .before .before .before .before .before .before .before .before .before .before .before .before .args .run .held - 1) (c .before .before .before .before .before .before .before .before .before .before .before .before .before .before .before .before .args .run)) (c .before .before .before .before .before .before .before .before .before .before .before .before .before .before .before .before .args .tally .now) (c .before .before .before .before .before .before .before .before .before .before .before .before .before .before .before .before .args .message) _ (c .before .before .before .before .before .decide .ensures) (c .before .before .before .before .if3 .left) (c .before .before .before .before .before .before .before .before .before .before .before .before .before .before .before .before .args .run .held - 1) _ (c .before .before .before .before .before .before .before .before .before .before .before .before .before .before .before .before .args .network .now) (c .before .before .before .count-sent .ensures .0) (c .before .if4 .taken))
+returns-4 c = let s : State = stateOf (c .before .before .before .before .before .before .before .before .before .before .before .before .before .before .before .before .before .before .args .run) (c .before .before .before .before .before .before .before .before .before .before .before .before .before .before .before .before .before .before .args .tally .now) (c .before .before .before .before .before .before .before .before .before .before .before .before .before .before .before .before .before .before .args .network .now) in let named : namedCheck (c .before .before .before .before .before .before .before .before .before .before .before .before .before .before .before .before .before .before .args .run .plan) (c .before .before .before .before .before .before .before .before .before .before .before .before .before .before .before .before .before .before .args .message) ≡ 0 = omega (arith, c .before .before .before .before .before .before .before .before .before .before .before .before .before .before .before .check-named .ensures, c .before .before .before .before .before .before .before .before .before .before .before .before .before .before .if1 .left) in refused-is s _ 18 (c .refuse4 .ensures) ∙ deliver-full s (c .before .before .before .before .before .before .before .before .before .before .before .before .before .before .before .before .before .before .args .message) (c .before .before .before .before .before .before .before .before .before .before .before .before .before .before .before .before .before .before .pre) named (found-some s (c .before .before .before .before .before .before .before .before .before .before .before .before .before .before .before .before .before .before .args .message) (room-of s (c .before .before .before .before .before .before .before .before .before .before .before .before .before .before .before .before .before .before .pre)) _ (c .before .before .before .before .before .before .before .before .before .before .before .before .find .ensures) (c .before .before .before .before .before .before .before .before .before .before .if2 .left)) (sym (c .before .before .before .before .before .before .before .decide .ensures .ends) ∙ c .before .before .before .before .before .before .if3 .left) (ap (λ (k : ℕ). ltb k (c .before .before .before .before .before .before .before .before .before .before .before .before .before .before .before .before .before .before .args .run .held - 1 + length (delivering s (c .before .before .before .before .before .before .before .before .before .before .before .before .before .before .before .before .before .before .args .message) .sent))) (capacity-without s (c .before .before .before .before .before .before .before .before .before .before .before .before .before .before .before .before .before .before .args .message) (room-of s (c .before .before .before .before .before .before .before .before .before .before .before .before .before .before .before .before .before .before .pre)) _ (c .before .before .before .before .before .before .before .before .before .before .before .before .find .ensures) (c .before .before .before .before .before .before .before .before .before .before .if2 .left)) ∙ decided-over (withHeld (c .before .before .before .before .before .before .before .before .before .before .before .before .before .before .before .before .before .before .args .run .held - 1) (c .before .before .before .before .before .before .before .before .before .before .before .before .before .before .before .before .before .before .args .run)) (c .before .before .before .before .before .before .before .before .before .before .before .before .before .before .before .before .before .before .args .tally .now) (c .before .before .before .before .before .before .before .before .before .before .before .before .before .before .before .before .before .before .args .message) _ (c .before .before .before .before .before .before .before .decide .ensures) (c .before .before .before .before .before .before .if3 .left) (c .before .before .before .before .before .before .before .before .before .before .before .before .before .before .before .before .before .before .args .run .held - 1) _ (c .before .before .before .before .before .before .before .before .before .before .before .before .before .before .before .before .before .before .args .network .now) (c .before .before .before .count-sent .ensures .0) (rw (c .before .before .before .before .capacity .ensures) at (c .before .if4 .taken)))
 
 remove-requires : tie.Need-remove-requires
 remove-requires c κs = search needs
 
 perform-requires : tie.Need-perform-requires
-perform-requires c κs = let s : State = stateOf (c .before .before .before .before .before .before .before .before .before .before .before .before .before .before .before .before .before .before .before .before .before .args .run) (c .before .before .before .before .before .before .before .before .before .before .before .before .before .before .before .before .before .before .before .before .before .args .tally .now) (c .before .before .before .before .before .before .before .before .before .before .before .before .before .before .before .before .before .before .before .before .before .args .network .now) in let named : namedCheck (c .before .before .before .before .before .before .before .before .before .before .before .before .before .before .before .before .before .before .before .before .before .args .run .plan) (c .before .before .before .before .before .before .before .before .before .before .before .before .before .before .before .before .before .before .before .before .before .args .message) ≡ 0 = omega (arith, c .before .before .before .before .before .before .before .before .before .before .before .before .before .before .before .before .before .before .check-named .ensures, c .before .before .before .before .before .before .before .before .before .before .before .before .before .before .before .before .before .if1 .left) in let f = fit-of s (c .before .before .before .before .before .before .before .before .before .before .before .before .before .before .before .before .before .before .before .before .before .pre) in let w = without-is s (c .before .before .before .before .before .before .before .before .before .before .before .before .before .before .before .before .before .before .before .before .before .args .message) (room-of s (c .before .before .before .before .before .before .before .before .before .before .before .before .before .before .before .before .before .before .before .before .before .pre)) _ (c .before .before .before .before .before .before .before .before .before .before .before .before .before .before .before .find .ensures) (c .before .before .before .before .before .before .before .before .before .before .before .before .before .if2 .left) _ (c .before .before .before .before .remove .ensures) in (omega (arith, within (c .before .before .before .before .before .before .before .before .before .before .before .before .before .before .before .before .before .before .before .before .before .args .run .plan) (f .plan) .n-least), omega (arith, within (c .before .before .before .before .before .before .before .before .before .before .before .before .before .before .before .before .before .before .before .before .before .args .run .plan) (f .plan) .n-most, named-low (c .before .before .before .before .before .before .before .before .before .before .before .before .before .before .before .before .before .before .before .before .before .args .run .plan) (c .before .before .before .before .before .before .before .before .before .before .before .before .before .before .before .before .before .before .before .before .before .args .message) named .0), omega (arith, c .before .before .before .before .before .before .before .before .count-sent .ensures .0, c .before .before .before .before .before .before .if4 .left, ap (λ (x : State). capacity (x .network)) w, capacity-without s (c .before .before .before .before .before .before .before .before .before .before .before .before .before .before .before .before .before .before .before .before .before .args .message) (room-of s (c .before .before .before .before .before .before .before .before .before .before .before .before .before .before .before .before .before .before .before .before .before .pre)) _ (c .before .before .before .before .before .before .before .before .before .before .before .before .before .before .before .find .ensures) (c .before .before .before .before .before .before .before .before .before .before .before .before .before .if2 .left)))
+perform-requires c κs = let s : State = stateOf (c .before .before .before .before .before .before .before .before .before .before .before .before .before .before .before .before .before .before .before .before .before .before .before .args .run) (c .before .before .before .before .before .before .before .before .before .before .before .before .before .before .before .before .before .before .before .before .before .before .before .args .tally .now) (c .before .before .before .before .before .before .before .before .before .before .before .before .before .before .before .before .before .before .before .before .before .before .before .args .network .now) in let named : namedCheck (c .before .before .before .before .before .before .before .before .before .before .before .before .before .before .before .before .before .before .before .before .before .before .before .args .run .plan) (c .before .before .before .before .before .before .before .before .before .before .before .before .before .before .before .before .before .before .before .before .before .before .before .args .message) ≡ 0 = omega (arith, c .before .before .before .before .before .before .before .before .before .before .before .before .before .before .before .before .before .before .before .before .check-named .ensures, c .before .before .before .before .before .before .before .before .before .before .before .before .before .before .before .before .before .before .before .if1 .left) in let f = fit-of s (c .before .before .before .before .before .before .before .before .before .before .before .before .before .before .before .before .before .before .before .before .before .before .before .pre) in let w = without-is s (c .before .before .before .before .before .before .before .before .before .before .before .before .before .before .before .before .before .before .before .before .before .before .before .args .message) (room-of s (c .before .before .before .before .before .before .before .before .before .before .before .before .before .before .before .before .before .before .before .before .before .before .before .pre)) _ (c .before .before .before .before .before .before .before .before .before .before .before .before .before .before .before .before .before .find .ensures) (c .before .before .before .before .before .before .before .before .before .before .before .before .before .before .before .if2 .left) _ (c .before .before .before .before .remove .ensures) in (omega (arith, within (c .before .before .before .before .before .before .before .before .before .before .before .before .before .before .before .before .before .before .before .before .before .before .before .args .run .plan) (f .plan) .n-least), omega (arith, within (c .before .before .before .before .before .before .before .before .before .before .before .before .before .before .before .before .before .before .before .before .before .before .before .args .run .plan) (f .plan) .n-most, named-low (c .before .before .before .before .before .before .before .before .before .before .before .before .before .before .before .before .before .before .before .before .before .before .before .args .run .plan) (c .before .before .before .before .before .before .before .before .before .before .before .before .before .before .before .before .before .before .before .before .before .before .before .args .message) named .0), omega (arith, c .before .before .before .before .before .before .before .before .count-sent .ensures .0, c .before .before .before .before .before .before .before .before .before .capacity .ensures, c .before .before .before .before .before .before .if4 .left, ap (λ (x : State). capacity (x .network)) w, capacity-without s (c .before .before .before .before .before .before .before .before .before .before .before .before .before .before .before .before .before .before .before .before .before .before .before .args .message) (room-of s (c .before .before .before .before .before .before .before .before .before .before .before .before .before .before .before .before .before .before .before .before .before .before .before .pre)) _ (c .before .before .before .before .before .before .before .before .before .before .before .before .before .before .before .before .before .find .ensures) (c .before .before .before .before .before .before .before .before .before .before .before .before .before .before .before .if2 .left)))
 
 done-requires : tie.Need-done-requires
 done-requires c κs = search needs
@@ -103,7 +107,7 @@ same-length-7 c = search needs
 
 returns-5 : tie.Need-returns-5
 unfolding delivering without reachesEnd
-returns-5 c = let s : State = stateOf (c .before .before .before .before .before .before .before .before .before .before .before .before .before .before .before .before .before .before .before .before .before .before .before .before .before .before .before .args .run) (c .before .before .before .before .before .before .before .before .before .before .before .before .before .before .before .before .before .before .before .before .before .before .before .before .before .before .before .args .tally .now) (c .before .before .before .before .before .before .before .before .before .before .before .before .before .before .before .before .before .before .before .before .before .before .before .before .before .before .before .args .network .now) in let named : namedCheck (c .before .before .before .before .before .before .before .before .before .before .before .before .before .before .before .before .before .before .before .before .before .before .before .before .before .before .before .args .run .plan) (c .before .before .before .before .before .before .before .before .before .before .before .before .before .before .before .before .before .before .before .before .before .before .before .before .before .before .before .args .message) ≡ 0 = omega (arith, c .before .before .before .before .before .before .before .before .before .before .before .before .before .before .before .before .before .before .before .before .before .before .before .before .check-named .ensures, c .before .before .before .before .before .before .before .before .before .before .before .before .before .before .before .before .before .before .before .before .before .before .before .if1 .left) in let w = without-is s (c .before .before .before .before .before .before .before .before .before .before .before .before .before .before .before .before .before .before .before .before .before .before .before .before .before .before .before .args .message) (room-of s (c .before .before .before .before .before .before .before .before .before .before .before .before .before .before .before .before .before .before .before .before .before .before .before .before .before .before .before .pre)) _ (c .before .before .before .before .before .before .before .before .before .before .before .before .before .before .before .before .before .before .before .before .before .find .ensures) (c .before .before .before .before .before .before .before .before .before .before .before .before .before .before .before .before .before .before .before .if2 .left) _ (c .before .before .before .before .before .before .before .before .before .before .remove .ensures) in done-is (made (without s (c .before .before .before .before .before .before .before .before .before .before .before .before .before .before .before .before .before .before .before .before .before .before .before .before .before .before .before .args .message)) (delivering s (c .before .before .before .before .before .before .before .before .before .before .before .before .before .before .before .before .before .before .before .before .before .before .before .before .before .before .before .args .message))) _ _ _ _ (c .done .ensures) (c .before .before .before .before .before .perform .ensures ∙ ap (made (stateOf (withHeld (c .before .before .before .before .before .before .before .before .before .before .before .before .before .before .before .before .before .before .before .before .before .before .before .before .before .before .before .args .run .held - 1) (c .before .before .before .before .before .before .before .before .before .before .before .before .before .before .before .before .before .before .before .before .before .before .before .before .before .before .before .args .run)) (c .before .before .before .before .before .before .before .before .before .before .before .before .before .before .before .before .before .before .before .before .before .before .before .before .before .before .before .args .tally .now) _)) (c .before .before .before .before .before .before .before .before .before .before .before .before .before .before .before .before .decide .ensures .change (c .before .before .before .before .before .before .before .before .before .before .before .before .before .before .before .if3 .left)) ∙ ap (λ (x : State). made x (delivering s (c .before .before .before .before .before .before .before .before .before .before .before .before .before .before .before .before .before .before .before .before .before .before .before .before .before .before .before .args .message))) w) ∙ deliver-done s (c .before .before .before .before .before .before .before .before .before .before .before .before .before .before .before .before .before .before .before .before .before .before .before .before .before .before .before .args .message) (c .before .before .before .before .before .before .before .before .before .before .before .before .before .before .before .before .before .before .before .before .before .before .before .before .before .before .before .pre) named (found-some s (c .before .before .before .before .before .before .before .before .before .before .before .before .before .before .before .before .before .before .before .before .before .before .before .before .before .before .before .args .message) (room-of s (c .before .before .before .before .before .before .before .before .before .before .before .before .before .before .before .before .before .before .before .before .before .before .before .before .before .before .before .pre)) _ (c .before .before .before .before .before .before .before .before .before .before .before .before .before .before .before .before .before .before .before .before .before .find .ensures) (c .before .before .before .before .before .before .before .before .before .before .before .before .before .before .before .before .before .before .before .if2 .left)) (sym (c .before .before .before .before .before .before .before .before .before .before .before .before .before .before .before .before .decide .ensures .ends) ∙ c .before .before .before .before .before .before .before .before .before .before .before .before .before .before .before .if3 .left) (ap (λ (k : ℕ). ltb k (c .before .before .before .before .before .before .before .before .before .before .before .before .before .before .before .before .before .before .before .before .before .before .before .before .before .before .before .args .run .held - 1 + length (delivering s (c .before .before .before .before .before .before .before .before .before .before .before .before .before .before .before .before .before .before .before .before .before .before .before .before .before .before .before .args .message) .sent))) (capacity-without s (c .before .before .before .before .before .before .before .before .before .before .before .before .before .before .before .before .before .before .before .before .before .before .before .before .before .before .before .args .message) (room-of s (c .before .before .before .before .before .before .before .before .before .before .before .before .before .before .before .before .before .before .before .before .before .before .before .before .before .before .before .pre)) _ (c .before .before .before .before .before .before .before .before .before .before .before .before .before .before .before .before .before .before .before .before .before .find .ensures) (c .before .before .before .before .before .before .before .before .before .before .before .before .before .before .before .before .before .before .before .if2 .left)) ∙ decided-fits (withHeld (c .before .before .before .before .before .before .before .before .before .before .before .before .before .before .before .before .before .before .before .before .before .before .before .before .before .before .before .args .run .held - 1) (c .before .before .before .before .before .before .before .before .before .before .before .before .before .before .before .before .before .before .before .before .before .before .before .before .before .before .before .args .run)) (c .before .before .before .before .before .before .before .before .before .before .before .before .before .before .before .before .before .before .before .before .before .before .before .before .before .before .before .args .tally .now) (c .before .before .before .before .before .before .before .before .before .before .before .before .before .before .before .before .before .before .before .before .before .before .before .before .before .before .before .args .message) _ (c .before .before .before .before .before .before .before .before .before .before .before .before .before .before .before .before .decide .ensures) (c .before .before .before .before .before .before .before .before .before .before .before .before .before .before .before .if3 .left) (c .before .before .before .before .before .before .before .before .before .before .before .before .before .before .before .before .before .before .before .before .before .before .before .before .before .before .before .args .run .held - 1) _ (c .before .before .before .before .before .before .before .before .before .before .before .before .before .before .before .before .before .before .before .before .before .before .before .before .before .before .before .args .network .now) (c .before .before .before .before .before .before .before .before .before .before .before .before .before .before .count-sent .ensures .0) (c .before .before .before .before .before .before .before .before .before .before .before .before .if4 .left))
+returns-5 c = let s : State = stateOf (c .before .before .before .before .before .before .before .before .before .before .before .before .before .before .before .before .before .before .before .before .before .before .before .before .before .before .before .before .before .args .run) (c .before .before .before .before .before .before .before .before .before .before .before .before .before .before .before .before .before .before .before .before .before .before .before .before .before .before .before .before .before .args .tally .now) (c .before .before .before .before .before .before .before .before .before .before .before .before .before .before .before .before .before .before .before .before .before .before .before .before .before .before .before .before .before .args .network .now) in let named : namedCheck (c .before .before .before .before .before .before .before .before .before .before .before .before .before .before .before .before .before .before .before .before .before .before .before .before .before .before .before .before .before .args .run .plan) (c .before .before .before .before .before .before .before .before .before .before .before .before .before .before .before .before .before .before .before .before .before .before .before .before .before .before .before .before .before .args .message) ≡ 0 = omega (arith, c .before .before .before .before .before .before .before .before .before .before .before .before .before .before .before .before .before .before .before .before .before .before .before .before .before .before .check-named .ensures, c .before .before .before .before .before .before .before .before .before .before .before .before .before .before .before .before .before .before .before .before .before .before .before .before .before .if1 .left) in let w = without-is s (c .before .before .before .before .before .before .before .before .before .before .before .before .before .before .before .before .before .before .before .before .before .before .before .before .before .before .before .before .before .args .message) (room-of s (c .before .before .before .before .before .before .before .before .before .before .before .before .before .before .before .before .before .before .before .before .before .before .before .before .before .before .before .before .before .pre)) _ (c .before .before .before .before .before .before .before .before .before .before .before .before .before .before .before .before .before .before .before .before .before .before .before .find .ensures) (c .before .before .before .before .before .before .before .before .before .before .before .before .before .before .before .before .before .before .before .before .before .if2 .left) _ (c .before .before .before .before .before .before .before .before .before .before .remove .ensures) in done-is (made (without s (c .before .before .before .before .before .before .before .before .before .before .before .before .before .before .before .before .before .before .before .before .before .before .before .before .before .before .before .before .before .args .message)) (delivering s (c .before .before .before .before .before .before .before .before .before .before .before .before .before .before .before .before .before .before .before .before .before .before .before .before .before .before .before .before .before .args .message))) _ _ _ _ (c .done .ensures) (c .before .before .before .before .before .perform .ensures ∙ ap (made (stateOf (withHeld (c .before .before .before .before .before .before .before .before .before .before .before .before .before .before .before .before .before .before .before .before .before .before .before .before .before .before .before .before .before .args .run .held - 1) (c .before .before .before .before .before .before .before .before .before .before .before .before .before .before .before .before .before .before .before .before .before .before .before .before .before .before .before .before .before .args .run)) (c .before .before .before .before .before .before .before .before .before .before .before .before .before .before .before .before .before .before .before .before .before .before .before .before .before .before .before .before .before .args .tally .now) _)) (c .before .before .before .before .before .before .before .before .before .before .before .before .before .before .before .before .before .before .decide .ensures .change (c .before .before .before .before .before .before .before .before .before .before .before .before .before .before .before .before .before .if3 .left)) ∙ ap (λ (x : State). made x (delivering s (c .before .before .before .before .before .before .before .before .before .before .before .before .before .before .before .before .before .before .before .before .before .before .before .before .before .before .before .before .before .args .message))) w) ∙ deliver-done s (c .before .before .before .before .before .before .before .before .before .before .before .before .before .before .before .before .before .before .before .before .before .before .before .before .before .before .before .before .before .args .message) (c .before .before .before .before .before .before .before .before .before .before .before .before .before .before .before .before .before .before .before .before .before .before .before .before .before .before .before .before .before .pre) named (found-some s (c .before .before .before .before .before .before .before .before .before .before .before .before .before .before .before .before .before .before .before .before .before .before .before .before .before .before .before .before .before .args .message) (room-of s (c .before .before .before .before .before .before .before .before .before .before .before .before .before .before .before .before .before .before .before .before .before .before .before .before .before .before .before .before .before .pre)) _ (c .before .before .before .before .before .before .before .before .before .before .before .before .before .before .before .before .before .before .before .before .before .before .before .find .ensures) (c .before .before .before .before .before .before .before .before .before .before .before .before .before .before .before .before .before .before .before .before .before .if2 .left)) (sym (c .before .before .before .before .before .before .before .before .before .before .before .before .before .before .before .before .before .before .decide .ensures .ends) ∙ c .before .before .before .before .before .before .before .before .before .before .before .before .before .before .before .before .before .if3 .left) (ap (λ (k : ℕ). ltb k (c .before .before .before .before .before .before .before .before .before .before .before .before .before .before .before .before .before .before .before .before .before .before .before .before .before .before .before .before .before .args .run .held - 1 + length (delivering s (c .before .before .before .before .before .before .before .before .before .before .before .before .before .before .before .before .before .before .before .before .before .before .before .before .before .before .before .before .before .args .message) .sent))) (capacity-without s (c .before .before .before .before .before .before .before .before .before .before .before .before .before .before .before .before .before .before .before .before .before .before .before .before .before .before .before .before .before .args .message) (room-of s (c .before .before .before .before .before .before .before .before .before .before .before .before .before .before .before .before .before .before .before .before .before .before .before .before .before .before .before .before .before .pre)) _ (c .before .before .before .before .before .before .before .before .before .before .before .before .before .before .before .before .before .before .before .before .before .before .before .find .ensures) (c .before .before .before .before .before .before .before .before .before .before .before .before .before .before .before .before .before .before .before .before .before .if2 .left)) ∙ decided-fits (withHeld (c .before .before .before .before .before .before .before .before .before .before .before .before .before .before .before .before .before .before .before .before .before .before .before .before .before .before .before .before .before .args .run .held - 1) (c .before .before .before .before .before .before .before .before .before .before .before .before .before .before .before .before .before .before .before .before .before .before .before .before .before .before .before .before .before .args .run)) (c .before .before .before .before .before .before .before .before .before .before .before .before .before .before .before .before .before .before .before .before .before .before .before .before .before .before .before .before .before .args .tally .now) (c .before .before .before .before .before .before .before .before .before .before .before .before .before .before .before .before .before .before .before .before .before .before .before .before .before .before .before .before .before .args .message) _ (c .before .before .before .before .before .before .before .before .before .before .before .before .before .before .before .before .before .before .decide .ensures) (c .before .before .before .before .before .before .before .before .before .before .before .before .before .before .before .before .before .if3 .left) (c .before .before .before .before .before .before .before .before .before .before .before .before .before .before .before .before .before .before .before .before .before .before .before .before .before .before .before .before .before .args .run .held - 1) _ (c .before .before .before .before .before .before .before .before .before .before .before .before .before .before .before .before .before .before .before .before .before .before .before .before .before .before .before .before .before .args .network .now) (c .before .before .before .before .before .before .before .before .before .before .before .before .before .before .count-sent .ensures .0) (rw (c .before .before .before .before .before .before .before .before .before .before .before .before .before .before .before .capacity .ensures) at (c .before .before .before .before .before .before .before .before .before .before .before .before .if4 .left)))
 
 pub deliver-spec : {M : Type 1} → statement M
 deliver-spec =
@@ -122,6 +126,7 @@ deliver-spec =
     same-length-2
     same-length-3
     returns-3
+    capacity-requires
     count-sent-requires
     add-if4
     refuse-requires-4

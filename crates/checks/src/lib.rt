@@ -190,7 +190,7 @@ pub fn unsound(run: Run, tally: &[u64], network: &[u64]) -> bool
     if clocks_unsound(run) {
         return true;
     }
-    if run.plan.clock_time(run.plan.views) <= run.time {
+    if run.plan.end_time() <= run.time {
         return true;
     }
     if buffers::capacity(network) < run.held {
@@ -211,7 +211,7 @@ fn clock_too_high(plan: Plan, faulty: u64, q: u64, clock: u64) -> bool
     ensures { λ r. ⌜ r ≡ (correct plan faulty q && leb (startLimit plan) clock) ⌝ }
 {
     if plan.correct(faulty, q) {
-        return plan.clock_time(Plan::VIEWS_PER_LEADER) <= clock;
+        return plan.start_limit() <= clock;
     }
     false
 }

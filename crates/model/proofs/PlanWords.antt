@@ -10,9 +10,9 @@ use borrow.Author.Tests.{lt-ltb, le-ltb, ne-eqb}
 use Rattle.base.specs.Choice.{cond-yes, cond-no}
 use Rattle.model.specs.declared.Plan.{Plan}
 use Rattle.model.specs.declared.Message.{Message}
-use Rattle.model.specs.Quantities.{lead, clockTime}
+use Rattle.model.specs.Quantities.{lead, nextInitial, clockTime}
 use Rattle.model.specs.State.{kindOf, viewIn, processorIn, lastSignatureKind, addressee}
-use Rattle.model.specs.PlanFunctions.{leadWord, addresseeWord, clockTimeWord}
+use Rattle.model.specs.PlanFunctions.{leadWord, addresseeWord, nextInitialWord, clockTimeWord}
 
 pub small-fits : (w g : ℕ) → w < 4294967296 → g < 4294967296 → w * g < 2 ^ 64
 small-fits w g l h = let a : w ≤ 4294967295 = omega arith in let b : g ≤ 4294967295 = omega arith in omega (arith, mul-le-mul a b)
@@ -33,6 +33,12 @@ pub time-zero : (plan : Plan) (w : ℕ) → plan .gamma ≡ 0 → 0 ≡ clockTim
 time-zero plan w e =
     let z : w * plan .gamma ≡ 0 = ap (λ (g : ℕ). w * g) e ∙ mul-zero w in
     sym z ∙ time-fits plan w (omega arith)
+
+pub next-fits : (plan : Plan) (w : ℕ) → nextInitial plan w < 2 ^ 64 → nextInitial plan w ≡ nextInitialWord plan w
+next-fits plan w l = cond-yes (ltb (nextInitial plan w) (2 ^ 64)) (nextInitial plan w) (nextInitial plan w) (2 ^ 64 - 1) (lt-ltb _ _ l) refl
+
+pub next-large : (plan : Plan) (w : ℕ) → 2 ^ 64 ≤ nextInitial plan w → 18446744073709551615 ≡ nextInitialWord plan w
+next-large plan w l = cond-no (ltb (nextInitial plan w) (2 ^ 64)) 18446744073709551615 (nextInitial plan w) (2 ^ 64 - 1) (le-ltb _ _ l) refl
 
 -- where there are processors one of them leads
 pub lead-fits : (plan : Plan) (w : ℕ) → 0 < plan .n → leadWord plan w ≡ lead plan w

@@ -4,7 +4,7 @@ use Prim.Native.Nat.{ℕ, _-_, _^_}
 use lib.Dec.{eqb, leb, ltb}
 use Rattle.model.specs.declared.Plan.{Plan}
 use Rattle.model.specs.declared.Message.{Message}
-use Rattle.model.specs.Quantities.{lead, clockTime}
+use Rattle.model.specs.Quantities.{lead, nextInitial, clockTime}
 use Rattle.model.specs.State.{kindOf, viewIn, processorIn, lastSignatureKind}
 
 -- of no processors none leads: 0
@@ -15,6 +15,9 @@ leadWord p w = cond (eqb (p .n) 0) 0 (lead p w)
 abbrev pub addresseeWord : Plan → Message → ℕ
 addresseeWord p m = cond (leb (kindOf m) lastSignatureKind) (leadWord p (viewIn m)) (processorIn m)
 
--- a clock time of 2^64 or more is the largest number
+-- a number of 2^64 or more is the largest number
+abbrev pub nextInitialWord : Plan → ℕ → ℕ
+nextInitialWord p w = cond (ltb (nextInitial p w) (2 ^ 64)) (nextInitial p w) (2 ^ 64 - 1)
+
 abbrev pub clockTimeWord : Plan → ℕ → ℕ
 clockTimeWord p w = cond (ltb (clockTime p w) (2 ^ 64)) (clockTime p w) (2 ^ 64 - 1)

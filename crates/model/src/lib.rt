@@ -1,8 +1,8 @@
 // The types of the product, declared once, and the functions of the plan.
 ghost use mathlib.Core.Path.{_≡_};
-ghost use Rattle.model.specs.Quantities.{tolerated, initial, correct};
+ghost use Rattle.model.specs.Quantities.{tolerated, perLeader, initial, correct};
 ghost use Rattle.model.specs.State.{kindOf, viewIn, processorIn, stageOf};
-ghost use Rattle.model.specs.PlanFunctions.{leadWord, clockTimeWord, addresseeWord};
+ghost use Rattle.model.specs.PlanFunctions.{leadWord, nextInitialWord, clockTimeWord, addresseeWord};
 
 // The protocol's parameters (document 01: the plan): processors, delay, slot, view limit.
 pub struct Plan {
@@ -16,7 +16,7 @@ impl Plan {
     pub const VIEWS_PER_LEADER: u64 = 3;
     // What `lead` answers where there are no processors.
     pub const NO_LEADER: u64 = 0;
-    // What `clock_time` answers where the product does not fit.
+    // What `clock_time` and `next_initial` answer where their number does not fit.
     pub const LARGEST: u64 = 18446744073709551615;
     // Two numbers below this have a product that fits.
     pub const HALF: u64 = 4294967296;
@@ -68,6 +68,31 @@ impl Plan {
             return Plan::LARGEST;
         }
         w * self.gamma
+    }
+
+    // The first initial view above w.
+    pub fn next_initial(self, w: u64) -> u64
+        ensures { λ r. ⌜ r ≡ nextInitialWord self w ⌝ }
+    {
+        let row = w / Plan::VIEWS_PER_LEADER * Plan::VIEWS_PER_LEADER;
+        if Plan::LARGEST - Plan::VIEWS_PER_LEADER < row {
+            return Plan::LARGEST;
+        }
+        row + Plan::VIEWS_PER_LEADER
+    }
+
+    // The clock time that no correct clock reaches.
+    pub fn end_time(self) -> u64
+        ensures { λ r. ⌜ r ≡ clockTimeWord self (self .views) ⌝ }
+    {
+        self.clock_time(self.views)
+    }
+
+    // The clock time that no correct start clock reaches.
+    pub fn start_limit(self) -> u64
+        ensures { λ r. ⌜ r ≡ clockTimeWord self (perLeader self) ⌝ }
+    {
+        self.clock_time(Plan::VIEWS_PER_LEADER)
     }
 
     // t, the faulty processors that the protocol tolerates.

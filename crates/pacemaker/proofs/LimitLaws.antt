@@ -12,11 +12,11 @@ use Rattle.base.specs.Choice.{or-first, or-second, or-neither, or-rest, or-part
 use Rattle.model.specs.declared.Plan.{Plan}
 use Rattle.model.specs.declared.Processor.{Processor}
 use Rattle.model.specs.Quantities.{nLeast, nMost, deltaLeast, deltaMost, gammaLeast, gammaMost, viewsLeast, viewsMost, perLeader, initial, nextInitial, clockTime, endTime}
-use Rattle.model.specs.PlanFunctions.{clockTimeWord}
+use Rattle.model.specs.PlanFunctions.{nextInitialWord, clockTimeWord}
 use Rattle.model.specs.Checks.{nOutside, delaysOutside, viewsOutside, planOutside, atEnd, clockOutside}
 use Rattle.model.specs.Processors.{processorUnsound}
-use Rattle.model.proofs.PlanWords.{time-fits}
-use Rattle.pacemaker.specs.Limits.{planCheck, Within, Sound}
+use Rattle.model.proofs.PlanWords.{time-fits, next-fits}
+use Rattle.pacemaker.specs.Limits.{planCheck, Within, Sound, timeMost}
 
 -- ---- checks 2 to 4
 
@@ -62,8 +62,8 @@ within p e =
 
 -- ---- clock times
 
-pub time-small : (p : Plan) → Within p → (w : ℕ) → w ≤ p .views → clockTime p w ≤ 60000000
-time-small p s w l = let a : w ≤ 6000 = omega (arith, s .views-most) in mul-le-mul a (s .gamma-most)
+pub time-small : (p : Plan) → Within p → (w : ℕ) → w ≤ p .views → clockTime p w ≤ timeMost
+time-small p s w l = let a : w ≤ viewsMost = omega (arith, s .views-most) in mul-le-mul a (s .gamma-most)
 
 pub time-word : (p : Plan) → Within p → (w : ℕ) → w ≤ p .views → clockTimeWord p w ≡ clockTime p w
 time-word p s w l = sym (time-fits p w (omega (arith, time-small p s w l)))
@@ -72,6 +72,9 @@ time-word p s w l = sym (time-fits p w (omega (arith, time-small p s w l)))
 pub next-within : (p : Plan) → Within p → (w : ℕ) → w < p .views → nextInitial p w ≤ p .views
 unfolding perLeader
 next-within p s w l = omega (arith, eqb-true (p .views % 3) 0 (s .views-initial))
+
+pub next-word : (p : Plan) → Within p → (w : ℕ) → w < p .views → nextInitialWord p w ≡ nextInitial p w
+next-word p s w l = sym (next-fits p w (omega (arith, next-within p s w l, s .views-most)))
 
 -- one more than a clock before the end is within the views
 pub slot-within : (p : Plan) → Within p → (clock : ℕ) → clock < endTime p → (clock + 1) / p .gamma ≤ p .views

@@ -2,7 +2,7 @@
 use mathlib.Core.Path.{_≡_}
 use mathlib.Core.Bool.{true}
 use mathlib.Core.List.{[], _∷_}
-use Prim.Native.Nat.{ℕ, _≤_, _<_}
+use Prim.Native.Nat.{ℕ, _*_, _≤_, _<_}
 use Rattle.model.specs.declared.Plan.{Plan}
 use Rattle.model.specs.declared.Processor.{Processor}
 use Rattle.model.specs.Quantities.{nLeast, nMost, deltaLeast, deltaMost, gammaLeast, gammaMost, viewsLeast, viewsMost, initial, nextInitial, clockTime, endTime}
@@ -11,6 +11,10 @@ use Rattle.model.specs.Checks.{judged, nOutside, delaysOutside, viewsOutside}
 -- the first of checks 2 to 4 whose sentence holds, or 0
 abbrev pub planCheck : Plan → ℕ
 planCheck p = judged (λ r. r) ((2, nOutside p) ∷ (3, delaysOutside p) ∷ (4, viewsOutside p) ∷ []) 0
+
+-- no clock time of a plan that passes them is larger
+abbrev pub timeMost : ℕ
+timeMost = viewsMost * gammaMost
 
 -- a plan that passes them
 pub record Within (p : Plan) : Type 0 where

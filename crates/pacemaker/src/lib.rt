@@ -96,11 +96,7 @@ fn clock_outside(plan: Plan, processor: Processor) -> bool
     if processor.clock < time_of(plan, view) {
         return true;
     }
-    time_of(
-        plan,
-        view / Plan::VIEWS_PER_LEADER * Plan::VIEWS_PER_LEADER + Plan::VIEWS_PER_LEADER,
-    )
-        <= processor.clock
+    time_of(plan, plan.next_initial(view)) <= processor.clock
 }
 
 // Check 9 of one processor: the plan's limits, and its own clock and view.

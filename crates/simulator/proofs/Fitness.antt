@@ -19,12 +19,12 @@ use Rattle.liveness.proofs.Link.{Planned, correct-count, third}
 use Rattle.liveness.proofs.Soundness.{SoundRun, sound-of}
 use Rattle.base.specs.Choice.{or-neither}
 use Rattle.model.specs.Processors.{processorUnsound}
-use Rattle.pacemaker.specs.Limits.{Within}
+use Rattle.pacemaker.specs.Limits.{Within, timeMost}
 use Rattle.pacemaker.proofs.LimitLaws.{within, time-small}
 use Rattle.simulator.specs.Inner.{Fit, seat}
 
 -- no clock time that a run can reach is large
-pub end-most : (plan : Plan) → Within plan → endTime plan ≤ 60000000
+pub end-most : (plan : Plan) → Within plan → endTime plan ≤ timeMost
 end-most plan l = time-small plan l (plan .views) (omega arith)
 
 pub planned-of : (plan : Plan) (faulty : ℕ) → planOutside plan ≡ false → faultyOutside plan faulty ≡ false → Planned plan faulty

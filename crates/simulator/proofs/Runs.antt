@@ -8,6 +8,7 @@ use Rattle.model.specs.State.{State, clockOf, viewOf, isCorrect, capacity}
 use Rattle.model.specs.Checks.{unsound}
 use Rattle.model.specs.Events.{ticks}
 use Rattle.liveness.specs.Promises.{countedFrom}
+use Rattle.pacemaker.specs.Limits.{timeMost}
 use Rattle.pacemaker.proofs.LimitLaws.{within}
 use Rattle.simulator.specs.Inner.{Fit, Went, TickedTo}
 use Rattle.simulator.proofs.Fitness.{fit-of, room-of, time-of, some-correct, clock-below, end-most}
@@ -18,7 +19,7 @@ pub record Running (s₀ : State) (m : ℕ) (s : State) (count : ℕ) : Type 0 w
   pub fit : Fit (s .run)
   pub room : s .run .held ≤ capacity (s .network)
   pub ran : ticks m s₀ ≡ countedFrom count (ticks (m - count) s)
-  pub began : s₀ .run .time ≤ 60000000
+  pub began : s₀ .run .time ≤ timeMost
   pub time : s .run .time ≡ s₀ .run .time + count
   pub one : ℕ
   pub is-correct : isCorrect (s .run) one ≡ true

@@ -8,21 +8,21 @@ use Rattle.checks.proofs.clock_too_high.Statement.{statement}
 use Rattle.checks.proofs.clock_too_high.Tie as tie
 use Rattle.checks.proofs.clock_too_high.Reads as reads
 use Rattle.checks.proofs.clock_too_high.Lts as lts
-use Rattle.model.proofs.Plan.clock_time.Reads as clock-time-reads
+use Rattle.model.proofs.Plan.start_limit.Reads as start-limit-reads
 use Rattle.model.proofs.Plan.correct.Reads as correct-reads
 
 correct-requires : tie.Need-correct-requires
 correct-requires c κs = tt
 
-clock-time-requires : tie.Need-clock-time-requires
-clock-time-requires c κs = tt
+start-limit-requires : tie.Need-start-limit-requires
+start-limit-requires c κs = tt
 
 returns : tie.Need-returns
 unfolding perLeader
-returns c = and-rest _ _ _ (sym (c .before .before .correct .ensures) ∙ c .before .if1 .taken) (ap (λ (x : ℕ). leb x (c .before .before .before .args .clock)) (c .clock-time .ensures ∙ time-word (c .before .before .before .args .plan) (c .before .before .before .pre) 3 (c .before .before .before .pre .views-least)))
+returns c = and-rest _ _ _ (sym (c .before .before .correct .ensures) ∙ c .before .if1 .taken) (ap (λ (x : ℕ). leb x (c .before .before .before .args .clock)) (c .start-limit .ensures ∙ time-word (c .before .before .before .args .plan) (c .before .before .before .pre) 3 (c .before .before .before .pre .views-least)))
 
 returns-2 : tie.Need-returns-2
 returns-2 c = sym (and-not-first _ _ (sym (c .before .correct .ensures) ∙ c .if1 .left))
 
 pub clock-too-high-spec : {M : Type 1} → statement M
-clock-too-high-spec = tie.close (tie.spec correct-requires clock-time-requires returns returns-2)
+clock-too-high-spec = tie.close (tie.spec correct-requires start-limit-requires returns returns-2)

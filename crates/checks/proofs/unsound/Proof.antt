@@ -16,7 +16,7 @@ use Rattle.checks.proofs.limits_broken.Reads as limits-broken-reads
 use Rattle.checks.proofs.messages_unsound.Reads as messages-unsound-reads
 use Rattle.checks.proofs.settling_unsound.Reads as settling-unsound-reads
 use Rattle.checks.proofs.tail_not_zero.Reads as tail-not-zero-reads
-use Rattle.model.proofs.Plan.clock_time.Reads as clock-time-reads
+use Rattle.model.proofs.Plan.end_time.Reads as end-time-reads
 
 limits-broken-requires : tie.Need-limits-broken-requires
 limits-broken-requires c κs = tt
@@ -30,29 +30,29 @@ clocks-unsound-requires c κs = plan-passes (stateOf (c .before .before .before 
 returns-2 : tie.Need-returns-2
 returns-2 c = by-clocks (stateOf (c .before .before .before .before .before .before .args .run) (c .before .before .before .before .before .before .args .tally .now) (c .before .before .before .before .before .before .args .network .now)) (sym (c .before .before .before .limits-broken .ensures) ∙ c .before .before .if1 .left) (sym (c .before .clocks-unsound .ensures) ∙ c .if2 .taken)
 
-clock-time-requires : tie.Need-clock-time-requires
-clock-time-requires c κs = tt
+end-time-requires : tie.Need-end-time-requires
+end-time-requires c κs = tt
 
 returns-3 : tie.Need-returns-3
-returns-3 c = by-time (stateOf (c .before .before .before .before .before .before .before .before .before .args .run) (c .before .before .before .before .before .before .before .before .before .args .tally .now) (c .before .before .before .before .before .before .before .before .before .args .network .now)) (sym (c .before .before .before .before .before .before .limits-broken .ensures) ∙ c .before .before .before .before .before .if1 .left) (sym (c .before .before .before .before .clocks-unsound .ensures) ∙ c .before .before .before .if2 .left) (time-over (c .before .before .before .before .before .before .before .before .before .args .run .plan) (c .before .before .before .before .before .before .before .before .before .args .run .time) (c .before .before .clock-time .result) (plan-passes (stateOf (c .before .before .before .before .before .before .before .before .before .args .run) (c .before .before .before .before .before .before .before .before .before .args .tally .now) (c .before .before .before .before .before .before .before .before .before .args .network .now)) (sym (c .before .before .before .before .before .before .limits-broken .ensures) ∙ c .before .before .before .before .before .if1 .left)) (c .before .before .clock-time .ensures) (omega (arith, c .if3 .taken)))
+returns-3 c = by-time (stateOf (c .before .before .before .before .before .before .before .before .before .args .run) (c .before .before .before .before .before .before .before .before .before .args .tally .now) (c .before .before .before .before .before .before .before .before .before .args .network .now)) (sym (c .before .before .before .before .before .before .limits-broken .ensures) ∙ c .before .before .before .before .before .if1 .left) (sym (c .before .before .before .before .clocks-unsound .ensures) ∙ c .before .before .before .if2 .left) (time-over (c .before .before .before .before .before .before .before .before .before .args .run .plan) (c .before .before .before .before .before .before .before .before .before .args .run .time) (c .before .before .end-time .result) (plan-passes (stateOf (c .before .before .before .before .before .before .before .before .before .args .run) (c .before .before .before .before .before .before .before .before .before .args .tally .now) (c .before .before .before .before .before .before .before .before .before .args .network .now)) (sym (c .before .before .before .before .before .before .limits-broken .ensures) ∙ c .before .before .before .before .before .if1 .left)) (c .before .before .end-time .ensures) (omega (arith, c .if3 .taken)))
 
 capacity-requires : tie.Need-capacity-requires
 capacity-requires c κs = search needs
 
 returns-4 : tie.Need-returns-4
-returns-4 c = by-room (stateOf (c .before .before .before .before .before .before .before .before .before .before .before .before .args .run) (c .before .before .before .before .before .before .before .before .before .before .before .before .args .tally .now) (c .before .before .before .before .before .before .before .before .before .before .before .before .args .network .now)) (sym (c .before .before .before .before .before .before .before .before .before .limits-broken .ensures) ∙ c .before .before .before .before .before .before .before .before .if1 .left) (sym (c .before .before .before .before .before .before .before .clocks-unsound .ensures) ∙ c .before .before .before .before .before .before .if2 .left) (time-before (c .before .before .before .before .before .before .before .before .before .before .before .before .args .run .plan) (c .before .before .before .before .before .before .before .before .before .before .before .before .args .run .time) (c .before .before .before .before .before .clock-time .result) (plan-passes (stateOf (c .before .before .before .before .before .before .before .before .before .before .before .before .args .run) (c .before .before .before .before .before .before .before .before .before .before .before .before .args .tally .now) (c .before .before .before .before .before .before .before .before .before .before .before .before .args .network .now)) (sym (c .before .before .before .before .before .before .before .before .before .limits-broken .ensures) ∙ c .before .before .before .before .before .before .before .before .if1 .left)) (c .before .before .before .before .before .clock-time .ensures) (omega (arith, c .before .before .before .if3 .left))) (lt-ltb (capacity (c .before .before .before .before .before .before .before .before .before .before .before .before .args .network .now)) (c .before .before .before .before .before .before .before .before .before .before .before .before .args .run .held) (omega (arith, c .before .before .capacity .ensures, c .if4 .taken)))
+returns-4 c = by-room (stateOf (c .before .before .before .before .before .before .before .before .before .before .before .before .args .run) (c .before .before .before .before .before .before .before .before .before .before .before .before .args .tally .now) (c .before .before .before .before .before .before .before .before .before .before .before .before .args .network .now)) (sym (c .before .before .before .before .before .before .before .before .before .limits-broken .ensures) ∙ c .before .before .before .before .before .before .before .before .if1 .left) (sym (c .before .before .before .before .before .before .before .clocks-unsound .ensures) ∙ c .before .before .before .before .before .before .if2 .left) (time-before (c .before .before .before .before .before .before .before .before .before .before .before .before .args .run .plan) (c .before .before .before .before .before .before .before .before .before .before .before .before .args .run .time) (c .before .before .before .before .before .end-time .result) (plan-passes (stateOf (c .before .before .before .before .before .before .before .before .before .before .before .before .args .run) (c .before .before .before .before .before .before .before .before .before .before .before .before .args .tally .now) (c .before .before .before .before .before .before .before .before .before .before .before .before .args .network .now)) (sym (c .before .before .before .before .before .before .before .before .before .limits-broken .ensures) ∙ c .before .before .before .before .before .before .before .before .if1 .left)) (c .before .before .before .before .before .end-time .ensures) (omega (arith, c .before .before .before .if3 .left))) (lt-ltb (capacity (c .before .before .before .before .before .before .before .before .before .before .before .before .args .network .now)) (c .before .before .before .before .before .before .before .before .before .before .before .before .args .run .held) (omega (arith, c .before .before .capacity .ensures, c .if4 .taken)))
 
 messages-unsound-requires : tie.Need-messages-unsound-requires
 messages-unsound-requires c κs = (within (c .before .before .before .before .before .before .before .before .before .before .before .before .args .run .plan) (plan-passes (stateOf (c .before .before .before .before .before .before .before .before .before .before .before .before .args .run) (c .before .before .before .before .before .before .before .before .before .before .before .before .args .tally .now) (c .before .before .before .before .before .before .before .before .before .before .before .before .args .network .now)) (sym (c .before .before .before .before .before .before .before .before .before .limits-broken .ensures) ∙ c .before .before .before .before .before .before .before .before .if1 .left)), omega (arith, c .before .before .capacity .ensures, c .if4 .left))
 
 returns-5 : tie.Need-returns-5
-returns-5 c = by-messages (stateOf (c .before .before .before .before .before .before .before .before .before .before .before .before .before .before .args .run) (c .before .before .before .before .before .before .before .before .before .before .before .before .before .before .args .tally .now) (c .before .before .before .before .before .before .before .before .before .before .before .before .before .before .args .network .now)) (sym (c .before .before .before .before .before .before .before .before .before .before .before .limits-broken .ensures) ∙ c .before .before .before .before .before .before .before .before .before .before .if1 .left) (sym (c .before .before .before .before .before .before .before .before .before .clocks-unsound .ensures) ∙ c .before .before .before .before .before .before .before .before .if2 .left) (time-before (c .before .before .before .before .before .before .before .before .before .before .before .before .before .before .args .run .plan) (c .before .before .before .before .before .before .before .before .before .before .before .before .before .before .args .run .time) (c .before .before .before .before .before .before .before .clock-time .result) (plan-passes (stateOf (c .before .before .before .before .before .before .before .before .before .before .before .before .before .before .args .run) (c .before .before .before .before .before .before .before .before .before .before .before .before .before .before .args .tally .now) (c .before .before .before .before .before .before .before .before .before .before .before .before .before .before .args .network .now)) (sym (c .before .before .before .before .before .before .before .before .before .before .before .limits-broken .ensures) ∙ c .before .before .before .before .before .before .before .before .before .before .if1 .left)) (c .before .before .before .before .before .before .before .clock-time .ensures) (omega (arith, c .before .before .before .before .before .if3 .left))) (le-ltb (capacity (c .before .before .before .before .before .before .before .before .before .before .before .before .before .before .args .network .now)) (c .before .before .before .before .before .before .before .before .before .before .before .before .before .before .args .run .held) (omega (arith, c .before .before .before .before .capacity .ensures, c .before .before .if4 .left))) (sym (some-flying (c .before .before .before .before .before .before .before .before .before .before .before .before .before .before .args .run) (c .before .before .before .before .before .before .before .before .before .before .before .before .before .before .args .tally .now) (c .before .before .before .before .before .before .before .before .before .before .before .before .before .before .args .network .now) (c .before .before .before .before .before .before .before .before .before .before .before .before .before .before .args .run .held)) ∙ sym (c .before .messages-unsound .ensures) ∙ c .if5 .taken)
+returns-5 c = by-messages (stateOf (c .before .before .before .before .before .before .before .before .before .before .before .before .before .before .args .run) (c .before .before .before .before .before .before .before .before .before .before .before .before .before .before .args .tally .now) (c .before .before .before .before .before .before .before .before .before .before .before .before .before .before .args .network .now)) (sym (c .before .before .before .before .before .before .before .before .before .before .before .limits-broken .ensures) ∙ c .before .before .before .before .before .before .before .before .before .before .if1 .left) (sym (c .before .before .before .before .before .before .before .before .before .clocks-unsound .ensures) ∙ c .before .before .before .before .before .before .before .before .if2 .left) (time-before (c .before .before .before .before .before .before .before .before .before .before .before .before .before .before .args .run .plan) (c .before .before .before .before .before .before .before .before .before .before .before .before .before .before .args .run .time) (c .before .before .before .before .before .before .before .end-time .result) (plan-passes (stateOf (c .before .before .before .before .before .before .before .before .before .before .before .before .before .before .args .run) (c .before .before .before .before .before .before .before .before .before .before .before .before .before .before .args .tally .now) (c .before .before .before .before .before .before .before .before .before .before .before .before .before .before .args .network .now)) (sym (c .before .before .before .before .before .before .before .before .before .before .before .limits-broken .ensures) ∙ c .before .before .before .before .before .before .before .before .before .before .if1 .left)) (c .before .before .before .before .before .before .before .end-time .ensures) (omega (arith, c .before .before .before .before .before .if3 .left))) (le-ltb (capacity (c .before .before .before .before .before .before .before .before .before .before .before .before .before .before .args .network .now)) (c .before .before .before .before .before .before .before .before .before .before .before .before .before .before .args .run .held) (omega (arith, c .before .before .before .before .capacity .ensures, c .before .before .if4 .left))) (sym (some-flying (c .before .before .before .before .before .before .before .before .before .before .before .before .before .before .args .run) (c .before .before .before .before .before .before .before .before .before .before .before .before .before .before .args .tally .now) (c .before .before .before .before .before .before .before .before .before .before .before .before .before .before .args .network .now) (c .before .before .before .before .before .before .before .before .before .before .before .before .before .before .args .run .held)) ∙ sym (c .before .messages-unsound .ensures) ∙ c .if5 .taken)
 
 settling-unsound-requires : tie.Need-settling-unsound-requires
 settling-unsound-requires c κs = tt
 
 returns-6 : tie.Need-returns-6
-returns-6 c = by-settling (stateOf (c .before .before .before .before .before .before .before .before .before .before .before .before .before .before .before .before .args .run) (c .before .before .before .before .before .before .before .before .before .before .before .before .before .before .before .before .args .tally .now) (c .before .before .before .before .before .before .before .before .before .before .before .before .before .before .before .before .args .network .now)) (sym (c .before .before .before .before .before .before .before .before .before .before .before .before .before .limits-broken .ensures) ∙ c .before .before .before .before .before .before .before .before .before .before .before .before .if1 .left) (sym (c .before .before .before .before .before .before .before .before .before .before .before .clocks-unsound .ensures) ∙ c .before .before .before .before .before .before .before .before .before .before .if2 .left) (time-before (c .before .before .before .before .before .before .before .before .before .before .before .before .before .before .before .before .args .run .plan) (c .before .before .before .before .before .before .before .before .before .before .before .before .before .before .before .before .args .run .time) (c .before .before .before .before .before .before .before .before .before .clock-time .result) (plan-passes (stateOf (c .before .before .before .before .before .before .before .before .before .before .before .before .before .before .before .before .args .run) (c .before .before .before .before .before .before .before .before .before .before .before .before .before .before .before .before .args .tally .now) (c .before .before .before .before .before .before .before .before .before .before .before .before .before .before .before .before .args .network .now)) (sym (c .before .before .before .before .before .before .before .before .before .before .before .before .before .limits-broken .ensures) ∙ c .before .before .before .before .before .before .before .before .before .before .before .before .if1 .left)) (c .before .before .before .before .before .before .before .before .before .clock-time .ensures) (omega (arith, c .before .before .before .before .before .before .before .if3 .left))) (le-ltb (capacity (c .before .before .before .before .before .before .before .before .before .before .before .before .before .before .before .before .args .network .now)) (c .before .before .before .before .before .before .before .before .before .before .before .before .before .before .before .before .args .run .held) (omega (arith, c .before .before .before .before .before .before .capacity .ensures, c .before .before .before .before .if4 .left))) (sym (some-flying (c .before .before .before .before .before .before .before .before .before .before .before .before .before .before .before .before .args .run) (c .before .before .before .before .before .before .before .before .before .before .before .before .before .before .before .before .args .tally .now) (c .before .before .before .before .before .before .before .before .before .before .before .before .before .before .before .before .args .network .now) (c .before .before .before .before .before .before .before .before .before .before .before .before .before .before .before .before .args .run .held)) ∙ sym (c .before .before .before .messages-unsound .ensures) ∙ c .before .before .if5 .left) (sym (c .before .settling-unsound .ensures) ∙ c .if6 .taken)
+returns-6 c = by-settling (stateOf (c .before .before .before .before .before .before .before .before .before .before .before .before .before .before .before .before .args .run) (c .before .before .before .before .before .before .before .before .before .before .before .before .before .before .before .before .args .tally .now) (c .before .before .before .before .before .before .before .before .before .before .before .before .before .before .before .before .args .network .now)) (sym (c .before .before .before .before .before .before .before .before .before .before .before .before .before .limits-broken .ensures) ∙ c .before .before .before .before .before .before .before .before .before .before .before .before .if1 .left) (sym (c .before .before .before .before .before .before .before .before .before .before .before .clocks-unsound .ensures) ∙ c .before .before .before .before .before .before .before .before .before .before .if2 .left) (time-before (c .before .before .before .before .before .before .before .before .before .before .before .before .before .before .before .before .args .run .plan) (c .before .before .before .before .before .before .before .before .before .before .before .before .before .before .before .before .args .run .time) (c .before .before .before .before .before .before .before .before .before .end-time .result) (plan-passes (stateOf (c .before .before .before .before .before .before .before .before .before .before .before .before .before .before .before .before .args .run) (c .before .before .before .before .before .before .before .before .before .before .before .before .before .before .before .before .args .tally .now) (c .before .before .before .before .before .before .before .before .before .before .before .before .before .before .before .before .args .network .now)) (sym (c .before .before .before .before .before .before .before .before .before .before .before .before .before .limits-broken .ensures) ∙ c .before .before .before .before .before .before .before .before .before .before .before .before .if1 .left)) (c .before .before .before .before .before .before .before .before .before .end-time .ensures) (omega (arith, c .before .before .before .before .before .before .before .if3 .left))) (le-ltb (capacity (c .before .before .before .before .before .before .before .before .before .before .before .before .before .before .before .before .args .network .now)) (c .before .before .before .before .before .before .before .before .before .before .before .before .before .before .before .before .args .run .held) (omega (arith, c .before .before .before .before .before .before .capacity .ensures, c .before .before .before .before .if4 .left))) (sym (some-flying (c .before .before .before .before .before .before .before .before .before .before .before .before .before .before .before .before .args .run) (c .before .before .before .before .before .before .before .before .before .before .before .before .before .before .before .before .args .tally .now) (c .before .before .before .before .before .before .before .before .before .before .before .before .before .before .before .before .args .network .now) (c .before .before .before .before .before .before .before .before .before .before .before .before .before .before .before .before .args .run .held)) ∙ sym (c .before .before .before .messages-unsound .ensures) ∙ c .before .before .if5 .left) (sym (c .before .settling-unsound .ensures) ∙ c .if6 .taken)
 
 mul-tail-not-zero : tie.Need-mul-tail-not-zero
 mul-tail-not-zero c = omega (arith, c .before .before .before .before .before .before .before .capacity .ensures, c .before .before .before .before .before .if4 .left, c .before .before .before .before .before .before .before .before .before .before .before .before .before .before .before .before .before .good)
@@ -61,7 +61,7 @@ tail-not-zero-requires : tie.Need-tail-not-zero-requires
 tail-not-zero-requires c κs = tt
 
 returns-7 : tie.Need-returns-7
-returns-7 c = c .tail-not-zero .ensures ∙ by-tail (stateOf (c .before .before .before .before .before .before .before .before .before .before .before .before .before .before .before .before .before .before .args .run) (c .before .before .before .before .before .before .before .before .before .before .before .before .before .before .before .before .before .before .args .tally .now) (c .before .before .before .before .before .before .before .before .before .before .before .before .before .before .before .before .before .before .args .network .now)) (sym (c .before .before .before .before .before .before .before .before .before .before .before .before .before .before .before .limits-broken .ensures) ∙ c .before .before .before .before .before .before .before .before .before .before .before .before .before .before .if1 .left) (sym (c .before .before .before .before .before .before .before .before .before .before .before .before .before .clocks-unsound .ensures) ∙ c .before .before .before .before .before .before .before .before .before .before .before .before .if2 .left) (time-before (c .before .before .before .before .before .before .before .before .before .before .before .before .before .before .before .before .before .before .args .run .plan) (c .before .before .before .before .before .before .before .before .before .before .before .before .before .before .before .before .before .before .args .run .time) (c .before .before .before .before .before .before .before .before .before .before .before .clock-time .result) (plan-passes (stateOf (c .before .before .before .before .before .before .before .before .before .before .before .before .before .before .before .before .before .before .args .run) (c .before .before .before .before .before .before .before .before .before .before .before .before .before .before .before .before .before .before .args .tally .now) (c .before .before .before .before .before .before .before .before .before .before .before .before .before .before .before .before .before .before .args .network .now)) (sym (c .before .before .before .before .before .before .before .before .before .before .before .before .before .before .before .limits-broken .ensures) ∙ c .before .before .before .before .before .before .before .before .before .before .before .before .before .before .if1 .left)) (c .before .before .before .before .before .before .before .before .before .before .before .clock-time .ensures) (omega (arith, c .before .before .before .before .before .before .before .before .before .if3 .left))) (le-ltb (capacity (c .before .before .before .before .before .before .before .before .before .before .before .before .before .before .before .before .before .before .args .network .now)) (c .before .before .before .before .before .before .before .before .before .before .before .before .before .before .before .before .before .before .args .run .held) (omega (arith, c .before .before .before .before .before .before .before .before .capacity .ensures, c .before .before .before .before .before .before .if4 .left))) (sym (some-flying (c .before .before .before .before .before .before .before .before .before .before .before .before .before .before .before .before .before .before .args .run) (c .before .before .before .before .before .before .before .before .before .before .before .before .before .before .before .before .before .before .args .tally .now) (c .before .before .before .before .before .before .before .before .before .before .before .before .before .before .before .before .before .before .args .network .now) (c .before .before .before .before .before .before .before .before .before .before .before .before .before .before .before .before .before .before .args .run .held)) ∙ sym (c .before .before .before .before .before .messages-unsound .ensures) ∙ c .before .before .before .before .if5 .left) (sym (c .before .before .before .settling-unsound .ensures) ∙ c .before .before .if6 .left)
+returns-7 c = c .tail-not-zero .ensures ∙ by-tail (stateOf (c .before .before .before .before .before .before .before .before .before .before .before .before .before .before .before .before .before .before .args .run) (c .before .before .before .before .before .before .before .before .before .before .before .before .before .before .before .before .before .before .args .tally .now) (c .before .before .before .before .before .before .before .before .before .before .before .before .before .before .before .before .before .before .args .network .now)) (sym (c .before .before .before .before .before .before .before .before .before .before .before .before .before .before .before .limits-broken .ensures) ∙ c .before .before .before .before .before .before .before .before .before .before .before .before .before .before .if1 .left) (sym (c .before .before .before .before .before .before .before .before .before .before .before .before .before .clocks-unsound .ensures) ∙ c .before .before .before .before .before .before .before .before .before .before .before .before .if2 .left) (time-before (c .before .before .before .before .before .before .before .before .before .before .before .before .before .before .before .before .before .before .args .run .plan) (c .before .before .before .before .before .before .before .before .before .before .before .before .before .before .before .before .before .before .args .run .time) (c .before .before .before .before .before .before .before .before .before .before .before .end-time .result) (plan-passes (stateOf (c .before .before .before .before .before .before .before .before .before .before .before .before .before .before .before .before .before .before .args .run) (c .before .before .before .before .before .before .before .before .before .before .before .before .before .before .before .before .before .before .args .tally .now) (c .before .before .before .before .before .before .before .before .before .before .before .before .before .before .before .before .before .before .args .network .now)) (sym (c .before .before .before .before .before .before .before .before .before .before .before .before .before .before .before .limits-broken .ensures) ∙ c .before .before .before .before .before .before .before .before .before .before .before .before .before .before .if1 .left)) (c .before .before .before .before .before .before .before .before .before .before .before .end-time .ensures) (omega (arith, c .before .before .before .before .before .before .before .before .before .if3 .left))) (le-ltb (capacity (c .before .before .before .before .before .before .before .before .before .before .before .before .before .before .before .before .before .before .args .network .now)) (c .before .before .before .before .before .before .before .before .before .before .before .before .before .before .before .before .before .before .args .run .held) (omega (arith, c .before .before .before .before .before .before .before .before .capacity .ensures, c .before .before .before .before .before .before .if4 .left))) (sym (some-flying (c .before .before .before .before .before .before .before .before .before .before .before .before .before .before .before .before .before .before .args .run) (c .before .before .before .before .before .before .before .before .before .before .before .before .before .before .before .before .before .before .args .tally .now) (c .before .before .before .before .before .before .before .before .before .before .before .before .before .before .before .before .before .before .args .network .now) (c .before .before .before .before .before .before .before .before .before .before .before .before .before .before .before .before .before .before .args .run .held)) ∙ sym (c .before .before .before .before .before .messages-unsound .ensures) ∙ c .before .before .before .before .if5 .left) (sym (c .before .before .before .settling-unsound .ensures) ∙ c .before .before .if6 .left)
 
 pub unsound-spec : {M : Type 1} → statement M
 unsound-spec =
@@ -71,7 +71,7 @@ unsound-spec =
     returns
     clocks-unsound-requires
     returns-2
-    clock-time-requires
+    end-time-requires
     returns-3
     capacity-requires
     returns-4

@@ -251,7 +251,7 @@ pub fn remove(network: &mut [u64], held: usize, i: usize)
     take_out(network, held, i);
 }
 
-// What four words of the network say.
+// What four words of the network say: a message, or none, where the kind is no message's or so many do not fit.
 pub enum Stored {
     Holds(Message),
     Unknown,

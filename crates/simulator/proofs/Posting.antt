@@ -6,12 +6,11 @@ use Prim.Native.Nat.{ℕ, _+_, _/_, _≤_, _<_}
 use native.Mathlib.Nat.{add-zero}
 use native.Mathlib.Omega.{arith}
 use lib.ListN.{length, length-append}
-use borrow.Author.Tests.{lt-ltb}
 use Rattle.model.specs.declared.Message.{Message}
 use Rattle.model.specs.Quantities.{messageWords}
 use Rattle.model.specs.State.{capacity}
 use Rattle.buffers.specs.WordLaws.{posted-none, posted-length, posted-turn}
-use Rattle.buffers.specs.Network.{appended}
+use Rattle.buffers.specs.Network.{appended, appended-fits}
 use Rattle.model.specs.declared.Plan.{Plan}
 use Rattle.model.specs.Moves.{toCorrect, certificate, toEach}
 use Rattle.simulator.specs.Inner.{Posts}
@@ -50,7 +49,7 @@ module _ (plan : Plan) (faulty : ℕ) (m : Message) (h time : ℕ) (ws : List �
       let y : toCorrect plan faulty (m ∷ []) ≡ m ∷ [] = correct-yes plan faulty m e in
       let l : h < capacity ws = omega (arith, ap length y, room) in
       posts-as (m ∷ []) (toCorrect plan faulty (m ∷ [])) h (h + 1) time ws ws' (sym y)
-      (record { number = refl; words = rw (lt-ltb h (capacity ws) l) at a })
+      (record { number = refl; words = a ∙ appended-fits ws h time m l })
 
   pub sends-no : goes plan faulty m ≡ false → Posts (toCorrect plan faulty (m ∷ [])) h time ws h ws
   sends-no e = posts-as [] (toCorrect plan faulty (m ∷ [])) h h time ws ws (sym (correct-no plan faulty m e)) (posts-none h time ws)

@@ -15,11 +15,11 @@ pub struct Plan {
 impl Plan {
     pub const VIEWS_PER_LEADER: u64 = 3;
     // What `lead` answers where there are no processors.
-    pub const NO_LEADER: u64 = 0;
+    const NO_LEADER: u64 = 0;
     // What `clock_time` and `next_initial` answer where their number does not fit.
-    pub const LARGEST: u64 = 18446744073709551615;
+    const LARGEST: u64 = 18446744073709551615;
     // Two numbers below this have a product that fits.
-    pub const HALF: u64 = 4294967296;
+    const HALF: u64 = 4294967296;
     // The limits of checks 2 to 4.
     pub const N_LEAST: u64 = 4;
 

@@ -2,7 +2,7 @@
 use mathlib.Core.Path.{_≡_, refl, sym, ap, _∙_, subst}
 use mathlib.Core.Bool.{Bool, true, false, _&&_, cond}
 use mathlib.Core.Logic.{_≢_}
-use mathlib.Core.List.{List, _++_}
+use mathlib.Core.List.{List}
 use Prim.Native.Nat.{ℕ, zero, suc, _+_, _-_, _*_, _/_, _%_, _≤_, _<_}
 use native.Mathlib.Numerals.{add-one}
 use native.Mathlib.Nat.{div-add-mod'}
@@ -14,20 +14,19 @@ use Rattle.base.specs.Tests.{T-left, by-cond}
 use Rattle.base.specs.Scan.{some}
 use Rattle.base.specs.ScanLaws.{some-ext}
 use Rattle.model.specs.declared.Plan.{Plan}
-use Rattle.model.specs.declared.Message.{Message}
 use Rattle.model.specs.declared.Run.{Run}
 use Rattle.model.specs.declared.Processor.{Processor}
 use Rattle.model.specs.declared.Input.the-variants.{Tick}
 use Rattle.model.specs.Quantities.{initial, clockTime}
 use Rattle.model.specs.State.{State, clockOf, viewOf, isCorrect}
-use Rattle.model.specs.Moves.{Change, changed, Entry, stay, into, entryClock, entering, taking, entries, byClock, clocksOn, advanced, arrival, arrivals}
+use Rattle.model.specs.Moves.{Change, changed, Entry, stay, into, entryClock, byClock, clocksOn, advanced, arrival, arrivals}
 use Rattle.model.specs.Checks.{atEnd, reachesEnd}
 use Rattle.model.specs.Processors.{Moved, moving, messagesOf}
 use Rattle.liveness.proofs.TickLaws.{clock-up}
 use Rattle.pacemaker.specs.Steps.{movingBy}
 use Rattle.pacemaker.proofs.AnswerLaws.{tick-clock}
 use Rattle.simulator.specs.declared.Reaction.{Reaction}
-use Rattle.simulator.specs.Inner.{sentBy, enteredBy, arrivalMove, Arrives, movedChange, seat, arrivedBelow, endsAt}
+use Rattle.simulator.specs.Inner.{arrivalMove, Arrives, seat, arrivedBelow, endsAt}
 use Rattle.simulator.proofs.Entries.{entries-clocks, entries-views}
 
 -- ---- clocks advanced so far

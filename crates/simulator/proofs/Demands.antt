@@ -1,13 +1,11 @@
 -- What `open` and `apply` hand back is what the definitions make of the opening and the list, so that demand 3 holds of it. Assumes nothing.
-use mathlib.Core.Path.{_≡_, refl, sym, ap, ap₂, _∙_, subst}
+use mathlib.Core.Path.{_≡_, refl, sym, ap, _∙_, subst}
 use mathlib.Core.Bool.{false}
-use mathlib.Core.List.{List, [], _∷_}
+use mathlib.Core.List.{[], _∷_}
 use Prim.Native.Nat.{ℕ, zero, suc, _<_}
 use lib.Dec.{T}
 use lib.ListN.{take}
 use Rattle.model.specs.declared.Plan.{Plan}
-use Rattle.model.specs.declared.Event.{Event}
-use Rattle.model.specs.declared.Setup.{Setup}
 use Rattle.model.specs.State.{State, After, checkOf, accepted}
 use Rattle.model.specs.Checks.{tooFarAhead}
 use Rattle.model.specs.Opening.{opening}
@@ -15,7 +13,7 @@ use Rattle.model.specs.Events.{applied}
 use Rattle.model.specs.Lists.{after, ClockCondition, sinceSettling, ticksSince}
 use Rattle.liveness.specs.Promises.{settlingBound, Certified, Same}
 use Rattle.liveness.proofs.Promises.{demand-three, stays-sound, stays-same}
-use Rattle.simulator.specs.Demands.{Fed, handed, Demanded, DemandThreeOfCode, NeverUnsound, HandedIsAfter, EveryListFed}
+use Rattle.simulator.specs.Demands.{handed, Demanded, DemandThreeOfCode, NeverUnsound, HandedIsAfter, EveryListFed}
 
 pub handed-is-after : HandedIsAfter
 unfolding after

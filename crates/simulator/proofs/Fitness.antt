@@ -1,16 +1,15 @@
 -- What the limits and check 9 leave to rely on. Assumes nothing.
-use mathlib.Core.Path.{_≡_, subst}
+use mathlib.Core.Path.{_≡_}
 use mathlib.Core.Bool.{Bool, true, false, _||_}
-use Prim.Native.Nat.{ℕ, _/_, _^_, _≤_, _<_}
+use Prim.Native.Nat.{ℕ, _/_, _≤_, _<_}
 use native.Mathlib.Omega.{arith}
 use native.Mathlib.Nat.{mod-lt}
-use lib.Dec.{T, ltb, leb}
+use lib.Dec.{T, ltb}
 use Rattle.liveness.proofs.Opens.{planned-within}
 use Rattle.base.specs.Tests.{fails, T-true, T-false}
-use Rattle.base.specs.Sets.{size}
 use Rattle.model.specs.declared.Plan.{Plan}
 use Rattle.model.specs.declared.Run.{Run}
-use Rattle.model.specs.Quantities.{tolerated, perLeader, lead, endTime}
+use Rattle.model.specs.Quantities.{perLeader, lead, endTime}
 use Rattle.model.specs.State.{State, clockOf, viewOf, isCorrect, capacity}
 use Rattle.model.specs.Checks.{planOutside, faultyOutside, buffersOutside, clockOutside, atEnd, unsound}
 use Rattle.liveness.proofs.Judging.{neither, not-ltb, not-leb}
@@ -20,7 +19,7 @@ use Rattle.liveness.proofs.Soundness.{SoundRun, sound-of}
 use Rattle.base.specs.Choice.{or-neither}
 use Rattle.model.specs.Processors.{processorUnsound}
 use Rattle.pacemaker.specs.Limits.{Within, timeMost}
-use Rattle.pacemaker.proofs.LimitLaws.{within, time-small}
+use Rattle.pacemaker.proofs.LimitLaws.{time-small}
 use Rattle.simulator.specs.Inner.{Fit, seat}
 
 -- no clock time that a run can reach is large

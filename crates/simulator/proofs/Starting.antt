@@ -2,38 +2,34 @@
 use mathlib.Core.Path.{_≡_, refl, sym, ap, ap₂, _∙_, subst}
 use mathlib.Core.Bool.{Bool, true, false, _||_, cond}
 use mathlib.Core.Logic.{_⊎_, inl, inr, _≢_}
-use mathlib.Core.List.{List, [], _∷_, _++_, append-nil}
+use mathlib.Core.List.{List, _∷_, _++_, append-nil}
 use Prim.Native.Nat.{ℕ, zero, suc, _+_, _*_, _%_, _≤_, _<_}
 use native.Mathlib.Numerals.{add-one}
 use native.Mathlib.Omega.{arith}
 use native.Mathlib.Nat.{zero-mod}
-use lib.Dec.{T, eqb, ltb, ltb→lt}
+use lib.Dec.{eqb, ltb}
 use lib.ListN.{length, getD, set, drop, replicate, length-append, length-set, length-drop, length-replicate}
 use lib.Seq.{drop-length, drop-cons, set-at, getD-set-same, getD-set-other, ext-getD}
 use borrow.Author.Tests.{eq-eqb, ne-eqb, ltb-false}
 use Rattle.base.specs.Choice.{cond-yes, cond-no, or-parts}
-use Rattle.base.specs.Tests.{T-left, T-right, le?}
+use Rattle.base.specs.Tests.{le?}
 use Rattle.base.specs.ScanLaws.{length-listed, getD-listed}
 use Rattle.model.specs.declared.Plan.{Plan}
-use Rattle.model.specs.declared.Message.{Message}
 use Rattle.model.specs.declared.Run.{Run}
 use Rattle.model.specs.declared.Setup.{Setup}
 use Rattle.model.specs.declared.Sends.{Sends}
 use Rattle.model.specs.declared.Sends.the-variants.{Nothing, ViewAndVote}
 use Rattle.model.specs.Quantities.{networkLeast, networkMost, tableClocks, rowWords, perLeader, initial, correct}
 use Rattle.model.specs.State.{stateOf, runOf, withHeld, clockOf, viewOf, posted, capacity, refused, done}
-use Rattle.model.specs.Moves.{Change, changed, stay, into, taking, entries, made}
-use Rattle.model.specs.Checks.{Check, judged}
+use Rattle.model.specs.Moves.{Change, changed, stay, into, made}
 use Rattle.model.specs.Processors.{messagesOf, moving}
-use Rattle.model.specs.Opening.{startClocks, blankRun, blank, firstEntry, opened, openingChecks, opening}
-use Rattle.liveness.proofs.Judging.{Passes, neither, not-ltb}
+use Rattle.model.specs.Opening.{startClocks, blankRun, blank, firstEntry, opened, opening}
 use Rattle.liveness.proofs.Link.{Planned}
 use Rattle.liveness.proofs.FirstEntries.{Mid, mid-all}
-use Rattle.liveness.proofs.Opens.{planned}
 use Rattle.checks.specs.Setups.{setupCheck}
 use Rattle.checks.proofs.Opens.{Passed, setup-passed, setup-check}
 use Rattle.simulator.specs.declared.Reaction.{Reaction}
-use Rattle.simulator.specs.Inner.{Posts, sentBy, enteredBy, movedChange}
+use Rattle.simulator.specs.Inner.{Posts, sentBy, enteredBy}
 use Rattle.simulator.specs.Opening.{firstSends, enteredFirst}
 use Rattle.simulator.specs.Contracts.{Opens}
 use Rattle.simulator.proofs.Entries as entered

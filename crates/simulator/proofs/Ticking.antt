@@ -1,13 +1,13 @@
 -- The two passes of a tick over the processors: what it would send, and what it leaves. Assumes nothing.
-use mathlib.Core.Path.{_≡_, sym, ap, ap₂, _∙_, subst}
+use mathlib.Core.Path.{_≡_, sym, ap, ap₂, _∙_}
 use mathlib.Core.Bool.{false}
-use mathlib.Core.List.{List, _++_}
-use Prim.Native.Nat.{ℕ, zero, suc, _+_, _-_, _≤_, _<_}
+use mathlib.Core.List.{List}
+use Prim.Native.Nat.{ℕ, _+_, _-_, _≤_, _<_}
 use native.Mathlib.Omega.{arith}
-use lib.ListN.{length, set, length-append}
+use lib.ListN.{length, set}
 use Rattle.model.specs.declared.Run.{Run}
 use Rattle.model.specs.State.{State, stateOf, runOf, withHeld, withTime, withClocks, withViews, capacity}
-use Rattle.model.specs.Moves.{Entry, changed, taking, entries, clocksOn, advanced, arrival, arrivals, made}
+use Rattle.model.specs.Moves.{Entry, clocksOn, advanced, arrival, arrivals, made}
 use Rattle.model.specs.Processors.{messagesOf}
 use Rattle.simulator.specs.declared.Reaction.{Reaction}
 use Rattle.simulator.specs.Inner.{Posts, sentBy, enteredBy, Arrives, seat, arrivedBelow}

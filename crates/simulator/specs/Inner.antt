@@ -2,8 +2,7 @@
 use mathlib.Core.Path.{_≡_}
 use mathlib.Core.Bool.{Bool, true, false, _&&_, cond}
 use mathlib.Core.List.{List, [], _∷_}
-use Prim.Native.Nat.{ℕ, _+_, _^_, _≤_, _<_, max}
-use lib.Dec.{leb}
+use Prim.Native.Nat.{ℕ, _+_, _^_, _≤_, _<_}
 use lib.ListN.{length, set}
 use Rattle.model.specs.declared.Plan.{Plan}
 use Rattle.model.specs.declared.Message.{Message}
@@ -15,8 +14,8 @@ use Rattle.model.specs.declared.Sends.{Sends}
 use Rattle.model.specs.declared.Sends.the-variants.{Nothing, Vote as VoteFor, ViewAndVote}
 use Rattle.model.specs.Quantities.{correct}
 use Rattle.base.specs.Scan.{some}
-use Rattle.model.specs.State.{State, After, stateOf, viewStage, voteStage, clockOf, viewOf, isCorrect, enteredWord, heardWord, marksWord, markBit, added, viewIn, processorIn, stageOf, sentAt, posted, capacity, checkOf, refused, done}
-use Rattle.model.specs.Moves.{Change, toCorrect, heardTally, formedMessages, stay, entries, toEach, handling, advanced, arrival, made}
+use Rattle.model.specs.State.{State, After, stateOf, viewStage, voteStage, clockOf, viewOf, isCorrect, enteredWord, added, viewIn, processorIn, stageOf, sentAt, posted, capacity, checkOf, refused, done}
+use Rattle.model.specs.Moves.{Change, toCorrect, heardTally, formedMessages, stay, entries, handling, advanced, arrival, made}
 use Rattle.model.specs.Checks.{judged, planOutside, faultyOutside, clockOutside, atEnd, late, namedOutside, notInitial, reachesEnd, overfull}
 use Rattle.model.specs.Events.{tickOnce, Ticks}
 use Rattle.model.specs.Processors.{Moved, messagesOf, moving}

@@ -13,13 +13,12 @@ use model::Stepped;
 ghost use mathlib.Core.Path.{_≡_};
 ghost use mathlib.Core.Bool.{true, false, _&&_};
 ghost use mathlib.Core.List.{List};
-ghost use Prim.Native.Nat.{_+_, _^_, _<_, _≤_, max, ℕ};
-ghost use lib.Dec.{leb};
+ghost use Prim.Native.Nat.{_+_, _^_, _<_, _≤_, ℕ};
 ghost use Rattle.base.specs.Scan.{some};
 ghost use Rattle.model.specs.Quantities.{correct};
 ghost use Rattle.model.specs.State.{stateOf, handedBack, capacity};
 ghost use Rattle.model.specs.Moves.{made, advanced, arrivals};
-ghost use Rattle.model.specs.Checks.{unsound};
+ghost use Rattle.model.specs.Checks.{late, unsound};
 ghost use Rattle.model.specs.Events.{ticksAnswer, tickRun};
 ghost use Rattle.model.specs.Processors.{processorUnsound};
 ghost use Rattle.pacemaker.specs.Steps.{movingBy, Named};
@@ -27,7 +26,7 @@ ghost use Rattle.simulator.specs.Inner.{Reacts, Arrives, Fit, Foretells,
 
 // Whether a message that was sent then is late, once the network has settled.
 fn is_late(gst: u64, delta: u64, time: u64, sent: u64) -> bool
-    ensures { λ r. ⌜ r ≡ leb (max sent gst + delta) time ⌝ }
+    ensures { λ r. ⌜ r ≡ late gst delta time sent ⌝ }
 {
     if time < delta {
         return false;

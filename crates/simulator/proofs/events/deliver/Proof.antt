@@ -10,7 +10,7 @@ use Rattle.model.specs.Checks.{reachesEnd}
 use Rattle.model.specs.Events.{without, delivering}
 use Rattle.pacemaker.proofs.LimitLaws.{within}
 use Rattle.simulator.specs.Inner.{namedCheck}
-use Rattle.simulator.proofs.Fitness.{fit-of, room-of, planned-of}
+use Rattle.simulator.proofs.Fitness.{fit-of, room-of}
 use Rattle.simulator.proofs.Deciding.{named-low}
 use Rattle.simulator.proofs.Delivery.{fit-held, found-none, found-some, without-is, capacity-without, held-reaches}
 use Rattle.simulator.proofs.Happening.{refused-is, done-is, deliver-named, deliver-missing, deliver-ends, deliver-full, deliver-done, decided-over, decided-fits}

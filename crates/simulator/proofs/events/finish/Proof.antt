@@ -4,7 +4,7 @@ use native.Mathlib.Omega.{arith}
 use Rattle.model.specs.State.{State, stateOf}
 use Rattle.model.specs.Moves.{handling, made}
 use Rattle.pacemaker.proofs.LimitLaws.{within}
-use Rattle.simulator.proofs.Fitness.{fit-of, room-of, planned-of}
+use Rattle.simulator.proofs.Fitness.{fit-of, room-of}
 use Rattle.simulator.proofs.Deciding.{named-low}
 use Rattle.simulator.proofs.Happening.{refused-is, done-is, finish-ends, finish-full, finish-done, decided-over, decided-fits}
 use Rattle.simulator.proofs.events.finish.Statement.{statement}

@@ -137,7 +137,8 @@ pub fn mark(tally: &mut [u64], stage: bool, w: u64)
 pub fn capacity(network: &[u64]) -> usize
     ensures { λ r. ⌜ r ≡ capacity (now (network .entry)) ⌝ }
 {
-    network.len() / MESSAGE_WORDS
+    let words = network.len();
+    words / MESSAGE_WORDS
 }
 
 // The message behind the h that are held.

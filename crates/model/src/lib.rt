@@ -1,7 +1,8 @@
 // The types of the product, declared once, and the functions of the plan.
 ghost use mathlib.Core.Path.{_≡_};
 ghost use Rattle.model.specs.Quantities.{tolerated, perLeader, initial, correct};
-ghost use Rattle.model.specs.State.{kindOf, viewIn, processorIn, stageOf};
+ghost use Rattle.model.specs.State.{kindOf, viewIn, processorIn, stageOf, isSignature};
+ghost use Rattle.model.specs.Checks.{lacksForm};
 ghost use Rattle.model.specs.PlanFunctions.{leadWord, nextInitialWord, clockTimeWord, addresseeWord};
 
 // The protocol's parameters (document 01: the plan): processors, delay, slot, view limit.
@@ -128,6 +129,9 @@ pub enum Message {
 }
 
 impl Message {
+    // View messages and votes have the kinds up to this one.
+    const LAST_SIGNATURE_KIND: u64 = 2;
+
     // The number by which a message of this kind is stored.
     pub fn kind(self) -> u64
         ensures { λ r. ⌜ r ≡ kindOf self ⌝ }
@@ -187,6 +191,13 @@ impl Message {
             Message::Qc(_, _) => true,
         }
     }
+
+    // Whether it is a view message or a vote.
+    pub fn is_signature(self) -> bool
+        ensures { λ r. ⌜ r ≡ isSignature self ⌝ }
+    {
+        self.kind() <= Message::LAST_SIGNATURE_KIND
+    }
 }
 
 // What happens next (document 01: the forms of a line, but for the opening): a message is delivered, a faulty processor signs, the
@@ -197,6 +208,21 @@ pub enum Event {
     Show(Message),
     Settle,
     Tick(u64),
+}
+
+impl Event {
+    // Check 1 of an event handed in: it has 0 ticks, or a kind that its form lacks.
+    pub fn lacks_form(self) -> bool
+        ensures { λ r. ⌜ r ≡ lacksForm self ⌝ }
+    {
+        match self {
+            Event::Deliver(_) => false,
+            Event::Sign(m) => !m.is_signature(),
+            Event::Show(m) => m.is_signature(),
+            Event::Settle => false,
+            Event::Tick(m) => m == 0,
+        }
+    }
 }
 
 // An initial configuration (document 01: what the opening form carries; the clocks are its table).

@@ -17,7 +17,7 @@ ghost use Prim.Native.Nat.{ℕ, _+_, _<_, _≤_};
 ghost use mathlib.Core.List.{List};
 ghost use lib.ListN.{length};
 ghost use Rattle.model.specs.Quantities.{lead, initial};
-ghost use Rattle.model.specs.State.{stateOf, handedBack, processorIn, isSignature, viewOf, capacity};
+ghost use Rattle.model.specs.State.{stateOf, handedBack, processorIn, viewOf, capacity};
 ghost use Rattle.model.specs.Moves.{forms, handling, made, formedMessages};
 ghost use Rattle.model.specs.Checks.{lacksForm, planOutside, faultyOutside, unsound, exists};
 ghost use Rattle.model.specs.Events.{applied};
@@ -41,31 +41,6 @@ fn done(run: Run) -> Applied
     Applied {
         run: run,
         answer: Answer::Done(0, held),
-    }
-}
-
-// Whether it is a view message or a vote.
-fn is_signature(message: Message) -> bool
-    ensures { λ r. ⌜ r ≡ isSignature message ⌝ }
-{
-    match message {
-        Message::View(_, _) => true,
-        Message::Vote(_, _) => true,
-        Message::Vc(_, _) => false,
-        Message::Qc(_, _) => false,
-    }
-}
-
-// Check 1: the event has 0 ticks, or a kind that its form lacks.
-pub(crate) fn lacks_form(event: Event) -> bool
-    ensures { λ r. ⌜ r ≡ lacksForm event ⌝ }
-{
-    match event {
-        Event::Deliver(_) => false,
-        Event::Sign(m) => !is_signature(m),
-        Event::Show(m) => is_signature(m),
-        Event::Settle => false,
-        Event::Tick(m) => m == 0,
     }
 }
 

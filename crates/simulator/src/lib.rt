@@ -53,7 +53,7 @@ pub fn open(run: Run, setup: Setup, tally: &mut [u64], network: &mut [u64]) -> A
 pub fn apply(run: Run, event: Event, tally: &mut [u64], network: &mut [u64]) -> Applied
     ensures { λ r. ⌜ Applies event (stateOf run (now (tally .entry)) (now (network .entry))) (handedBack r (now (tally .exit)) (now (network .exit))) ⌝ }
 {
-    if events::lacks_form(event) {
+    if event.lacks_form() {
         return events::refuse(run, 1);
     }
     if checks::unsound(run, tally, network) {

@@ -9,7 +9,7 @@ use Rattle.simulator.proofs.apply.Reads as reads
 use Rattle.simulator.proofs.apply.Lts as lts
 use Rattle.checks.proofs.unsound.Reads as unsound-reads
 use Rattle.simulator.proofs.events.deliver.Reads as deliver-reads
-use Rattle.simulator.proofs.events.lacks_form.Reads as lacks-form-reads
+use Rattle.model.proofs.Event.lacks_form.Reads as lacks-form-reads
 use Rattle.simulator.proofs.events.refuse.Reads as refuse-reads
 use Rattle.simulator.proofs.events.settle.Reads as settle-reads
 use Rattle.simulator.proofs.events.show.Reads as show-reads

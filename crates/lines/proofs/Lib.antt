@@ -1,0 +1,4 @@
+-- Laws behind the proofs of the functions, and what callers want of lines.
+pub mod Decimals
+pub mod Newlines
+pub mod Splitting

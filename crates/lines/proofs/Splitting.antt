@@ -1,0 +1,66 @@
+-- What the next line tells of an input. Assumes nothing.
+use mathlib.Core.Path.{_≡_, refl, sym, ap, _∙_, subst}
+use mathlib.Core.Bool.{Bool, true, false, cond}
+use Prim.Native.Nat.{ℕ, zero, suc, _+_, _≤_, _<_}
+use native.Mathlib.Omega.{arith}
+use mathlib.Core.List.{List, [], _∷_, _++_, append-assoc, append-nil}
+use lib.ListN.{length, take, drop}
+use lib.Dec.{T, eqb, leb, ltb}
+use borrow.Author.Tests.{ltb-true, ltb-false, leb-true, leb-false}
+use Rattle.base.specs.Tests.{by-cond}
+use Rattle.lines.specs.declared.Next.{Next}
+use Rattle.lines.specs.declared.Next.the-variants.{Line, Long, Unfinished, Endless}
+use Rattle.lines.specs.Forms.{newline}
+use Rattle.lines.specs.Splitting.{lineMost, beforeNewline, nextLine, Cut, ended, linesAfter, inputLines}
+use Rattle.lines.specs.Promises.{Ended, Started, Tells, NextLine}
+
+abbrev Cuts : List ℕ → List ℕ → List ℕ → ℕ → Type 0
+Cuts a s more k = k < length s → linesAfter a (s ++ more) ≡ ended (a ++ take k s) ∷ linesAfter [] (drop (suc k) s ++ more)
+
+cuts : (a s more : List ℕ) → Cuts a s more (beforeNewline s)
+unfolding beforeNewline
+cuts a [] more = λ h. absurd (omega arith)
+cuts a (b ∷ s) more = go (eqb b newline) (cuts (a ++ (b ∷ [])) s more)
+  where
+    go : (t : Bool) → Cuts (a ++ (b ∷ [])) s more (beforeNewline s)
+        → cond t 0 (suc (beforeNewline s)) < suc (length s)
+        → cond t (ended a ∷ linesAfter [] (s ++ more)) (linesAfter (a ++ (b ∷ [])) (s ++ more))
+        ≡ ended (a ++ take (cond t 0 (suc (beforeNewline s))) (b ∷ s)) ∷ linesAfter [] (drop (suc (cond t 0 (suc (beforeNewline s)))) (b ∷ s) ++ more)
+    go true f h = ap (λ (l : List ℕ). ended l ∷ linesAfter [] (s ++ more)) (sym (append-nil a))
+    go false f h = f (omega arith) ∙ ap (λ (l : List ℕ). ended l ∷ linesAfter [] (drop (suc (beforeNewline s)) s ++ more)) (append-assoc a (b ∷ []) (take (beforeNewline s) s))
+
+starts : (a s more : List ℕ) → length s ≤ beforeNewline s → linesAfter a (s ++ more) ≡ linesAfter (a ++ s) more
+unfolding beforeNewline
+starts a [] more = λ h. ap (λ (l : List ℕ). linesAfter l more) (sym (append-nil a))
+starts a (b ∷ s) more = go (eqb b newline) (starts (a ++ (b ∷ [])) s more)
+  where
+    go : (t : Bool) → (length s ≤ beforeNewline s → linesAfter (a ++ (b ∷ [])) (s ++ more) ≡ linesAfter ((a ++ (b ∷ [])) ++ s) more)
+        → suc (length s) ≤ cond t 0 (suc (beforeNewline s))
+        → cond t (ended a ∷ linesAfter [] (s ++ more)) (linesAfter (a ++ (b ∷ [])) (s ++ more)) ≡ linesAfter (a ++ (b ∷ s)) more
+    go true f h = absurd (omega arith)
+    go false f h = f (omega arith) ∙ ap (λ (l : List ℕ). linesAfter l more) (append-assoc a (b ∷ []) s)
+
+ends : (s : List ℕ) → beforeNewline s < length s → Ended s (beforeNewline s)
+unfolding inputLines
+ends s h = (h, λ more. cuts [] s more h)
+
+started : (s : List ℕ) → length s ≤ beforeNewline s → Started s
+unfolding inputLines
+started s h = λ more. starts [] s more h
+
+pub next-line : NextLine
+unfolding nextLine
+next-line s = first (ltb (beforeNewline s) (length s)) refl
+  where
+    whole : (t : Bool) → leb (beforeNewline s) lineMost ≡ t → beforeNewline s < length s → Tells s (cond t (Line (beforeNewline s)) (Long (beforeNewline s)))
+    whole true e h = (leb-true _ _ e, ends s h)
+    whole false e h = (leb-false _ _ e, ends s h)
+
+    part : (t : Bool) → leb (length s) lineMost ≡ t → length s ≤ beforeNewline s → Tells s (cond t Unfinished Endless)
+    part true e h = (leb-true _ _ e, started s h)
+    part false e h = (leb-false _ _ e, started s h)
+
+    first : (t : Bool) → ltb (beforeNewline s) (length s) ≡ t
+        → Tells s (cond t (cond (leb (beforeNewline s) lineMost) (Line (beforeNewline s)) (Long (beforeNewline s))) (cond (leb (length s) lineMost) Unfinished Endless))
+    first true e = whole (leb (beforeNewline s) lineMost) refl (ltb-true _ _ e)
+    first false e = part (leb (length s) lineMost) refl (ltb-false _ _ e)

@@ -1,0 +1,50 @@
+use borrow.Author.Needs.{needs}
+use Rattle.lines.proofs.Newlines.{Searched, searched-none, searched-more, searched-here, searched-all}
+use lib.ListN.{length}
+use native.Mathlib.Omega.{arith}
+use Prim.Native.Nat.{_-_}
+use Rattle.lines.proofs.before_newline.Statement.{statement}
+use Rattle.lines.proofs.before_newline.Tie as tie
+use Rattle.lines.proofs.before_newline.Reads as reads
+use Rattle.lines.proofs.before_newline.Lts as lts
+
+abbrev Inv-loop : tie.InvT-loop
+Inv-loop bytes i₀ i = Searched bytes i
+
+abbrev μ-loop : tie.MeasureT-loop
+μ-loop bytes i₀ i = length bytes - i
+
+loop-holds : tie.Need-loop-holds Inv-loop μ-loop
+loop-holds c = searched-none _
+
+shared-slice-read-if1 : tie.Need-shared-slice-read-if1 Inv-loop μ-loop
+shared-slice-read-if1 c = search needs
+
+returns : tie.Need-returns Inv-loop μ-loop
+returns c = searched-here _ _ (c .before .before .before .loop .inv) (c .before .before .loop-test .taken) (c .if1 .taken)
+
+add-i : tie.Need-add-i Inv-loop μ-loop
+add-i c = search needs
+
+loop-less : tie.Need-loop-less Inv-loop μ-loop
+loop-less c = search needs
+
+loop-again : tie.Need-loop-again Inv-loop μ-loop
+loop-again c = searched-more _ _ (c .before .before .before .loop .inv) (c .before .before .loop-test .taken) (c .if1 .left)
+
+returns-2 : tie.Need-returns-2 Inv-loop μ-loop
+returns-2 c = searched-all _ _ (c .before .loop .inv) (c .loop-test .left)
+
+pub before-newline-spec : {M : Type 1} → statement M
+before-newline-spec =
+    tie.close
+    (tie.spec
+    Inv-loop
+    μ-loop
+    loop-holds
+    shared-slice-read-if1
+    returns
+    add-i
+    loop-less
+    loop-again
+    returns-2)

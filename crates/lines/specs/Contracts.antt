@@ -1,0 +1,70 @@
+-- What reading and writing a line owe to its form.
+use Prim.Native.Nat.{ℕ}
+use mathlib.Core.Path.{_≡_}
+use mathlib.Core.Bool.{Bool, _||_, cond}
+use mathlib.Core.List.{List, [], _∷_, _++_}
+use lib.ListN.{length, drop, replicate}
+use lib.Dec.{ltb}
+use Rattle.model.specs.declared.Event.{Event}
+use Rattle.model.specs.declared.Setup.{Setup}
+use Rattle.model.specs.Quantities.{tableClocks}
+use Rattle.lines.specs.declared.Read.{Read}
+use Rattle.lines.specs.declared.Read.the-variants as Read
+use Rattle.lines.specs.declared.Reading.{Reading}
+use Rattle.lines.specs.declared.Written.{Written}
+use Rattle.lines.specs.declared.Written.the-variants.{Bytes, Refused}
+use Rattle.lines.specs.Forms.{newline, EventLine, SetupLine, trimmed}
+
+-- ---- reading
+
+-- what stands beside anything but an opening
+abbrev pub noSetup : Setup
+noSetup = record { plan = record { n = 0; delta = 0; gamma = 0; views = 0 }; faulty = 0; clocks = replicate tableClocks 0 }
+
+abbrev pub eventReading : Event → Reading
+eventReading e = record { read = Read.Event e; setup = noSetup }
+
+abbrev pub openingReading : Setup → Reading
+openingReading u = record { read = Read.Opening; setup = u }
+
+abbrev pub noForm : Reading
+noForm = record { read = Read.NoForm; setup = noSetup }
+
+-- document 01's number of each answer: "The line is not one of the forms above"
+abbrev pub readCheck : Read → ℕ
+readCheck (Read.Event e) = 0
+readCheck Read.Opening = 0
+readCheck Read.NoForm = 1
+
+-- that the line s is read as r: an event or an opening exactly where the line is its form, none where it is that of nothing
+pub record Reads (s : List ℕ) (r : Reading) : Type 0 where
+  -- every line that reads as an event is exactly the form of that event
+  pub event : (e : Event) → r .read ≡ Read.Event e → EventLine s e
+  pub opening : r .read ≡ Read.Opening → SetupLine s (r .setup)
+  -- reading the form gives the event, and the setup with clocks from n on 0
+  pub event-form : (e : Event) → EventLine s e → r ≡ eventReading e
+  pub setup-form : (u : Setup) → SetupLine s u → r ≡ openingReading (trimmed u)
+  -- nothing stands beside a line that is none of the forms
+  pub no-form : r .read ≡ Read.NoForm → r ≡ noForm
+
+-- ---- writing
+
+-- the form and then one newline
+abbrev pub line : List ℕ → List ℕ
+line form = form ++ (newline ∷ [])
+
+-- check 1: "a line to be written has no form .. or too few lent bytes"
+abbrev pub notWritten : Bool → List ℕ → List ℕ → Bool
+notWritten lacks form lent = lacks || ltb (length lent) (length (line form))
+
+unfoldable pub writtenAs : Bool → List ℕ → List ℕ → Written
+writtenAs lacks form lent = cond (notWritten lacks form lent) (Refused 1) (Bytes (length (line form)))
+
+-- "writing leaves lent bytes after the newline untouched"
+unfoldable pub writtenIn : Bool → List ℕ → List ℕ → List ℕ
+writtenIn lacks form lent = cond (notWritten lacks form lent) lent (line form ++ drop (length (line form)) lent)
+
+-- document 01's number of each answer
+abbrev pub writtenCheck : Written → ℕ
+writtenCheck (Bytes k) = 0
+writtenCheck (Refused r) = r

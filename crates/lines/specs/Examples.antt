@@ -1,0 +1,110 @@
+-- The forms computed, as document 01 writes them, and where lines end. Assumes nothing.
+use mathlib.Core.Path.{_≡_, refl}
+use mathlib.Core.List.{List, [], _∷_, _++_}
+use Prim.Native.Nat.{ℕ}
+use lib.ListN.{replicate}
+use Rattle.model.specs.declared.Message.the-variants.{View, Vote, Vc, Qc}
+use Rattle.model.specs.declared.Event.the-variants.{Deliver, Sign, Show, Settle, Tick}
+use Rattle.model.specs.Rows.{planOf, standard, setupOf}
+use Rattle.lines.specs.declared.Reading.{Reading}
+use Rattle.lines.specs.declared.Next.{Next}
+use Rattle.lines.specs.declared.Next.the-variants.{Line, Long, Unfinished, Endless}
+use Rattle.lines.specs.Decimal.{decimal}
+use Rattle.lines.specs.Forms.{newline, messageForm, eventForm, setupForm}
+use Rattle.lines.specs.Contracts.{eventReading, noForm}
+use Rattle.lines.specs.Splitting.{beforeNewline, nextLine, Cut, ended, left, inputLines, cutRead}
+
+-- ---- forms
+
+pub forms : List (List ℕ)
+forms =
+    eventForm (Deliver (View 0 0))
+    ∷ eventForm (Deliver (Vote 12 63))
+    ∷ eventForm (Deliver (Vc 3 1))
+    ∷ eventForm (Deliver (Qc 5999 10))
+    ∷ eventForm (Sign (View 9 2))
+    ∷ eventForm (Sign (Vote 10 2))
+    ∷ eventForm (Show (Vc 99 7))
+    ∷ eventForm (Show (Qc 100 0))
+    ∷ eventForm (Settle)
+    ∷ eventForm (Tick 3)
+    ∷ eventForm (Tick 18446744073709551615)
+    ∷ setupForm (setupOf standard 0 (0 ∷ 0 ∷ 0 ∷ 0 ∷ []))
+    ∷ setupForm (setupOf (planOf 1 7 80 999) 1 (10 ∷ []))
+    ∷ []
+
+pub formBytes : List (List ℕ)
+formBytes =
+    -- "(deliver (view 0 0))"
+    (40 ∷ 100 ∷ 101 ∷ 108 ∷ 105 ∷ 118 ∷ 101 ∷ 114 ∷ 32 ∷ 40 ∷ 118 ∷ 105 ∷ 101 ∷ 119 ∷ 32 ∷ 48 ∷ 32 ∷ 48 ∷ 41 ∷ 41 ∷ [])
+    -- "(deliver (vote 12 63))"
+    ∷ (40 ∷ 100 ∷ 101 ∷ 108 ∷ 105 ∷ 118 ∷ 101 ∷ 114 ∷ 32 ∷ 40 ∷ 118 ∷ 111 ∷ 116 ∷ 101 ∷ 32 ∷ 49 ∷ 50 ∷ 32 ∷ 54 ∷ 51 ∷ 41 ∷ 41 ∷ [])
+    -- "(deliver (vc 3 1))"
+    ∷ (40 ∷ 100 ∷ 101 ∷ 108 ∷ 105 ∷ 118 ∷ 101 ∷ 114 ∷ 32 ∷ 40 ∷ 118 ∷ 99 ∷ 32 ∷ 51 ∷ 32 ∷ 49 ∷ 41 ∷ 41 ∷ [])
+    -- "(deliver (qc 5999 10))"
+    ∷ (40 ∷ 100 ∷ 101 ∷ 108 ∷ 105 ∷ 118 ∷ 101 ∷ 114 ∷ 32 ∷ 40 ∷ 113 ∷ 99 ∷ 32 ∷ 53 ∷ 57 ∷ 57 ∷ 57 ∷ 32 ∷ 49 ∷ 48 ∷ 41 ∷ 41 ∷ [])
+    -- "(sign (view 9 2))"
+    ∷ (40 ∷ 115 ∷ 105 ∷ 103 ∷ 110 ∷ 32 ∷ 40 ∷ 118 ∷ 105 ∷ 101 ∷ 119 ∷ 32 ∷ 57 ∷ 32 ∷ 50 ∷ 41 ∷ 41 ∷ [])
+    -- "(sign (vote 10 2))"
+    ∷ (40 ∷ 115 ∷ 105 ∷ 103 ∷ 110 ∷ 32 ∷ 40 ∷ 118 ∷ 111 ∷ 116 ∷ 101 ∷ 32 ∷ 49 ∷ 48 ∷ 32 ∷ 50 ∷ 41 ∷ 41 ∷ [])
+    -- "(show (vc 99 7))"
+    ∷ (40 ∷ 115 ∷ 104 ∷ 111 ∷ 119 ∷ 32 ∷ 40 ∷ 118 ∷ 99 ∷ 32 ∷ 57 ∷ 57 ∷ 32 ∷ 55 ∷ 41 ∷ 41 ∷ [])
+    -- "(show (qc 100 0))"
+    ∷ (40 ∷ 115 ∷ 104 ∷ 111 ∷ 119 ∷ 32 ∷ 40 ∷ 113 ∷ 99 ∷ 32 ∷ 49 ∷ 48 ∷ 48 ∷ 32 ∷ 48 ∷ 41 ∷ 41 ∷ [])
+    -- "(settle)"
+    ∷ (40 ∷ 115 ∷ 101 ∷ 116 ∷ 116 ∷ 108 ∷ 101 ∷ 41 ∷ [])
+    -- "(tick 3)"
+    ∷ (40 ∷ 116 ∷ 105 ∷ 99 ∷ 107 ∷ 32 ∷ 51 ∷ 41 ∷ [])
+    -- "(tick 18446744073709551615)"
+    ∷ (40 ∷ 116 ∷ 105 ∷ 99 ∷ 107 ∷ 32 ∷ 49 ∷ 56 ∷ 52 ∷ 52 ∷ 54 ∷ 55 ∷ 52 ∷ 52 ∷ 48 ∷ 55 ∷ 51 ∷ 55 ∷ 48 ∷ 57 ∷ 53 ∷ 53 ∷ 49 ∷ 54 ∷ 49 ∷ 53 ∷ 41 ∷ [])
+    -- "(open 4 2 4 6 0 (0 0 0 0))"
+    ∷ (40 ∷ 111 ∷ 112 ∷ 101 ∷ 110 ∷ 32 ∷ 52 ∷ 32 ∷ 50 ∷ 32 ∷ 52 ∷ 32 ∷ 54 ∷ 32 ∷ 48 ∷ 32 ∷ 40 ∷ 48 ∷ 32 ∷ 48 ∷ 32 ∷ 48 ∷ 32 ∷ 48 ∷ 41 ∷ 41 ∷ [])
+    -- "(open 1 7 80 999 1 (10))"
+    ∷ (40 ∷ 111 ∷ 112 ∷ 101 ∷ 110 ∷ 32 ∷ 49 ∷ 32 ∷ 55 ∷ 32 ∷ 56 ∷ 48 ∷ 32 ∷ 57 ∷ 57 ∷ 57 ∷ 32 ∷ 49 ∷ 32 ∷ 40 ∷ 49 ∷ 48 ∷ 41 ∷ 41 ∷ [])
+    ∷ []
+
+pub forms-hold : forms ≡ formBytes
+unfolding forms formBytes eventForm messageForm setupForm decimal
+forms-hold = refl
+
+-- ---- the next line
+
+pub nexts : List Next
+nexts =
+    nextLine []
+    ∷ nextLine (newline ∷ [])
+    ∷ nextLine (40 ∷ 41 ∷ newline ∷ 40 ∷ newline ∷ [])
+    ∷ nextLine (40 ∷ 41 ∷ [])
+    ∷ nextLine (replicate 4800 32 ++ (newline ∷ 40 ∷ []))
+    ∷ nextLine (replicate 4801 32 ++ (newline ∷ 40 ∷ []))
+    ∷ nextLine (replicate 4800 32)
+    ∷ nextLine (replicate 4801 32)
+    ∷ []
+
+pub nexts-hold : nexts ≡ (Unfinished ∷ Line 0 ∷ Line 2 ∷ Unfinished ∷ Line 4800 ∷ Long 4801 ∷ Unfinished ∷ Endless ∷ [])
+unfolding nexts nextLine beforeNewline
+nexts-hold = refl
+
+-- ---- the lines of an input
+
+pub cutInputs : List (List Cut)
+cutInputs =
+    inputLines []
+    ∷ inputLines (newline ∷ [])
+    ∷ inputLines (40 ∷ newline ∷ newline ∷ 41 ∷ [])
+    ∷ []
+
+pub cutInputs-hold : cutInputs ≡ ([] ∷ (ended [] ∷ []) ∷ (ended (40 ∷ []) ∷ ended [] ∷ left ∷ []) ∷ [])
+unfolding cutInputs inputLines
+cutInputs-hold = refl
+
+-- as if all bytes were "(settle)"
+abbrev pub settles : List ℕ → Reading
+settles s = eventReading Settle
+
+pub cutReadings : List Reading
+cutReadings = cutRead settles left ∷ cutRead settles (ended (replicate 4800 32)) ∷ cutRead settles (ended (replicate 4801 32)) ∷ []
+
+pub cutReadings-hold : cutReadings ≡ (noForm ∷ eventReading Settle ∷ noForm ∷ [])
+unfolding cutReadings
+cutReadings-hold = refl

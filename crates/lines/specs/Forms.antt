@@ -1,0 +1,163 @@
+-- "Events, one form a line": the bytes of each form. The grammar is nothing else: a line is the form of an event or of a setup.
+use Prim.Native.Nat.{ℕ, _-_, _<_}
+use mathlib.Core.Path.{_≡_}
+use mathlib.Core.Bool.{Bool, false, _||_}
+use mathlib.Core.List.{List, [], _∷_, _++_}
+use lib.ListN.{length, take, replicate}
+use lib.Dec.{eqb, ltb}
+use Rattle.model.specs.declared.Message.{Message}
+use Rattle.model.specs.declared.Message.the-variants.{View, Vote, Vc, Qc}
+use Rattle.model.specs.declared.Event.{Event}
+use Rattle.model.specs.declared.Event.the-variants.{Deliver, Sign, Show, Settle, Tick}
+use Rattle.model.specs.declared.Setup.{Setup}
+use Rattle.model.specs.Quantities.{nMost, tableClocks}
+use Rattle.model.specs.State.{viewIn, processorIn}
+use Rattle.model.specs.Checks.{lacksForm}
+use Rattle.lines.specs.Decimal.{decimal, fieldLimit}
+
+-- ---- the fixed bytes
+
+-- "("
+abbrev pub openBracket : List ℕ
+openBracket = 40 ∷ []
+
+-- ")"
+abbrev pub closeBracket : List ℕ
+closeBracket = 41 ∷ []
+
+-- "separated by one blank"
+abbrev pub blank : List ℕ
+blank = 32 ∷ []
+
+-- "and then one newline"
+abbrev pub newline : ℕ
+newline = 10
+
+-- "open"
+abbrev pub openWord : List ℕ
+openWord = 111 ∷ 112 ∷ 101 ∷ 110 ∷ []
+
+-- "deliver"
+abbrev pub deliverWord : List ℕ
+deliverWord = 100 ∷ 101 ∷ 108 ∷ 105 ∷ 118 ∷ 101 ∷ 114 ∷ []
+
+-- "sign"
+abbrev pub signWord : List ℕ
+signWord = 115 ∷ 105 ∷ 103 ∷ 110 ∷ []
+
+-- "show"
+abbrev pub showWord : List ℕ
+showWord = 115 ∷ 104 ∷ 111 ∷ 119 ∷ []
+
+-- "settle"
+abbrev pub settleWord : List ℕ
+settleWord = 115 ∷ 101 ∷ 116 ∷ 116 ∷ 108 ∷ 101 ∷ []
+
+-- "tick"
+abbrev pub tickWord : List ℕ
+tickWord = 116 ∷ 105 ∷ 99 ∷ 107 ∷ []
+
+-- "view"
+abbrev pub viewWord : List ℕ
+viewWord = 118 ∷ 105 ∷ 101 ∷ 119 ∷ []
+
+-- "vote"
+abbrev pub voteWord : List ℕ
+voteWord = 118 ∷ 111 ∷ 116 ∷ 101 ∷ []
+
+-- "vc"
+abbrev pub vcWord : List ℕ
+vcWord = 118 ∷ 99 ∷ []
+
+-- "qc"
+abbrev pub qcWord : List ℕ
+qcWord = 113 ∷ 99 ∷ []
+
+-- ---- the forms
+
+-- one after the other
+abbrev pub joined : List (List ℕ) → List ℕ
+joined [] = []
+joined (a ∷ l) = a ++ joined l
+
+-- "the message inside the form is one of four kinds": its word
+abbrev pub kindWord : Message → List ℕ
+kindWord (View w p) = viewWord
+kindWord (Vote w p) = voteWord
+kindWord (Vc w p) = vcWord
+kindWord (Qc w p) = qcWord
+
+-- "(view w p)", "and so for vote, vc, qc"
+unfoldable pub messageForm : Message → List ℕ
+messageForm m = joined (openBracket ∷ kindWord m ∷ blank ∷ decimal (viewIn m) ∷ blank ∷ decimal (processorIn m) ∷ closeBracket ∷ [])
+
+-- "(deliver (view w p))" and the like
+abbrev pub carrying : List ℕ → Message → List ℕ
+carrying w m = joined (openBracket ∷ w ∷ blank ∷ messageForm m ∷ closeBracket ∷ [])
+
+unfoldable pub eventForm : Event → List ℕ
+eventForm (Deliver m) = carrying deliverWord m
+eventForm (Sign m) = carrying signWord m
+eventForm (Show m) = carrying showWord m
+eventForm Settle = joined (openBracket ∷ settleWord ∷ closeBracket ∷ [])
+eventForm (Tick m) = joined (openBracket ∷ tickWord ∷ blank ∷ decimal m ∷ closeBracket ∷ [])
+
+-- "c0 c1 .."
+abbrev pub furtherClocks : List ℕ → List ℕ
+furtherClocks [] = []
+furtherClocks (c ∷ l) = blank ++ (decimal c ++ furtherClocks l)
+
+abbrev pub clocksForm : List ℕ → List ℕ
+clocksForm [] = []
+clocksForm (c ∷ l) = decimal c ++ furtherClocks l
+
+-- the clocks that the line has: "n clocks"
+abbrev pub lineClocks : Setup → List ℕ
+lineClocks u = take (u .plan .n) (u .clocks)
+
+-- "(open n Δ Γ V mask (c0 c1 ..))"
+unfoldable pub setupForm : Setup → List ℕ
+setupForm u = joined (
+    openBracket ∷ openWord
+    ∷ blank ∷ decimal (u .plan .n) ∷ blank ∷ decimal (u .plan .delta) ∷ blank ∷ decimal (u .plan .gamma) ∷ blank ∷ decimal (u .plan .views)
+    ∷ blank ∷ decimal (u .faulty)
+    ∷ blank ∷ openBracket ∷ clocksForm (lineClocks u) ∷ closeBracket ∷ closeBracket ∷ [])
+
+-- ---- what has a form
+
+-- "n clocks, 1 to 64 of them": check 1, "a line to be written has no form (n is 0 or above 64)". Which events have none, `lacksForm` says
+abbrev pub lacksSetupForm : Setup → Bool
+lacksSetupForm u = eqb (u .plan .n) 0 || ltb nMost (u .plan .n)
+
+-- the numbers in the form
+abbrev pub eventFields : Event → List ℕ
+eventFields (Deliver m) = viewIn m ∷ processorIn m ∷ []
+eventFields (Sign m) = viewIn m ∷ processorIn m ∷ []
+eventFields (Show m) = viewIn m ∷ processorIn m ∷ []
+eventFields Settle = []
+eventFields (Tick m) = m ∷ []
+
+abbrev pub setupFields : Setup → List ℕ
+setupFields u = u .plan .n ∷ u .plan .delta ∷ u .plan .gamma ∷ u .plan .views ∷ u .faulty ∷ lineClocks u
+
+-- "below 2^64"
+abbrev pub Below : List ℕ → Type 0
+Below [] = Unit {0}
+Below (n ∷ l) = (n < fieldLimit) × Below l
+
+-- the line s is the form of the event e
+pub record EventLine (s : List ℕ) (e : Event) : Type 0 where
+  pub formed : lacksForm e ≡ false
+  pub below : Below (eventFields e)
+  pub bytes : s ≡ eventForm e
+
+-- the line s is the form of the setup u, which has a whole table
+pub record SetupLine (s : List ℕ) (u : Setup) : Type 0 where
+  pub formed : lacksSetupForm u ≡ false
+  pub below : Below (setupFields u)
+  pub table : length (u .clocks) ≡ tableClocks
+  pub bytes : s ≡ setupForm u
+
+-- "tables that differ only from n on are the same event": the setup with those clocks 0
+unfoldable pub trimmed : Setup → Setup
+trimmed u = record { plan = u .plan; faulty = u .faulty; clocks = lineClocks u ++ replicate (tableClocks - u .plan .n) 0 }

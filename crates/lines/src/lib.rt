@@ -1,0 +1,69 @@
+// What lines of a schedule are, and where the next one ends.
+use model::Event;
+use model::Setup;
+ghost use mathlib.Core.Path.{_≡_};
+ghost use Prim.Native.Nat.{_≤_};
+ghost use lib.ListN.{length};
+ghost use Rattle.lines.specs.Splitting.{beforeNewline, nextLine};
+
+// What a line is read as: an event, an opening, whose setup stands beside this, or none of the forms (check 1).
+pub enum Read {
+    Event(Event),
+    Opening,
+    NoForm,
+}
+
+// What a line is read as, and the setup of an opening; 0 everywhere beside anything else.
+pub struct Reading {
+    pub read: Read,
+    pub setup: Setup,
+}
+
+// The answer to writing a line: the bytes written, its newline among them, or the check.
+pub enum Written {
+    Bytes(usize),
+    Refused(u64),
+}
+
+// The next line within the bytes at hand. Line: it ends before the newline at the place named. Long: so does this one, which has more bytes than a
+// line may have. Unfinished: no newline is at hand. Endless: nor is there one, and more bytes are at hand than a line may have.
+pub enum Next {
+    Line(usize),
+    Long(usize),
+    Unfinished,
+    Endless,
+}
+
+// The most bytes of a line, without its newline.
+pub const LINE_MOST: usize = 4800;
+
+// How many bytes stand before the first newline; all where there is none.
+fn before_newline(bytes: &[u8]) -> usize
+    ensures { λ r. ⌜ (r ≡ beforeNewline (now (bytes .entry))) × (r ≤ length (now (bytes .entry))) ⌝ }
+{
+    let mut i = 0;
+    while i < bytes.len() {
+        if bytes[i] == b'\n' {
+            return i;
+        }
+        i += 1;
+    }
+    i
+}
+
+// The next line within the bytes at hand.
+pub fn next_line(bytes: &[u8]) -> Next
+    ensures { λ r. ⌜ r ≡ nextLine (now (bytes .entry)) ⌝ }
+{
+    let end = before_newline(bytes);
+    if end < bytes.len() {
+        if end <= LINE_MOST {
+            return Next::Line(end);
+        }
+        return Next::Long(end);
+    }
+    if bytes.len() <= LINE_MOST {
+        return Next::Unfinished;
+    }
+    Next::Endless
+}

@@ -1,0 +1,4 @@
+-- What the reader's clauses cite.
+pub mod Bytes
+pub mod Scan
+pub mod Lines

@@ -2,3 +2,4 @@
 pub mod Decimals
 pub mod Newlines
 pub mod Splitting
+pub mod Schedules

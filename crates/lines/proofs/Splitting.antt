@@ -1,18 +1,16 @@
 -- What the next line tells of an input. Assumes nothing.
-use mathlib.Core.Path.{_≡_, refl, sym, ap, _∙_, subst}
+use mathlib.Core.Path.{_≡_, refl, sym, ap, _∙_}
 use mathlib.Core.Bool.{Bool, true, false, cond}
-use Prim.Native.Nat.{ℕ, zero, suc, _+_, _≤_, _<_}
+use Prim.Native.Nat.{ℕ, suc, _+_, _≤_, _<_}
 use native.Mathlib.Omega.{arith}
 use mathlib.Core.List.{List, [], _∷_, _++_, append-assoc, append-nil}
 use lib.ListN.{length, take, drop}
-use lib.Dec.{T, eqb, leb, ltb}
+use lib.Dec.{eqb, leb, ltb}
 use borrow.Author.Tests.{ltb-true, ltb-false, leb-true, leb-false}
-use Rattle.base.specs.Tests.{by-cond}
-use Rattle.lines.specs.declared.Next.{Next}
 use Rattle.lines.specs.declared.Next.the-variants.{Line, Long, Unfinished, Endless}
 use Rattle.lines.specs.Forms.{newline}
-use Rattle.lines.specs.Splitting.{lineMost, beforeNewline, nextLine, Cut, ended, linesAfter, inputLines}
-use Rattle.lines.specs.Promises.{Ended, Started, Tells, NextLine}
+use Rattle.lines.specs.Splitting.{lineMost, beforeNewline, nextLine, ended, linesAfter, inputLines}
+use Rattle.lines.specs.Promises.{Ended, Started, Tells, TellsNext}
 
 abbrev Cuts : List ℕ → List ℕ → List ℕ → ℕ → Type 0
 Cuts a s more k = k < length s → linesAfter a (s ++ more) ≡ ended (a ++ take k s) ∷ linesAfter [] (drop (suc k) s ++ more)
@@ -48,7 +46,7 @@ started : (s : List ℕ) → length s ≤ beforeNewline s → Started s
 unfolding inputLines
 started s h = λ more. starts [] s more h
 
-pub next-line : NextLine
+pub next-line : TellsNext
 unfolding nextLine
 next-line s = first (ltb (beforeNewline s) (length s)) refl
   where

@@ -14,12 +14,23 @@ use lib.ListN.{length, getD, drop, drop-of-length-le}
 use lib.Seq.{drop-cons}
 use lib.Dec.{T, eqb, leb, eqb→eq, leb→le}
 use borrow.Author.Tests.{lt-ltb, le-ltb, le-leb}
+use Rattle.base.specs.Choice.{and-both}
 use Rattle.base.specs.Tests.{T-left, T-right, T-false, by-cond, le?}
 use Rattle.reader.specs.declared.Class.{Class}
 use Rattle.reader.specs.declared.Class.the-variants.{Digit, Opening, Closing, Blank, Other}
 use Rattle.reader.specs.Bytes.{isDigit, classOf, classAt, digitRun}
 
 -- ---- a byte
+
+pub record IsDigit (b : ℕ) : Type 0 where
+  pub least : 48 ≤ b
+  pub most : b ≤ 57
+
+pub digit-is : (b : ℕ) → T (isDigit b) → IsDigit b
+digit-is b t = record { least = leb→le 48 b (T-left (leb 48 b) (leb b 57) t); most = leb→le b 57 (T-right (leb 48 b) (leb b 57) t) }
+
+pub is-digit : (b : ℕ) → IsDigit b → isDigit b ≡ true
+is-digit b i = and-both _ _ (le-leb 48 b (i .least)) (le-leb b 57 (i .most))
 
 -- what a class says of its byte
 abbrev pub Means : Class → ℕ → Type 0
@@ -30,9 +41,7 @@ Means Blank b = b ≡ 32
 Means Other b = isDigit b ≡ false
 
 digit-means : (b : ℕ) → T (isDigit b) → Means (Digit (b - 48)) b
-digit-means b t =
-    let l : 48 ≤ b = leb→le 48 b (T-left (leb 48 b) (leb b 57) t) in
-    let h : b ≤ 57 = leb→le b 57 (T-right (leb 48 b) (leb b 57) t) in (omega arith, omega arith)
+digit-means b t = let i : IsDigit b = digit-is b t in (omega arith, omega arith)
 
 pub class-means : (b : ℕ) → Means (classOf b) b
 unfolding classOf
@@ -84,9 +93,8 @@ class-here s i r e t = ⊎-elim (λ (h : length s ≤ i). absurd (subst Solid (s
 pub digit-run : (s : List ℕ) (i d : ℕ) → classAt s i ≡ Digit d → digitRun (drop i s) ≡ (48 + d) ∷ digitRun (drop (i + 1) s)
 digit-run s i d e =
     let h = class-here s i (Digit d) e tt in
-    let l : leb 48 (48 + d) ≡ true = le-leb 48 (48 + d) (omega arith) in
-    let m : leb (48 + d) 57 ≡ true = le-leb (48 + d) 57 (omega arith) in
-    rw (drop-cons s i 0 (h .inside), h .byte .1, l, m, add-one)
+    let x : IsDigit (48 + d) = record { least = omega arith; most = omega arith } in
+    rw (drop-cons s i 0 (h .inside), h .byte .1, is-digit (48 + d) x, add-one)
 
 pub no-digit : (s : List ℕ) (i : ℕ) → ((d : ℕ) → classAt s i ≡ Digit d → ⊥) → digitRun (drop i s) ≡ []
 no-digit s i n = ⊎-elim (λ (h : length s ≤ i). rw (drop-of-length-le s h)) inner (le? (length s) i)

@@ -99,7 +99,7 @@ spelling-more s at v value i d x e h =
     (h, x .1 ∙ rw q (spelled-digit value d (digitRun (drop (i + 1) s))), x .2 ∙ rw q (omega arith))
 
 -- what digits spell is no less than what stands before them
-spelled-least : (v : ℕ) (l : List ℕ) → v ≤ spelled v l
+pub spelled-least : (v : ℕ) (l : List ℕ) → v ≤ spelled v l
 spelled-least v [] = omega arith
 spelled-least v (b ∷ l) = omega (arith, spelled-least (v * 10 + (b - 48)) l)
 

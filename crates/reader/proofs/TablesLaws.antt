@@ -1,7 +1,7 @@
 -- Numbers behind blanks, and the clocks of a table, one by one. Assumes nothing.
 use mathlib.Core.Path.{_≡_, refl, sym, ap, _∙_}
 use mathlib.Core.List.{List, [], _∷_, _++_, append-nil, append-assoc}
-use Prim.Native.Nat.{ℕ, zero, suc, _+_, _-_, _≤_, _<_}
+use Prim.Native.Nat.{ℕ, suc, _+_, _-_, _≤_, _<_}
 use native.Mathlib.Numerals.{add-one}
 use native.Mathlib.Omega.{arith}
 use lib.ListN.{length, take, drop, set, replicate, length-take, length-set, take-append-drop}
@@ -29,11 +29,6 @@ next-value ps s at n k e = next-parts ps s at ∙ rw e
 
 pub next-none : (ps : List Part) (s : List ℕ) (at : ℕ) → nextNumberAt s at ≡ NoNumber → readParts (word blank ∷ field ∷ ps) s at ≡ none
 next-none ps s at e = next-parts ps s at ∙ rw e
-
--- a heading's numbers from one of them on
-abbrev pub numbers : ℕ → List Part
-numbers zero = []
-numbers (suc j) = word blank ∷ field ∷ numbers j
 
 -- ---- the parts of a table
 

@@ -103,9 +103,14 @@ eventAt s at =
 
 -- ---- the opening
 
+-- j numbers, each behind a blank
+abbrev pub numbers : ℕ → List Part
+numbers zero = []
+numbers (suc j) = word blank ∷ field ∷ numbers j
+
 -- " n Δ Γ V mask"
 abbrev pub headingParts : List Part
-headingParts = word blank ∷ field ∷ word blank ∷ field ∷ word blank ∷ field ∷ word blank ∷ field ∷ word blank ∷ field ∷ []
+headingParts = numbers 5
 
 abbrev pub headingFields : Fields → Heading
 headingFields (fields ns k) =

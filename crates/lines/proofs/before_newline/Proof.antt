@@ -1,7 +1,6 @@
 use borrow.Author.Needs.{needs}
 use Rattle.lines.proofs.Newlines.{Searched, searched-none, searched-more, searched-here, searched-all}
 use lib.ListN.{length}
-use native.Mathlib.Omega.{arith}
 use Prim.Native.Nat.{_-_}
 use Rattle.lines.proofs.before_newline.Statement.{statement}
 use Rattle.lines.proofs.before_newline.Tie as tie

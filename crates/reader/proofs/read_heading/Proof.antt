@@ -1,5 +1,5 @@
-use Rattle.reader.proofs.TablesLaws.{numbers, next-value, next-none}
-use Rattle.reader.specs.Lines.{headingAt}
+use Rattle.reader.proofs.TablesLaws.{next-value, next-none}
+use Rattle.reader.specs.Lines.{numbers, headingAt}
 use mathlib.Core.Path.{sym, _∙_}
 use borrow.Author.Needs.{needs}
 use Rattle.reader.proofs.read_heading.Statement.{statement}

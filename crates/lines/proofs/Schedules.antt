@@ -1,0 +1,99 @@
+-- No form has a newline in it, so a schedule of forms is cut into just these. Assumes nothing.
+use mathlib.Core.Path.{_≡_, refl, sym, ap, _∙_}
+use mathlib.Core.Logic.{⊎-elim}
+use mathlib.Core.Bool.{Bool, true, false, not, _&&_, cond}
+use Prim.Native.Nat.{ℕ, zero, suc, _/_, _%_}
+use native.Mathlib.Omega.{arith}
+use mathlib.Core.List.{List, [], _∷_, _++_, append-assoc, append-nil}
+use lib.Dec.{T, eqb, ltb}
+use borrow.Author.Tests.{ne-eqb}
+use Rattle.base.specs.Tests.{by-cond, T-and, T-left, T-right}
+use Rattle.model.specs.declared.Message.{Message}
+use Rattle.model.specs.declared.Message.the-variants.{View, Vote, Vc, Qc}
+use Rattle.model.specs.declared.Event.{Event}
+use Rattle.model.specs.declared.Event.the-variants.{Deliver, Sign, Show, Settle, Tick}
+use Rattle.model.specs.declared.Setup.{Setup}
+use Rattle.lines.specs.Decimal.{digit, digitsIn, decimal}
+use Rattle.lines.specs.Forms.{newline, closeBracket, messageForm, eventForm, furtherClocks, clocksForm, lineClocks, setupForm, EventLine, SetupLine}
+use Rattle.lines.specs.Contracts.{line}
+use Rattle.lines.specs.Splitting.{ended, linesAfter, inputLines}
+use Rattle.lines.specs.Promises.{Formed, scheduleOf, CutsBack}
+
+-- ---- bytes that are no newline
+
+abbrev clean : List ℕ → Bool
+clean [] = true
+clean (b ∷ l) = not (eqb b newline) && clean l
+
+clean-append : (a b : List ℕ) → T (clean a) → T (clean b) → T (clean (a ++ b))
+clean-append [] b h k = k
+clean-append (x ∷ a) b h k =
+    T-and (not (eqb x newline)) (clean (a ++ b)) (T-left (not (eqb x newline)) (clean a) h) (clean-append a b (T-right (not (eqb x newline)) (clean a) h) k)
+
+clean-digit : (d : ℕ) → T (clean (digit d ∷ []))
+clean-digit d = let e : eqb (digit d) newline ≡ false = ne-eqb (digit d) newline (λ (q : digit d ≡ newline). omega arith) in rw e tt
+
+clean-digits : (k n : ℕ) → T (clean (digitsIn k n))
+clean-digits zero n = clean-digit n
+clean-digits (suc k) n =
+    by-cond (λ (l : List ℕ). T (clean l)) (ltb n 10) (digit n ∷ []) _ (λ _. clean-digit n)
+    (λ _. clean-append (digitsIn k (n / 10)) _ (clean-digits k (n / 10)) (clean-digit (n % 10)))
+
+-- a number, and what follows it
+clean-number : (n : ℕ) (r : List ℕ) → T (clean r) → T (clean (decimal n ++ r))
+unfolding decimal
+clean-number n r h = clean-append (digitsIn 19 n) r (clean-digits 19 n) h
+
+-- ---- forms
+
+clean-message : (m : Message) → T (clean (messageForm m))
+unfolding messageForm
+clean-message (View w p) = clean-number w _ (clean-number p _ tt)
+clean-message (Vote w p) = clean-number w _ (clean-number p _ tt)
+clean-message (Vc w p) = clean-number w _ (clean-number p _ tt)
+clean-message (Qc w p) = clean-number w _ (clean-number p _ tt)
+
+clean-event : (e : Event) → T (clean (eventForm e))
+unfolding eventForm
+clean-event (Deliver m) = clean-append (messageForm m) closeBracket (clean-message m) tt
+clean-event (Sign m) = clean-append (messageForm m) closeBracket (clean-message m) tt
+clean-event (Show m) = clean-append (messageForm m) closeBracket (clean-message m) tt
+clean-event Settle = tt
+clean-event (Tick m) = clean-number m _ tt
+
+clean-further : (l : List ℕ) → T (clean (furtherClocks l))
+clean-further [] = tt
+clean-further (c ∷ l) = clean-number c (furtherClocks l) (clean-further l)
+
+clean-clocks : (l : List ℕ) → T (clean (clocksForm l))
+clean-clocks [] = tt
+clean-clocks (c ∷ l) = clean-number c (furtherClocks l) (clean-further l)
+
+clean-setup : (u : Setup) → T (clean (setupForm u))
+unfolding setupForm
+clean-setup u =
+    clean-number (u .plan .n) _
+    (clean-number (u .plan .delta) _
+    (clean-number (u .plan .gamma) _
+    (clean-number (u .plan .views) _
+    (clean-number (u .faulty) _ (clean-append (clocksForm (lineClocks u)) _ (clean-clocks (lineClocks u)) tt)))))
+
+clean-form : (s : List ℕ) → Formed s → T (clean s)
+clean-form s = ⊎-elim (λ (x : (e : Event) × EventLine s e). rw (x .1 .bytes) (clean-event (x .0))) (λ (x : (u : Setup) × SetupLine s u). rw (x .1 .bytes) (clean-setup (x .0)))
+
+-- ---- schedules
+
+cut-first : (a s more : List ℕ) → T (clean s) → linesAfter a (line s ++ more) ≡ ended (a ++ s) ∷ linesAfter [] more
+cut-first a [] more h = ap (λ (l : List ℕ). ended l ∷ linesAfter [] more) (sym (append-nil a))
+cut-first a (b ∷ s) more h =
+    go (eqb b newline) (T-left (not (eqb b newline)) (clean s) h) (cut-first (a ++ (b ∷ [])) s more (T-right (not (eqb b newline)) (clean s) h))
+  where
+    go : (t : Bool) → T (not t) → linesAfter (a ++ (b ∷ [])) (line s ++ more) ≡ ended ((a ++ (b ∷ [])) ++ s) ∷ linesAfter [] more
+        → cond t (ended a ∷ linesAfter [] (line s ++ more)) (linesAfter (a ++ (b ∷ [])) (line s ++ more)) ≡ ended (a ++ (b ∷ s)) ∷ linesAfter [] more
+    go true n e = absurd n
+    go false n e = e ∙ ap (λ (l : List ℕ). ended l ∷ linesAfter [] more) (append-assoc a (b ∷ []) s)
+
+pub cuts-back : CutsBack
+unfolding inputLines
+cuts-back [] h = refl
+cuts-back (s ∷ l) h = cut-first [] s (scheduleOf l) (clean-form s (h .0)) ∙ ap (λ x. ended s ∷ x) (cuts-back l (h .1))

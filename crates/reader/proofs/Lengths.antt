@@ -1,0 +1,91 @@
+-- How long the forms are: far shorter than "a line is at most 4,800 bytes" asks. Assumes nothing.
+use mathlib.Core.Path.{_≡_}
+use mathlib.Core.Logic.{⊎-elim}
+use Prim.Native.Nat.{ℕ, _+_, _*_, _/_, _≤_, _<_}
+use native.Mathlib.Omega.{arith}
+use mathlib.Core.Bool.{false}
+use mathlib.Core.List.{List, [], _∷_, _++_}
+use lib.ListN.{length, drop, length-append, length-take}
+use lib.Dec.{eqb, ltb}
+use borrow.Author.Tests.{ltb-false}
+use Rattle.base.specs.Tests.{le?}
+use Rattle.base.specs.Choice.{or-parts}
+use Rattle.model.specs.declared.Message.{Message}
+use Rattle.model.specs.declared.Message.the-variants.{View, Vote, Vc, Qc}
+use Rattle.model.specs.declared.Event.{Event}
+use Rattle.model.specs.declared.Event.the-variants.{Deliver, Sign, Show, Settle, Tick}
+use Rattle.model.specs.declared.Setup.{Setup}
+use Rattle.model.specs.Quantities.{nMost}
+use Rattle.lines.specs.Decimal.{decimal}
+use Rattle.lines.specs.Forms.{openBracket, closeBracket, blank, furtherClocks, clocksForm, lineClocks, messageForm, eventForm, setupForm, lacksSetupForm}
+use Rattle.lines.specs.Promises.{formMost}
+use Rattle.lines.proofs.Decimals.{length-small, length-large, length-most}
+use Rattle.reader.specs.Scan.{Part, word, field}
+use Rattle.reader.specs.Lines.{pairParts, headingParts}
+use Rattle.reader.proofs.Templates.{filled}
+use Rattle.reader.proofs.Openings.{headingOf}
+
+-- the most bytes of a template with numbers in it
+abbrev most : List Part → ℕ
+most [] = 0
+most (word w ∷ ps) = length w + most ps
+most (field ∷ ps) = 20 + most ps
+
+filled-most : (ps : List Part) (ns r : List ℕ) → length (filled ps ns r) ≤ most ps + length r
+filled-most [] ns r = omega arith
+filled-most (word w ∷ ps) ns r = omega (arith, length-append w (filled ps ns r), filled-most ps ns r)
+filled-most (field ∷ ps) [] r = omega arith
+filled-most (field ∷ ps) (n ∷ ns) r = omega (arith, length-append (decimal n) (filled ps ns r), length-most n, filled-most ps ns r)
+
+-- ---- the events
+
+message-length : (m : Message) → length (messageForm m) ≤ 48
+unfolding messageForm
+message-length (View w p) = omega (arith, filled-most pairParts (w ∷ p ∷ []) [])
+message-length (Vote w p) = omega (arith, filled-most pairParts (w ∷ p ∷ []) [])
+message-length (Vc w p) = omega (arith, filled-most pairParts (w ∷ p ∷ []) [])
+message-length (Qc w p) = omega (arith, filled-most pairParts (w ∷ p ∷ []) [])
+
+pub event-length : (e : Event) → length (eventForm e) ≤ formMost
+unfolding eventForm
+event-length (Deliver m) = omega (arith, message-length m, length-append (messageForm m) closeBracket)
+event-length (Sign m) = omega (arith, message-length m, length-append (messageForm m) closeBracket)
+event-length (Show m) = omega (arith, message-length m, length-append (messageForm m) closeBracket)
+event-length Settle = omega arith
+event-length (Tick m) = omega (arith, length-most m, length-append (decimal m) closeBracket)
+
+-- ---- the opening
+
+further-length : (cs : List ℕ) → length (furtherClocks cs) ≤ 21 * length cs
+further-length [] = omega arith
+further-length (c ∷ cs) = omega (arith, length-append (decimal c) (furtherClocks cs), length-most c, further-length cs)
+
+clocks-length : (cs : List ℕ) → length cs ≤ nMost → length (clocksForm cs) ≤ 1343
+clocks-length [] h = omega arith
+clocks-length (c ∷ cs) h = omega (arith, length-append (decimal c) (furtherClocks cs), length-most c, further-length cs)
+
+-- n has at most two digits
+number-length : (n : ℕ) → n ≤ nMost → length (decimal n) ≤ 2
+number-length n h =
+    ⊎-elim
+    (λ (g : 10 ≤ n). let s : n / 10 < 10 = omega arith in omega (arith, length-large n (omega arith) g, length-small (n / 10) s))
+    (λ (g : n < 10). omega (arith, length-small n g))
+    (le? 10 n)
+
+pub setup-length : (u : Setup) → lacksSetupForm u ≡ false → length (setupForm u) ≤ formMost
+unfolding setupForm
+setup-length u f =
+    let h : u .plan .n ≤ nMost = ltb-false nMost (u .plan .n) (or-parts (eqb (u .plan .n) 0) (ltb nMost (u .plan .n)) f .1) in
+    let clocks : List ℕ = clocksForm (lineClocks u) in
+    let table : List ℕ = blank ++ (openBracket ++ (clocks ++ (closeBracket ++ closeBracket))) in
+    let others : List Part = drop 2 headingParts in
+    let numbers : List ℕ = drop 1 (headingOf (u .plan) (u .faulty)) in
+    let c : length (lineClocks u) ≤ nMost = omega (arith, length-take (u .plan .n) (u .clocks)) in
+    omega (
+      arith,
+      number-length (u .plan .n) h,
+      length-append (decimal (u .plan .n)) (filled others numbers table),
+      filled-most others numbers table,
+      clocks-length (lineClocks u) c,
+      length-append clocks (closeBracket ++ closeBracket),
+    )

@@ -3,3 +3,5 @@ pub mod Decimals
 pub mod Newlines
 pub mod Splitting
 pub mod Schedules
+pub mod Readings
+pub mod Writings

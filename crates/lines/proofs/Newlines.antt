@@ -35,9 +35,9 @@ searched-more s i x h e =
     let n : beforeNewline (drop i s) ≡ suc (beforeNewline (drop (i + 1) s)) = later s i h e in (omega arith, omega (arith, x .1))
 
 -- it stands there
-pub searched-here : (s : List ℕ) (i : ℕ) → Searched s i → i < length s → getD s i 0 ≡ newline → (i ≡ beforeNewline s) × (i ≤ length s)
-searched-here s i x h e = let n : beforeNewline (drop i s) ≡ 0 = here s i h e in (omega (arith, x .1), x .0)
+pub searched-here : (s : List ℕ) (i : ℕ) → Searched s i → i < length s → getD s i 0 ≡ newline → i ≡ beforeNewline s
+searched-here s i x h e = let n : beforeNewline (drop i s) ≡ 0 = here s i h e in omega (arith, x .1)
 
 -- there is none
-pub searched-all : (s : List ℕ) (i : ℕ) → Searched s i → length s ≤ i → (i ≡ beforeNewline s) × (i ≤ length s)
-searched-all s i x h = let n : beforeNewline (drop i s) ≡ 0 = none s i h in (omega (arith, x .1), x .0)
+pub searched-all : (s : List ℕ) (i : ℕ) → Searched s i → length s ≤ i → i ≡ beforeNewline s
+searched-all s i x h = let n : beforeNewline (drop i s) ≡ 0 = none s i h in omega (arith, x .1)

@@ -5,6 +5,7 @@ use mathlib.Core.Bool.{Bool, true, false, not, _&&_, cond}
 use Prim.Native.Nat.{ℕ, zero, suc, _/_, _%_}
 use native.Mathlib.Omega.{arith}
 use mathlib.Core.List.{List, [], _∷_, _++_, append-assoc, append-nil}
+use lib.ListN.{length}
 use lib.Dec.{T, eqb, ltb}
 use borrow.Author.Tests.{ne-eqb}
 use Rattle.base.specs.Tests.{by-cond, T-and, T-left, T-right}
@@ -16,7 +17,7 @@ use Rattle.model.specs.declared.Setup.{Setup}
 use Rattle.lines.specs.Decimal.{digit, digitsIn, decimal}
 use Rattle.lines.specs.Forms.{newline, closeBracket, messageForm, eventForm, furtherClocks, clocksForm, lineClocks, setupForm, EventLine, SetupLine}
 use Rattle.lines.specs.Contracts.{line}
-use Rattle.lines.specs.Splitting.{ended, linesAfter, inputLines}
+use Rattle.lines.specs.Splitting.{beforeNewline, ended, linesAfter, inputLines}
 use Rattle.lines.specs.Promises.{Formed, scheduleOf, CutsBack}
 
 -- ---- bytes that are no newline
@@ -80,6 +81,20 @@ clean-setup u =
 
 clean-form : (s : List ℕ) → Formed s → T (clean s)
 clean-form s = ⊎-elim (λ (x : (e : Event) × EventLine s e). rw (x .1 .bytes) (clean-event (x .0))) (λ (x : (u : Setup) × SetupLine s u). rw (x .1 .bytes) (clean-setup (x .0)))
+
+-- ---- the newline behind a form is the first
+
+before-clean : (s more : List ℕ) → T (clean s) → beforeNewline (line s ++ more) ≡ length s
+unfolding beforeNewline
+before-clean [] more h = refl
+before-clean (b ∷ s) more h = go (eqb b newline) (T-left (not (eqb b newline)) (clean s) h) (before-clean s more (T-right (not (eqb b newline)) (clean s) h))
+  where
+    go : (t : Bool) → T (not t) → beforeNewline (line s ++ more) ≡ length s → cond t 0 (suc (beforeNewline (line s ++ more))) ≡ suc (length s)
+    go true n e = absurd n
+    go false n e = ap suc e
+
+pub before-form : (s : List ℕ) → Formed s → (more : List ℕ) → beforeNewline (line s ++ more) ≡ length s
+before-form s f more = before-clean s more (clean-form s f)
 
 -- ---- schedules
 

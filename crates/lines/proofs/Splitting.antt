@@ -1,5 +1,5 @@
 -- What the next line tells of an input. Assumes nothing.
-use mathlib.Core.Path.{_≡_, refl, sym, ap, _∙_}
+use mathlib.Core.Path.{_≡_, refl, sym, ap, _∙_, subst}
 use mathlib.Core.Bool.{Bool, true, false, cond}
 use Prim.Native.Nat.{ℕ, suc, _+_, _≤_, _<_}
 use native.Mathlib.Omega.{arith}
@@ -7,6 +7,7 @@ use mathlib.Core.List.{List, [], _∷_, _++_, append-assoc, append-nil}
 use lib.ListN.{length, take, drop}
 use lib.Dec.{eqb, leb, ltb}
 use borrow.Author.Tests.{ltb-true, ltb-false, leb-true, leb-false}
+use Rattle.lines.specs.declared.Next.{Next}
 use Rattle.lines.specs.declared.Next.the-variants.{Line, Long, Unfinished, Endless}
 use Rattle.lines.specs.Forms.{newline}
 use Rattle.lines.specs.Splitting.{lineMost, beforeNewline, nextLine, ended, linesAfter, inputLines}
@@ -40,11 +41,10 @@ starts a (b ∷ s) more = go (eqb b newline) (starts (a ++ (b ∷ [])) s more)
 
 ends : (s : List ℕ) → beforeNewline s < length s → Ended s (beforeNewline s)
 unfolding inputLines
-ends s h = (h, λ more. cuts [] s more h)
+ends s h = (h, λ start more. cuts start s more h)
 
 started : (s : List ℕ) → length s ≤ beforeNewline s → Started s
-unfolding inputLines
-started s h = λ more. starts [] s more h
+started s h = λ start more. starts start s more h
 
 pub next-line : TellsNext
 unfolding nextLine
@@ -62,3 +62,10 @@ next-line s = first (ltb (beforeNewline s) (length s)) refl
         → Tells s (cond t (cond (leb (beforeNewline s) lineMost) (Line (beforeNewline s)) (Long (beforeNewline s))) (cond (leb (length s) lineMost) Unfinished Endless))
     first true e = whole (leb (beforeNewline s) lineMost) refl (ltb-true _ _ e)
     first false e = part (leb (length s) lineMost) refl (ltb-false _ _ e)
+
+-- a line that ends here ends before the last byte at hand
+pub line-inside : (s : List ℕ) (r : Next) (e : ℕ) → r ≡ nextLine s → r ≡ Line e → e < length s
+line-inside s r e q p = subst (Tells s) (sym q ∙ p) (next-line s) .1 .0
+
+pub long-inside : (s : List ℕ) (r : Next) (e : ℕ) → r ≡ nextLine s → r ≡ Long e → e < length s
+long-inside s r e q p = subst (Tells s) (sym q ∙ p) (next-line s) .1 .0

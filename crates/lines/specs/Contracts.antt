@@ -55,14 +55,18 @@ line form = form ++ (newline ∷ [])
 
 -- check 1: "a line to be written has no form .. or too few lent bytes"
 abbrev pub notWritten : Bool → List ℕ → List ℕ → Bool
-notWritten lacks form lent = lacks || ltb (length lent) (length (line form))
+notWritten lacks form buffer = lacks || ltb (length buffer) (length (line form))
 
 unfoldable pub writtenAs : Bool → List ℕ → List ℕ → Written
-writtenAs lacks form lent = cond (notWritten lacks form lent) (Refused 1) (Bytes (length (line form)))
+writtenAs lacks form buffer = cond (notWritten lacks form buffer) (Refused 1) (Bytes (length (line form)))
 
 -- "writing leaves lent bytes after the newline untouched"
 unfoldable pub writtenIn : Bool → List ℕ → List ℕ → List ℕ
-writtenIn lacks form lent = cond (notWritten lacks form lent) lent (line form ++ drop (length (line form)) lent)
+writtenIn lacks form buffer = cond (notWritten lacks form buffer) buffer (line form ++ drop (length (line form)) buffer)
+
+-- that writing the form, or what lacks one, answered r and left `after` in the buffer
+abbrev pub Writes : Bool → List ℕ → List ℕ → Written → List ℕ → Type 0
+Writes lacks form buffer r after = (r ≡ writtenAs lacks form buffer) × (after ≡ writtenIn lacks form buffer)
 
 -- document 01's number of each answer
 abbrev pub writtenCheck : Written → ℕ

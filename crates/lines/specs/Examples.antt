@@ -1,17 +1,22 @@
 -- The forms computed, as document 01 writes them, and where lines end. Assumes nothing.
 use mathlib.Core.Path.{_≡_, refl}
-use mathlib.Core.List.{List, [], _∷_, _++_}
+use mathlib.Core.Bool.{Bool, true, false}
+use mathlib.Core.List.{List, [], _∷_, _++_, map}
 use Prim.Native.Nat.{ℕ}
 use lib.ListN.{replicate}
 use Rattle.model.specs.declared.Message.the-variants.{View, Vote, Vc, Qc}
 use Rattle.model.specs.declared.Event.the-variants.{Deliver, Sign, Show, Settle, Tick}
 use Rattle.model.specs.Rows.{planOf, standard, setupOf}
 use Rattle.lines.specs.declared.Reading.{Reading}
+use Rattle.model.specs.declared.Setup.{Setup}
+use Rattle.lines.specs.declared.Written.{Written}
+use Rattle.lines.specs.declared.Written.the-variants.{Bytes, Refused}
+use Rattle.lines.specs.declared.Read.the-variants as Read
 use Rattle.lines.specs.declared.Next.{Next}
 use Rattle.lines.specs.declared.Next.the-variants.{Line, Long, Unfinished, Endless}
 use Rattle.lines.specs.Decimal.{decimal}
-use Rattle.lines.specs.Forms.{newline, messageForm, eventForm, setupForm}
-use Rattle.lines.specs.Contracts.{eventReading, noForm}
+use Rattle.lines.specs.Forms.{newline, messageForm, eventForm, setupForm, lacksSetupForm, trimmed}
+use Rattle.lines.specs.Contracts.{eventReading, noForm, readCheck, writtenAs, writtenIn, writtenCheck}
 use Rattle.lines.specs.Splitting.{beforeNewline, nextLine, Cut, ended, left, inputLines, cutRead}
 
 -- ---- forms
@@ -98,7 +103,7 @@ pub cutInputs-hold : cutInputs ≡ ([] ∷ (ended [] ∷ []) ∷ (ended (40 ∷ 
 unfolding cutInputs inputLines
 cutInputs-hold = refl
 
--- as if all bytes were "(settle)"
+-- as if every line were "(settle)"
 abbrev pub settles : List ℕ → Reading
 settles s = eventReading Settle
 
@@ -108,3 +113,48 @@ cutReadings = cutRead settles left ∷ cutRead settles (ended (replicate 4800 32
 pub cutReadings-hold : cutReadings ≡ (noForm ∷ eventReading Settle ∷ noForm ∷ [])
 unfolding cutReadings
 cutReadings-hold = refl
+
+-- ---- what has a form: n is 0, 1, 64, 65
+
+abbrev pub ofSize : ℕ → Setup
+ofSize n = setupOf (planOf n 2 4 6) 0 []
+
+pub sizes : List Bool
+sizes = map (λ n. lacksSetupForm (ofSize n)) (0 ∷ 1 ∷ 64 ∷ 65 ∷ [])
+
+pub sizes-hold : sizes ≡ (true ∷ false ∷ false ∷ true ∷ [])
+unfolding sizes
+sizes-hold = refl
+
+-- a clock from n on is not written, and 0 when read
+pub beyond-n : (setupForm (setupOf (planOf 1 7 80 999) 1 (10 ∷ 20 ∷ [])) ≡ setupForm (setupOf (planOf 1 7 80 999) 1 (10 ∷ [])))
+    × (trimmed (setupOf (planOf 1 7 80 999) 1 (10 ∷ 20 ∷ [])) ≡ setupOf (planOf 1 7 80 999) 1 (10 ∷ []))
+unfolding setupForm trimmed
+beyond-n = (refl, refl)
+
+-- ---- writing "()" into a byte more than its line has, as many, one less, and what has no form
+
+abbrev pub brackets : List ℕ
+brackets = 40 ∷ 41 ∷ []
+
+pub answers : List Written
+answers = writtenAs false brackets (replicate 4 7) ∷ writtenAs false brackets (replicate 3 7) ∷ writtenAs false brackets (replicate 2 7) ∷ writtenAs true brackets (replicate 4 7) ∷ []
+
+pub answers-hold : answers ≡ (Bytes 3 ∷ Bytes 3 ∷ Refused 1 ∷ Refused 1 ∷ [])
+unfolding answers writtenAs
+answers-hold = refl
+
+pub lents : List (List ℕ)
+lents = writtenIn false brackets (replicate 4 7) ∷ writtenIn false brackets (replicate 3 7) ∷ writtenIn false brackets (replicate 2 7) ∷ writtenIn true brackets (replicate 4 7) ∷ []
+
+pub lents-hold : lents ≡ ((40 ∷ 41 ∷ 10 ∷ 7 ∷ []) ∷ (40 ∷ 41 ∷ 10 ∷ []) ∷ (7 ∷ 7 ∷ []) ∷ (7 ∷ 7 ∷ 7 ∷ 7 ∷ []) ∷ [])
+unfolding lents writtenIn
+lents-hold = refl
+
+-- document 01's numbers
+pub numbers-hold : map writtenCheck answers ≡ (0 ∷ 0 ∷ 1 ∷ 1 ∷ [])
+unfolding answers writtenAs
+numbers-hold = refl
+
+pub checks-hold : map readCheck (Read.Event Settle ∷ Read.Opening ∷ Read.NoForm ∷ []) ≡ (0 ∷ 0 ∷ 1 ∷ [])
+checks-hold = refl

@@ -9,6 +9,7 @@ use Rattle.model.specs.declared.Message.{Message}
 use Rattle.model.specs.declared.Message.the-variants.{View, Vote, Vc, Qc}
 use Rattle.model.specs.declared.Event.{Event}
 use Rattle.model.specs.declared.Event.the-variants.{Deliver, Sign, Show, Settle, Tick}
+use Rattle.model.specs.declared.Plan.{Plan}
 use Rattle.model.specs.declared.Setup.{Setup}
 use Rattle.model.specs.Quantities.{nMost, tableClocks}
 use Rattle.model.specs.State.{viewIn, processorIn}
@@ -18,20 +19,29 @@ use Rattle.lines.specs.Decimal.{decimal, fieldLimit}
 -- ---- the fixed bytes
 
 -- "("
-abbrev pub openBracket : List ℕ
-openBracket = 40 ∷ []
+abbrev pub openByte : ℕ
+openByte = 40
 
 -- ")"
-abbrev pub closeBracket : List ℕ
-closeBracket = 41 ∷ []
+abbrev pub closeByte : ℕ
+closeByte = 41
 
 -- "separated by one blank"
-abbrev pub blank : List ℕ
-blank = 32 ∷ []
+abbrev pub blankByte : ℕ
+blankByte = 32
 
 -- "and then one newline"
 abbrev pub newline : ℕ
 newline = 10
+
+abbrev pub openBracket : List ℕ
+openBracket = openByte ∷ []
+
+abbrev pub closeBracket : List ℕ
+closeBracket = closeByte ∷ []
+
+abbrev pub blank : List ℕ
+blank = blankByte ∷ []
 
 -- "open"
 abbrev pub openWord : List ℕ
@@ -87,9 +97,18 @@ kindWord (Vote w p) = voteWord
 kindWord (Vc w p) = vcWord
 kindWord (Qc w p) = qcWord
 
+-- numbers, each behind "one blank"
+abbrev pub spaced : List ℕ → List (List ℕ)
+spaced [] = []
+spaced (n ∷ l) = blank ∷ decimal n ∷ spaced l
+
+-- its numbers: "w is a view, p a cabinet"
+abbrev pub messageFields : Message → List ℕ
+messageFields m = viewIn m ∷ processorIn m ∷ []
+
 -- "(view w p)", "and so for vote, vc, qc"
 unfoldable pub messageForm : Message → List ℕ
-messageForm m = joined (openBracket ∷ kindWord m ∷ blank ∷ decimal (viewIn m) ∷ blank ∷ decimal (processorIn m) ∷ closeBracket ∷ [])
+messageForm m = joined (openBracket ∷ kindWord m ∷ spaced (messageFields m) ++ (closeBracket ∷ []))
 
 -- "(deliver (view w p))" and the like
 abbrev pub carrying : List ℕ → Message → List ℕ
@@ -100,12 +119,11 @@ eventForm (Deliver m) = carrying deliverWord m
 eventForm (Sign m) = carrying signWord m
 eventForm (Show m) = carrying showWord m
 eventForm Settle = joined (openBracket ∷ settleWord ∷ closeBracket ∷ [])
-eventForm (Tick m) = joined (openBracket ∷ tickWord ∷ blank ∷ decimal m ∷ closeBracket ∷ [])
+eventForm (Tick m) = joined (openBracket ∷ tickWord ∷ spaced (m ∷ []) ++ (closeBracket ∷ []))
 
 -- "c0 c1 .."
 abbrev pub furtherClocks : List ℕ → List ℕ
-furtherClocks [] = []
-furtherClocks (c ∷ l) = blank ++ (decimal c ++ furtherClocks l)
+furtherClocks l = joined (spaced l)
 
 abbrev pub clocksForm : List ℕ → List ℕ
 clocksForm [] = []
@@ -115,13 +133,15 @@ clocksForm (c ∷ l) = decimal c ++ furtherClocks l
 abbrev pub lineClocks : Setup → List ℕ
 lineClocks u = take (u .plan .n) (u .clocks)
 
+-- "n Δ Γ V mask"
+abbrev pub headingNumbers : Plan → ℕ → List ℕ
+headingNumbers plan faulty = plan .n ∷ plan .delta ∷ plan .gamma ∷ plan .views ∷ faulty ∷ []
+
 -- "(open n Δ Γ V mask (c0 c1 ..))"
 unfoldable pub setupForm : Setup → List ℕ
 setupForm u = joined (
-    openBracket ∷ openWord
-    ∷ blank ∷ decimal (u .plan .n) ∷ blank ∷ decimal (u .plan .delta) ∷ blank ∷ decimal (u .plan .gamma) ∷ blank ∷ decimal (u .plan .views)
-    ∷ blank ∷ decimal (u .faulty)
-    ∷ blank ∷ openBracket ∷ clocksForm (lineClocks u) ∷ closeBracket ∷ closeBracket ∷ [])
+    openBracket ∷ openWord ∷ spaced (headingNumbers (u .plan) (u .faulty))
+    ++ (blank ∷ openBracket ∷ clocksForm (lineClocks u) ∷ closeBracket ∷ closeBracket ∷ []))
 
 -- ---- what has a form
 
@@ -131,14 +151,14 @@ lacksSetupForm u = eqb (u .plan .n) 0 || ltb nMost (u .plan .n)
 
 -- the numbers in the form
 abbrev pub eventFields : Event → List ℕ
-eventFields (Deliver m) = viewIn m ∷ processorIn m ∷ []
-eventFields (Sign m) = viewIn m ∷ processorIn m ∷ []
-eventFields (Show m) = viewIn m ∷ processorIn m ∷ []
+eventFields (Deliver m) = messageFields m
+eventFields (Sign m) = messageFields m
+eventFields (Show m) = messageFields m
 eventFields Settle = []
 eventFields (Tick m) = m ∷ []
 
 abbrev pub setupFields : Setup → List ℕ
-setupFields u = u .plan .n ∷ u .plan .delta ∷ u .plan .gamma ∷ u .plan .views ∷ u .faulty ∷ lineClocks u
+setupFields u = headingNumbers (u .plan) (u .faulty) ++ lineClocks u
 
 -- "below 2^64"
 abbrev pub Below : List ℕ → Type 0

@@ -1,7 +1,8 @@
 -- What is promised of lines: one for each event, and how an input is cut into them.
 use Prim.Native.Nat.{ℕ, suc, _≤_, _<_}
 use mathlib.Core.Path.{_≡_}
-use mathlib.Core.Logic.{_⊎_}
+use mathlib.Core.Bool.{Bool, true, false}
+use mathlib.Core.Logic.{_⊎_, inl, inr}
 use mathlib.Core.List.{List, [], _∷_, _++_, map}
 use lib.ListN.{length, take, drop}
 use Rattle.model.specs.declared.Event.{Event}
@@ -10,7 +11,8 @@ use Rattle.lines.specs.declared.Reading.{Reading}
 use Rattle.lines.specs.declared.Next.{Next}
 use Rattle.lines.specs.declared.Next.the-variants.{Line, Long, Unfinished, Endless}
 use Rattle.lines.specs.Forms.{EventLine, SetupLine, trimmed}
-use Rattle.lines.specs.Contracts.{Reads, line}
+use Rattle.lines.specs.declared.Written.{Written}
+use Rattle.lines.specs.Contracts.{eventReading, openingReading, readCheck, Reads, line, Writes, writtenCheck}
 use Rattle.lines.specs.Splitting.{lineMost, nextLine, ended, linesAfter, inputLines, cutRead}
 
 -- ---- forms
@@ -22,6 +24,20 @@ Formed s = ((e : Event) × EventLine s e) ⊎ ((u : Setup) × SetupLine s u)
 -- a definition of reading that reads every line as what it is the form of, and as nothing else
 abbrev pub ReadsLines : (List ℕ → Reading) → Type 0
 ReadsLines f = (s : List ℕ) → Reads s (f s)
+
+-- check 1: "The line is not one of the forms above", then and only then
+abbrev pub Judges : List ℕ → Reading → Type 0
+Judges s r = ((readCheck (r .read) ≡ 0) × Formed s) ⊎ ((readCheck (r .read) ≡ 1) × (Formed s → ⊥))
+
+abbrev pub JudgesLines : (List ℕ → Reading) → Type 0
+JudgesLines f = (s : List ℕ) → Judges s (f s)
+
+-- check 1 of writing: "has no form .. or too few lent bytes", then and only then, and no byte changes; else the line stands in the buffer, and what was
+-- behind it still does
+abbrev pub JudgesWriting : Type 0
+JudgesWriting = (lacks : Bool) (form buffer : List ℕ) (r : Written) (after : List ℕ) → Writes lacks form buffer r after
+    → ((writtenCheck r ≡ 0) × (lacks ≡ false) × (length (line form) ≤ length buffer) × (after ≡ line form ++ drop (length (line form)) buffer))
+    ⊎ ((writtenCheck r ≡ 1) × ((lacks ≡ true) ⊎ (length buffer < length (line form))) × (after ≡ buffer))
 
 -- two events with one line are the same event
 abbrev pub OneEvent : Type 0
@@ -44,13 +60,13 @@ ShortForms = (s : List ℕ) → Formed s → length s ≤ formMost
 
 -- ---- the next line within the bytes at hand
 
--- the first line of s, whatever follows s, is the first e bytes, and cutting goes on behind its newline
+-- whatever stands before s on its line and whatever follows s: that line ends behind the first e bytes of s, and cutting goes on behind its newline
 abbrev pub Ended : List ℕ → ℕ → Type 0
-Ended s e = (e < length s) × ((more : List ℕ) → inputLines (s ++ more) ≡ ended (take e s) ∷ inputLines (drop (suc e) s ++ more))
+Ended s e = (e < length s) × ((start more : List ℕ) → linesAfter start (s ++ more) ≡ ended (start ++ take e s) ∷ inputLines (drop (suc e) s ++ more))
 
--- s is the start of a line that ends in what follows
+-- all of s stands on one line, which goes on in what follows
 abbrev pub Started : List ℕ → Type 0
-Started s = (more : List ℕ) → inputLines (s ++ more) ≡ linesAfter s more
+Started s = (start more : List ℕ) → linesAfter start (s ++ more) ≡ linesAfter (start ++ s) more
 
 abbrev pub Tells : List ℕ → Next → Type 0
 Tells s (Line e) = (e ≤ lineMost) × Ended s e
@@ -60,6 +76,12 @@ Tells s Endless = (lineMost < length s) × Started s
 
 abbrev pub TellsNext : Type 0
 TellsNext = (s : List ℕ) → Tells s (nextLine s)
+
+-- ---- what is written
+
+-- the next line of a buffer that starts with the line of a form is that form
+abbrev pub NextForm : Type 0
+NextForm = (s : List ℕ) → Formed s → (more : List ℕ) → nextLine (line s ++ more) ≡ Line (length s)
 
 -- ---- a whole schedule
 
@@ -76,6 +98,15 @@ scheduleOf (s ∷ l) = line s ++ scheduleOf l
 abbrev pub CutsBack : Type 0
 CutsBack = (l : List (List ℕ)) → AllFormed l → inputLines (scheduleOf l) ≡ map ended l
 
--- and each line of it is read as if it stood alone
+-- what a line that is one of the forms is to be read as
+abbrev pub readingOf : (s : List ℕ) → Formed s → Reading
+readingOf s (inl x) = eventReading (x .0)
+readingOf s (inr x) = openingReading (trimmed (x .0))
+
+abbrev pub readingsOf : (l : List (List ℕ)) → AllFormed l → List Reading
+readingsOf [] h = []
+readingsOf (s ∷ l) h = readingOf s (h .0) ∷ readingsOf l (h .1)
+
+-- and read as the events and openings that they are the forms of
 abbrev pub ReadsBack : (List ℕ → Reading) → Type 0
-ReadsBack f = (l : List (List ℕ)) → AllFormed l → map (cutRead f) (inputLines (scheduleOf l)) ≡ map f l
+ReadsBack f = (l : List (List ℕ)) (h : AllFormed l) → map (cutRead f) (inputLines (scheduleOf l)) ≡ readingsOf l h

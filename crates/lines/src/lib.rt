@@ -2,8 +2,6 @@
 use model::Event;
 use model::Setup;
 ghost use mathlib.Core.Path.{_≡_};
-ghost use Prim.Native.Nat.{_≤_};
-ghost use lib.ListN.{length};
 ghost use Rattle.lines.specs.Splitting.{beforeNewline, nextLine};
 
 // What a line is read as: an event, an opening, whose setup stands beside this, or none of the forms (check 1).
@@ -25,8 +23,8 @@ pub enum Written {
     Refused(u64),
 }
 
-// The next line within the bytes at hand. Line: it ends before the newline at the place named. Long: so does this one, which has more bytes than a
-// line may have. Unfinished: no newline is at hand. Endless: nor is there one, and more bytes are at hand than a line may have.
+// The next line within the bytes at hand. Line: it ends before the newline at the place named. Long: so it does, but it has more bytes than a line may
+// have. Unfinished: no newline is at hand. Endless: none, and already more bytes than a line may have.
 pub enum Next {
     Line(usize),
     Long(usize),
@@ -35,11 +33,11 @@ pub enum Next {
 }
 
 // The most bytes of a line, without its newline.
-pub const LINE_MOST: usize = 4800;
+const LINE_MOST: usize = 4800;
 
 // How many bytes stand before the first newline; all where there is none.
 fn before_newline(bytes: &[u8]) -> usize
-    ensures { λ r. ⌜ (r ≡ beforeNewline (now (bytes .entry))) × (r ≤ length (now (bytes .entry))) ⌝ }
+    ensures { λ r. ⌜ r ≡ beforeNewline (now (bytes .entry)) ⌝ }
 {
     let mut i = 0;
     while i < bytes.len() {

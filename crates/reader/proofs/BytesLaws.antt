@@ -16,47 +16,49 @@ use lib.Dec.{T, eqb, leb, eqb→eq, leb→le}
 use borrow.Author.Tests.{lt-ltb, le-ltb, le-leb}
 use Rattle.base.specs.Choice.{and-both}
 use Rattle.base.specs.Tests.{T-left, T-right, T-false, by-cond, le?}
+use Rattle.lines.specs.Decimal.{digit}
+use Rattle.lines.specs.Forms.{openByte, closeByte, blankByte}
 use Rattle.reader.specs.declared.Class.{Class}
-use Rattle.reader.specs.declared.Class.the-variants.{Digit, Opening, Closing, Blank, Other}
+use Rattle.reader.specs.declared.Class.the-variants.{Digit, OpenBracket, CloseBracket, Blank, Other}
 use Rattle.reader.specs.Bytes.{isDigit, classOf, classAt, digitRun}
 
 -- ---- a byte
 
 pub record IsDigit (b : ℕ) : Type 0 where
-  pub least : 48 ≤ b
-  pub most : b ≤ 57
+  pub least : digit 0 ≤ b
+  pub most : b ≤ digit 9
 
 pub digit-is : (b : ℕ) → T (isDigit b) → IsDigit b
-digit-is b t = record { least = leb→le 48 b (T-left (leb 48 b) (leb b 57) t); most = leb→le b 57 (T-right (leb 48 b) (leb b 57) t) }
+digit-is b t = record { least = leb→le (digit 0) b (T-left (leb (digit 0) b) (leb b (digit 9)) t); most = leb→le b (digit 9) (T-right (leb (digit 0) b) (leb b (digit 9)) t) }
 
 pub is-digit : (b : ℕ) → IsDigit b → isDigit b ≡ true
-is-digit b i = and-both _ _ (le-leb 48 b (i .least)) (le-leb b 57 (i .most))
+is-digit b i = and-both _ _ (le-leb (digit 0) b (i .least)) (le-leb b (digit 9) (i .most))
 
 -- what a class says of its byte
 abbrev pub Means : Class → ℕ → Type 0
-Means (Digit d) b = (d ≤ 9) × (b ≡ 48 + d)
-Means Opening b = b ≡ 40
-Means Closing b = b ≡ 41
-Means Blank b = b ≡ 32
+Means (Digit d) b = (d ≤ 9) × (b ≡ digit d)
+Means OpenBracket b = b ≡ openByte
+Means CloseBracket b = b ≡ closeByte
+Means Blank b = b ≡ blankByte
 Means Other b = isDigit b ≡ false
 
-digit-means : (b : ℕ) → T (isDigit b) → Means (Digit (b - 48)) b
+digit-means : (b : ℕ) → T (isDigit b) → Means (Digit (b - digit 0)) b
 digit-means b t = let i : IsDigit b = digit-is b t in (omega arith, omega arith)
 
 pub class-means : (b : ℕ) → Means (classOf b) b
 unfolding classOf
 class-means b =
     by-cond (λ (r : Class). Means r b) (isDigit b) _ _ (digit-means b)
-    λ n. by-cond (λ (r : Class). Means r b) (eqb b 40) _ _ (eqb→eq b 40)
-    λ a. by-cond (λ (r : Class). Means r b) (eqb b 41) _ _ (eqb→eq b 41)
-    λ e. by-cond (λ (r : Class). Means r b) (eqb b 32) _ _ (eqb→eq b 32)
+    λ n. by-cond (λ (r : Class). Means r b) (eqb b openByte) _ _ (eqb→eq b openByte)
+    λ a. by-cond (λ (r : Class). Means r b) (eqb b closeByte) _ _ (eqb→eq b closeByte)
+    λ e. by-cond (λ (r : Class). Means r b) (eqb b blankByte) _ _ (eqb→eq b blankByte)
     λ f. T-false (isDigit b) n
 
 -- the byte is no digit, by its class
 other-class : (r : Class) (b : ℕ) → Means r b → ((d : ℕ) → r ≡ Digit d → ⊥) → isDigit b ≡ false
 other-class (Digit d) b m n = absurd (n d refl)
-other-class Opening b m n = rw m refl
-other-class Closing b m n = rw m refl
+other-class OpenBracket b m n = rw m refl
+other-class CloseBracket b m n = rw m refl
 other-class Blank b m n = rw m refl
 other-class Other b m n = m
 
@@ -73,8 +75,8 @@ class-beyond s i h = rw (le-ltb i (length s) h)
 -- the classes that only a byte has
 abbrev pub Solid : Class → Type 0
 Solid (Digit d) = Unit {0}
-Solid Opening = Unit {0}
-Solid Closing = Unit {0}
+Solid OpenBracket = Unit {0}
+Solid CloseBracket = Unit {0}
 Solid Blank = Unit {0}
 Solid Other = ⊥
 
@@ -90,11 +92,11 @@ class-here s i r e t = ⊎-elim (λ (h : length s ≤ i). absurd (subst Solid (s
 
 -- ---- digits
 
-pub digit-run : (s : List ℕ) (i d : ℕ) → classAt s i ≡ Digit d → digitRun (drop i s) ≡ (48 + d) ∷ digitRun (drop (i + 1) s)
+pub digit-run : (s : List ℕ) (i d : ℕ) → classAt s i ≡ Digit d → digitRun (drop i s) ≡ (digit d) ∷ digitRun (drop (i + 1) s)
 digit-run s i d e =
     let h = class-here s i (Digit d) e tt in
-    let x : IsDigit (48 + d) = record { least = omega arith; most = omega arith } in
-    rw (drop-cons s i 0 (h .inside), h .byte .1, is-digit (48 + d) x, add-one)
+    let x : IsDigit (digit d) = record { least = omega arith; most = omega arith } in
+    rw (drop-cons s i 0 (h .inside), h .byte .1, is-digit (digit d) x, add-one)
 
 pub no-digit : (s : List ℕ) (i : ℕ) → ((d : ℕ) → classAt s i ≡ Digit d → ⊥) → digitRun (drop i s) ≡ []
 no-digit s i n = ⊎-elim (λ (h : length s ≤ i). rw (drop-of-length-le s h)) inner (le? (length s) i)
@@ -115,11 +117,11 @@ left ks q n r k e = miss ks (tagOf the-type q) n (subst (λ (x : Class). OneOf k
 pub not-digit : (r : Class) → OneOf (1 ∷ 2 ∷ 3 ∷ 4 ∷ []) (tagOf the-type r) → (d : ℕ) → r ≡ Digit d → ⊥
 not-digit r k d = left (1 ∷ 2 ∷ 3 ∷ 4 ∷ []) (Digit d) tt r k
 
-pub not-opening : (r : Class) → OneOf (0 ∷ 2 ∷ 3 ∷ 4 ∷ []) (tagOf the-type r) → r ≡ Opening → ⊥
-not-opening = left (0 ∷ 2 ∷ 3 ∷ 4 ∷ []) Opening tt
+pub not-open-bracket : (r : Class) → OneOf (0 ∷ 2 ∷ 3 ∷ 4 ∷ []) (tagOf the-type r) → r ≡ OpenBracket → ⊥
+not-open-bracket = left (0 ∷ 2 ∷ 3 ∷ 4 ∷ []) OpenBracket tt
 
-pub not-closing : (r : Class) → OneOf (0 ∷ 1 ∷ 3 ∷ 4 ∷ []) (tagOf the-type r) → r ≡ Closing → ⊥
-not-closing = left (0 ∷ 1 ∷ 3 ∷ 4 ∷ []) Closing tt
+pub not-close-bracket : (r : Class) → OneOf (0 ∷ 1 ∷ 3 ∷ 4 ∷ []) (tagOf the-type r) → r ≡ CloseBracket → ⊥
+not-close-bracket = left (0 ∷ 1 ∷ 3 ∷ 4 ∷ []) CloseBracket tt
 
 pub not-blank : (r : Class) → OneOf (0 ∷ 1 ∷ 2 ∷ 4 ∷ []) (tagOf the-type r) → r ≡ Blank → ⊥
 not-blank = left (0 ∷ 1 ∷ 2 ∷ 4 ∷ []) Blank tt

@@ -22,7 +22,7 @@ use Rattle.reader.specs.declared.Said.the-variants.{Told, NoMessage}
 use Rattle.reader.specs.Scan.{Part, word, field, fields, starts}
 use Rattle.reader.specs.Lines.{messageAt, endingAt, endingSaid, deliverAt, signAt, showAt, endingTicks, ticksAt, eventAt}
 use Rattle.reader.proofs.Words.{Left, left-none, by-word, word-there, word-away}
-use Rattle.reader.proofs.Templates.{filled, Taken, by-parts, parts-there, listed-all}
+use Rattle.reader.proofs.Templates.{filled, Taken, by-parts, parts-there, picked-all}
 use Rattle.reader.proofs.Messages.{PairBelow, Spoken, message-only, message-there}
 
 -- ---- what is read is it
@@ -69,7 +69,7 @@ ticks-only s at h = by-parts (EventRead s) tickParts s at (endingTicks s) ticked
     ticked : (ns : List ℕ) (k : ℕ) → Taken tickParts s at ns k → EventRead s (endingTicks s (fields ns k))
     ticked ns k t =
         let m : ℕ = getD ns 0 0 in
-        let l : ns ≡ m ∷ [] = listed-all _ ns (t .number) in
+        let l : ns ≡ m ∷ [] = picked-all _ ns (t .number) in
         ending-only s k (Tick m) (subst Below l (t .below))
         (λ (c : drop k s ≡ closeBracket).
         h ∙ ap (λ (r : List ℕ). openBracket ++ (tickWord ++ r)) (t .bytes ∙ ap (λ (x : List ℕ). filled tickParts x (drop k s)) l

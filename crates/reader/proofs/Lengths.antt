@@ -1,4 +1,4 @@
--- How long the forms are: far shorter than "a line is at most 4,800 bytes" asks. Assumes nothing.
+-- How long the forms are: far shorter than "a line is at most 4,800 bytes" allows. Assumes nothing.
 use mathlib.Core.Path.{_≡_}
 use mathlib.Core.Logic.{⊎-elim}
 use Prim.Native.Nat.{ℕ, _+_, _*_, _/_, _≤_, _<_}
@@ -17,13 +17,12 @@ use Rattle.model.specs.declared.Event.the-variants.{Deliver, Sign, Show, Settle
 use Rattle.model.specs.declared.Setup.{Setup}
 use Rattle.model.specs.Quantities.{nMost}
 use Rattle.lines.specs.Decimal.{decimal}
-use Rattle.lines.specs.Forms.{openBracket, closeBracket, blank, furtherClocks, clocksForm, lineClocks, messageForm, eventForm, setupForm, lacksSetupForm}
+use Rattle.lines.specs.Forms.{openBracket, closeBracket, blank, furtherClocks, clocksForm, lineClocks, headingNumbers, messageForm, eventForm, setupForm, lacksSetupForm}
 use Rattle.lines.specs.Promises.{formMost}
 use Rattle.lines.proofs.Decimals.{length-small, length-large, length-most}
 use Rattle.reader.specs.Scan.{Part, word, field}
 use Rattle.reader.specs.Lines.{pairParts, headingParts}
 use Rattle.reader.proofs.Templates.{filled}
-use Rattle.reader.proofs.Openings.{headingOf}
 
 -- the most bytes of a template with numbers in it
 abbrev most : List Part → ℕ
@@ -79,7 +78,7 @@ setup-length u f =
     let clocks : List ℕ = clocksForm (lineClocks u) in
     let table : List ℕ = blank ++ (openBracket ++ (clocks ++ (closeBracket ++ closeBracket))) in
     let others : List Part = drop 2 headingParts in
-    let numbers : List ℕ = drop 1 (headingOf (u .plan) (u .faulty)) in
+    let numbers : List ℕ = drop 1 (headingNumbers (u .plan) (u .faulty)) in
     let c : length (lineClocks u) ≤ nMost = omega (arith, length-take (u .plan .n) (u .clocks)) in
     omega (
       arith,

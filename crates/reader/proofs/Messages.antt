@@ -5,9 +5,8 @@ use mathlib.Core.List.{List, [], _∷_, _++_, append-assoc}
 use lib.ListN.{drop, getD}
 use Rattle.model.specs.declared.Message.{Message}
 use Rattle.model.specs.declared.Message.the-variants.{View, Vote, Vc, Qc}
-use Rattle.model.specs.State.{viewIn, processorIn}
 use Rattle.lines.specs.Decimal.{decimal}
-use Rattle.lines.specs.Forms.{openBracket, closeBracket, blank, viewWord, voteWord, vcWord, qcWord, messageForm, Below}
+use Rattle.lines.specs.Forms.{openBracket, closeBracket, blank, viewWord, voteWord, vcWord, qcWord, messageFields, messageForm, Below}
 use Rattle.reader.specs.declared.Kind.{Kind}
 use Rattle.reader.specs.declared.Kind.the-variants as Kind
 use Rattle.reader.specs.declared.Head.{Head}
@@ -17,7 +16,7 @@ use Rattle.reader.specs.declared.Said.the-variants.{Told, NoMessage}
 use Rattle.reader.specs.Scan.{fields}
 use Rattle.reader.specs.Lines.{headAt, messageOf, pairParts, saidFields, saidHead, messageAt}
 use Rattle.reader.proofs.Words.{Left, by-word, word-there, word-away}
-use Rattle.reader.proofs.Templates.{filled, Taken, by-parts, parts-there, listed-all}
+use Rattle.reader.proofs.Templates.{filled, Taken, by-parts, parts-there, picked-all}
 
 -- ---- the form by its parts
 
@@ -41,7 +40,7 @@ message-form Kind.Qc w p r = ap (λ (l : List ℕ). openBracket ++ (qcWord ++ l)
 
 -- both of its numbers are "below 2^64"
 abbrev pub PairBelow : Message → Type 0
-PairBelow m = Below (viewIn m ∷ processorIn m ∷ [])
+PairBelow m = Below (messageFields m)
 
 pair-of : (k : Kind) (w p : ℕ) → Below (w ∷ p ∷ []) → PairBelow (messageOf k w p)
 pair-of Kind.View w p b = b
@@ -76,7 +75,7 @@ spoken-head s at b e (Is k a) h =
     spoken ns j t =
         let w : ℕ = getD ns 0 0 in
         let p : ℕ = getD ns 1 0 in
-        let l : ns ≡ w ∷ p ∷ [] = listed-all _ ns (t .number) in (
+        let l : ns ≡ w ∷ p ∷ [] = picked-all _ ns (t .number) in (
           e ∙ ap (λ (r : List ℕ). blank ++ (openBracket ++ r)) (h ∙ ap (λ (r : List ℕ). wordOf k ++ r) (t .bytes ∙ ap (λ (x : List ℕ). filled pairParts x (drop j s)) l))
               ∙ ap (λ (r : List ℕ). blank ++ r) (sym (message-form k w p (drop j s))),
           pair-of k w p (subst Below l (t .below)),

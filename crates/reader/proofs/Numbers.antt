@@ -49,14 +49,14 @@ run-all (b ∷ a) r h q = rw (is-digit b (h .0)) (ap (λ (l : List ℕ). b ∷ l
 
 spelled-append : (v : ℕ) (a b : List ℕ) → spelled v (a ++ b) ≡ spelled (spelled v a) b
 spelled-append v [] b = refl
-spelled-append v (x ∷ a) b = spelled-append (v * 10 + (x - 48)) a b
+spelled-append v (x ∷ a) b = spelled-append (v * 10 + (x - digit 0)) a b
 
 -- digits behind those of a number that is not 0
 digits-further : (v : ℕ) (l : List ℕ) → 0 < v → Digits l → spelled v l < fieldLimit → decimal (spelled v l) ≡ decimal v ++ l
 digits-further v [] p d h = sym (append-nil (decimal v))
 digits-further v (b ∷ l) p d h =
     let i : IsDigit b = d .0 in
-    let w : ℕ = v * 10 + (b - 48) in
+    let w : ℕ = v * 10 + (b - digit 0) in
     let m : w < fieldLimit = omega (arith, spelled-least w l) in
     let g : 10 ≤ w = omega arith in
     let q : w / 10 ≡ v = omega arith in
@@ -75,26 +75,26 @@ by-tenths P one more (suc k) n h m =
     ⊎-elim (λ (g : 10 ≤ n). more n m g (by-tenths P one more k (n / 10) b (omega arith))) (λ (g : n < 10). one n g) (le? 10 n)
 
 -- its first digit and the others
-record Spelling (n : ℕ) : Type 0 where
+record Shown (n : ℕ) : Type 0 where
   first : ℕ
   others : List ℕ
   shown : decimal n ≡ first ∷ others
   digits : Digits (first ∷ others)
   value : spelled 0 (first ∷ others) ≡ n
-  no-zero : 0 < n → first ≡ 48 → ⊥
+  no-zero : 0 < n → first ≡ digit 0 → ⊥
 
-spelling-one : (n : ℕ) → n < 10 → Spelling n
-spelling-one n h = record {
+shown-one : (n : ℕ) → n < 10 → Shown n
+shown-one n h = record {
   first = digit n;
   others = [];
   shown = decimal-small n h;
   digits = (record { least = omega arith; most = omega arith }, tt);
   value = omega arith;
-  no-zero = λ (p : 0 < n) (e : digit n ≡ 48). omega arith;
+  no-zero = λ (p : 0 < n) (e : digit n ≡ digit 0). omega arith;
 }
 
-spelling-more : (n : ℕ) → n < fieldLimit → 10 ≤ n → Spelling (n / 10) → Spelling n
-spelling-more n h g x =
+shown-more : (n : ℕ) → n < fieldLimit → 10 ≤ n → Shown (n / 10) → Shown n
+shown-more n h g x =
     let last : List ℕ = digit (n % 10) ∷ [] in
     let all : List ℕ = x .first ∷ x .others in
     record {
@@ -106,27 +106,27 @@ spelling-more n h g x =
       no-zero = λ (p : 0 < n). x .no-zero (omega arith);
     }
 
-spelling : (n : ℕ) → n < fieldLimit → Spelling n
-spelling n h = by-tenths Spelling spelling-one spelling-more 19 n (omega arith) h
+shown-of : (n : ℕ) → n < fieldLimit → Shown n
+shown-of n h = by-tenths Shown shown-one shown-more 19 n (omega arith) h
 
-numeral-spelling : (n k : ℕ) → n < fieldLimit → (x : Spelling n) → numeral (x .first ∷ x .others) k ≡ Value n k
-numeral-spelling n k h x = ⊎-elim nothing something (eq? n 0)
+numeral-shown : (n k : ℕ) → n < fieldLimit → (x : Shown n) → numeral (x .first ∷ x .others) k ≡ Value n k
+numeral-shown n k h x = ⊎-elim nothing something (eq? n 0)
   where
     something : (n ≡ 0 → ⊥) → numeral (x .first ∷ x .others) k ≡ Value n k
     something z = rw (ne-eqb _ _ (x .no-zero (omega arith)), x .value, lt-ltb n fieldLimit h)
 
     nothing : n ≡ 0 → numeral (x .first ∷ x .others) k ≡ Value n k
     nothing z =
-        let e : x .first ∷ x .others ≡ 48 ∷ [] = sym (x .shown) ∙ ap decimal z ∙ decimal-small 0 (omega arith) in
+        let e : x .first ∷ x .others ≡ digit 0 ∷ [] = sym (x .shown) ∙ ap decimal z ∙ decimal-small 0 (omega arith) in
         ap (λ (l : List ℕ). numeral l k) e ∙ ap (λ (m : ℕ). Value m k) (sym z)
 
 -- the digits and then none are read as the number
 pub number-back : (s r : List ℕ) (at n : ℕ) → n < fieldLimit → digitRun r ≡ [] → drop at s ≡ decimal n ++ r → numberAt s at ≡ Value n (at + length (decimal n))
 unfolding numberAt
 number-back s r at n h q e =
-    let x : Spelling n = spelling n h in
+    let x : Shown n = shown-of n h in
     let d : digitRun (drop at s) ≡ decimal n = rw (e, x .shown) (run-all (x .first ∷ x .others) r (x .digits) q) in
-    rw (d, x .shown) (numeral-spelling n _ h x)
+    rw (d, x .shown) (numeral-shown n _ h x)
 
 -- ---- a number that is read is written
 
@@ -140,9 +140,9 @@ empty [] h = refl
 empty (b ∷ l) h = absurd (omega arith)
 
 -- the digits that a number is spelled with, if it is not 0
-digits-lead : (b : ℕ) (l : List ℕ) → (b ≡ 48 → ⊥) → Digits (b ∷ l) → spelled 0 (b ∷ l) < fieldLimit → b ∷ l ≡ decimal (spelled 0 (b ∷ l))
+digits-lead : (b : ℕ) (l : List ℕ) → (b ≡ digit 0 → ⊥) → Digits (b ∷ l) → spelled 0 (b ∷ l) < fieldLimit → b ∷ l ≡ decimal (spelled 0 (b ∷ l))
 digits-lead b l z d h =
-    let v : ℕ = 0 * 10 + (b - 48) in
+    let v : ℕ = 0 * 10 + (b - digit 0) in
     let i : IsDigit b = d .0 in
     let e : digit v ≡ b = omega arith in
     sym (digits-further v l (omega arith) (d .1) h ∙ ap (λ (x : List ℕ). x ++ l) (decimal-small v (omega arith) ∙ ap (λ (x : ℕ). x ∷ []) e))
@@ -150,12 +150,12 @@ digits-lead b l z d h =
 numeral-only : (s l : List ℕ) (at : ℕ) → Digits l → drop at s ≡ l ++ drop (at + length l) s → Counted s at (numeral l (at + length l))
 numeral-only s [] at d e = tt
 numeral-only s (b ∷ l) at d e =
-    by-cond (Counted s at) (eqb b 48) (cond (eqb (length l) 0) (Value 0 k) NoNumber) (fitting n k)
+    by-cond (Counted s at) (eqb b (digit 0)) (cond (eqb (length l) 0) (Value 0 k) NoNumber) (fitting n k)
     (λ z. by-cond (Counted s at) (eqb (length l) 0) (Value 0 k) NoNumber
-    (λ y. (omega arith, stands 0 (ap₂ (λ (x : ℕ) (w : List ℕ). x ∷ w) (eqb→eq b 48 z) (empty l (eqb→eq (length l) 0 y)) ∙ sym (decimal-small 0 (omega arith)))))
+    (λ y. (omega arith, stands 0 (ap₂ (λ (x : ℕ) (w : List ℕ). x ∷ w) (eqb→eq b (digit 0) z) (empty l (eqb→eq (length l) 0 y)) ∙ sym (decimal-small 0 (omega arith)))))
     (λ _. tt))
     (λ z. by-cond (Counted s at) (ltb n fieldLimit) (Value n k) NoNumber
-    (λ y. let h : n < fieldLimit = ltb→lt n fieldLimit y in (h, stands n (digits-lead b l (λ (q : b ≡ 48). z (eq→eqb b 48 q)) d h)))
+    (λ y. let h : n < fieldLimit = ltb→lt n fieldLimit y in (h, stands n (digits-lead b l (λ (q : b ≡ digit 0). z (eq→eqb b (digit 0) q)) d h)))
     (λ _. tt))
   where
     k : ℕ

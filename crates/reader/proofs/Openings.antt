@@ -19,18 +19,14 @@ use Rattle.lines.specs.declared.Read.the-variants as Read
 use Rattle.lines.specs.declared.Read.the-variants.{NoForm}
 use Rattle.lines.specs.declared.Reading.{Reading}
 use Rattle.lines.specs.Decimal.{decimal}
-use Rattle.lines.specs.Forms.{openBracket, closeBracket, blank, openWord, furtherClocks, clocksForm, lineClocks, setupForm, Below, EventLine, SetupLine, trimmed}
+use Rattle.lines.specs.Forms.{openBracket, closeBracket, blank, openWord, furtherClocks, clocksForm, lineClocks, headingNumbers, setupForm, Below, EventLine, SetupLine, trimmed}
 use Rattle.lines.specs.Contracts.{noSetup, openingReading, noForm}
 use Rattle.reader.specs.Scan.{fields}
 use Rattle.reader.specs.Lines.{headingParts, headingFields, headingAt, furtherParts, tableParts, tableFields, tableAt, endingTable, endingHeading, openingAt}
 use Rattle.reader.proofs.Words.{Left, left-none}
-use Rattle.reader.proofs.Templates.{filled, places, noDigitFirst, apart, Taken, by-parts, parts-there, listed-all}
+use Rattle.reader.proofs.Templates.{filled, places, noDigitFirst, apart, Taken, by-parts, parts-there, picked-all}
 
 -- ---- the form by its parts
-
--- the numbers in front of the table
-abbrev pub headingOf : Plan → ℕ → List ℕ
-headingOf plan faulty = plan .n ∷ plan .delta ∷ plan .gamma ∷ plan .views ∷ faulty ∷ []
 
 further-form : (j : ℕ) (cs r : List ℕ) → length cs ≡ j → filled (furtherParts j) cs r ≡ furtherClocks cs ++ (closeBracket ++ (closeBracket ++ r))
 further-form zero [] r h = refl
@@ -48,10 +44,10 @@ table-form n (c ∷ cs) r h p =
     (ap (λ (l : List ℕ). decimal c ++ l) (further-form (n - 1) cs r (omega arith)) ∙ sym (append-assoc (decimal c) (furtherClocks cs) (closeBracket ++ (closeBracket ++ r))))
 
 setup-parts : (u : Setup) → length (lineClocks u) ≡ u .plan .n → 1 ≤ u .plan .n
-    → setupForm u ≡ openBracket ++ (openWord ++ filled headingParts (headingOf (u .plan) (u .faulty)) (filled (tableParts (u .plan .n)) (lineClocks u) []))
+    → setupForm u ≡ openBracket ++ (openWord ++ filled headingParts (headingNumbers (u .plan) (u .faulty)) (filled (tableParts (u .plan .n)) (lineClocks u) []))
 unfolding setupForm
 setup-parts u h p =
-    ap (λ (l : List ℕ). openBracket ++ (openWord ++ filled headingParts (headingOf (u .plan) (u .faulty)) l)) (sym (table-form (u .plan .n) (lineClocks u) [] h p))
+    ap (λ (l : List ℕ). openBracket ++ (openWord ++ filled headingParts (headingNumbers (u .plan) (u .faulty)) l)) (sym (table-form (u .plan .n) (lineClocks u) [] h p))
 
 places-further : (j : ℕ) → places (furtherParts j) ≡ j
 places-further zero = refl
@@ -97,7 +93,7 @@ abbrev pub LineRead : List ℕ → Reading → Type 0
 LineRead s r = ReadAs s (r .read) (r .setup)
 
 setup-line : (s : List ℕ) (at k e : ℕ) (plan : Plan) (faulty : ℕ) (cs : List ℕ) → s ≡ openBracket ++ (openWord ++ drop at s)
-    → drop at s ≡ filled headingParts (headingOf plan faulty) (drop k s) → Below (headingOf plan faulty) → eqb (plan .n) 0 ≡ false → ltb nMost (plan .n) ≡ false
+    → drop at s ≡ filled headingParts (headingNumbers plan faulty) (drop k s) → Below (headingNumbers plan faulty) → eqb (plan .n) 0 ≡ false → ltb nMost (plan .n) ≡ false
     → Taken (tableParts (plan .n)) s k cs e → e ≡ length s
     → SetupLine s (record { plan = plan; faulty = faulty; clocks = cs ++ replicate (tableClocks - length cs) 0 })
 setup-line s at k e plan faulty cs h heading b least most t end =
@@ -110,13 +106,13 @@ setup-line s at k e plan faulty cs h heading b least most t end =
     let z : length zeros ≡ tableClocks - length cs = length-replicate (tableClocks - length cs) 0 in
     record {
       formed = or-neither (eqb (plan .n) 0) (ltb nMost (plan .n)) least most;
-      below = below-append (headingOf plan faulty) (lineClocks u) b (subst Below (sym l) (t .below));
+      below = below-append (headingNumbers plan faulty) (lineClocks u) b (subst Below (sym l) (t .below));
       table = length-append cs zeros ∙ omega arith;
       bytes =
           h
           ∙ ap (λ (r : List ℕ). openBracket ++ (openWord ++ r))
           (heading
-          ∙ ap (λ (r : List ℕ). filled headingParts (headingOf plan faulty) r)
+          ∙ ap (λ (r : List ℕ). filled headingParts (headingNumbers plan faulty) r)
           (t .bytes ∙ ap (λ (r : List ℕ). filled (tableParts (plan .n)) cs r) (drop-of-length-le s (le-of-eq (sym end)))
           ∙ ap (λ (x : List ℕ). filled (tableParts (plan .n)) x []) (sym l)))
           ∙ sym (setup-parts u (ap length l ∙ c) p);
@@ -131,7 +127,7 @@ opening-only s at h = by-parts (LineRead s) headingParts s at (λ x. endingHeadi
     headed ns k t =
         let plan : Plan = record { n = getD ns 0 0; delta = getD ns 1 0; gamma = getD ns 2 0; views = getD ns 3 0 } in
         let faulty : ℕ = getD ns 4 0 in
-        let l : ns ≡ headingOf plan faulty = listed-all _ ns (t .number) in
+        let l : ns ≡ headingNumbers plan faulty = picked-all _ ns (t .number) in
         by-cond (LineRead s) (eqb (plan .n) 0) noForm _ (λ _. refl)
         (λ least. by-cond (LineRead s) (ltb nMost (plan .n)) noForm _ (λ _. refl)
         (λ most. by-parts (LineRead s) (tableParts (plan .n)) s k (λ x. endingTable s plan faulty (tableFields x))
@@ -143,17 +139,17 @@ opening-only s at h = by-parts (LineRead s) headingParts s at (λ x. endingHeadi
 
 -- the bytes of the form behind its first bracket and its word
 abbrev pub behindOpen : Setup → List ℕ
-behindOpen u = filled headingParts (headingOf (u .plan) (u .faulty)) (filled (tableParts (u .plan .n)) (lineClocks u) [])
+behindOpen u = filled headingParts (headingNumbers (u .plan) (u .faulty)) (filled (tableParts (u .plan .n)) (lineClocks u) [])
 
 -- "n clocks, 1 to 64 of them", as the reader tests it
-record Counted (u : Setup) : Type 0 where
+record Sized (u : Setup) : Type 0 where
   some : eqb (u .plan .n) 0 ≡ false
   few : ltb nMost (u .plan .n) ≡ false
   least : 1 ≤ u .plan .n
   clocks-in : length (lineClocks u) ≡ u .plan .n
 
-counted : (s : List ℕ) (u : Setup) → SetupLine s u → Counted u
-counted s u l =
+sized : (s : List ℕ) (u : Setup) → SetupLine s u → Sized u
+sized s u l =
     let p = or-parts (eqb (u .plan .n) 0) (ltb nMost (u .plan .n)) (l .formed) in
     let m : u .plan .n ≤ nMost = ltb-false nMost (u .plan .n) (p .1) in
     record {
@@ -164,7 +160,7 @@ counted s u l =
     }
 
 pub behind-open : (s : List ℕ) (u : Setup) → SetupLine s u → s ≡ openBracket ++ (openWord ++ behindOpen u)
-behind-open s u l = let c : Counted u = counted s u l in l .bytes ∙ setup-parts u (c .clocks-in) (c .least)
+behind-open s u l = let c : Sized u = sized s u l in l .bytes ∙ setup-parts u (c .clocks-in) (c .least)
 
 pub opening-there : (s : List ℕ) (at : ℕ) (u : Setup) → SetupLine s u → Left s at (behindOpen u) → openingAt s at ≡ openingReading (trimmed u)
 unfolding openingAt headingAt tableAt trimmed
@@ -180,7 +176,7 @@ opening-there s at u l h =
     P x = x ≡ openingReading (trimmed u)
 
     heading : List ℕ
-    heading = headingOf (u .plan) (u .faulty)
+    heading = headingNumbers (u .plan) (u .faulty)
 
-    c : Counted u
-    c = counted s u l
+    c : Sized u
+    c = sized s u l

@@ -1,24 +1,25 @@
 -- Reading a line is right both ways: what it is read as is exactly what it is the form of. Assumes nothing.
 use mathlib.Core.Path.{_≡_, refl, ap, ap₂, sym, _∙_, subst}
-use Prim.Native.Nat.{ℕ}
+use Prim.Native.Nat.{ℕ, _+_}
 use native.Mathlib.Omega.{arith}
 use mathlib.Core.List.{List, [], _∷_, _++_, map}
-use mathlib.Core.Logic.{⊎-elim}
+use mathlib.Core.Logic.{⊎-elim, inl, inr}
 use mathlib.Core.Bool.{true}
-use lib.ListN.{length}
-use lib.Dec.{leb}
-use borrow.Author.Tests.{le-leb}
+use lib.ListN.{length, length-append}
+use lib.Dec.{leb, ltb}
+use borrow.Author.Tests.{le-leb, lt-ltb}
 use Rattle.model.specs.declared.Event.{Event}
 use Rattle.model.specs.declared.Setup.{Setup}
 use Rattle.lines.specs.declared.Read.{Read}
 use Rattle.lines.specs.declared.Read.the-variants as Read
 use Rattle.lines.specs.declared.Read.the-variants.{NoForm}
 use Rattle.lines.specs.declared.Reading.{Reading}
-use Rattle.lines.specs.Forms.{openBracket, openWord, EventLine, SetupLine, trimmed}
-use Rattle.lines.specs.Contracts.{noSetup, eventReading, openingReading, noForm}
-use Rattle.lines.specs.Splitting.{lineMost, ended, cutRead}
-use Rattle.lines.specs.Promises.{Formed, ReadsLines, OneEvent, OneSetup, NeverBoth, ShortForms, AllFormed, ReadsBack}
-use Rattle.lines.proofs.Schedules.{cuts-back}
+use Rattle.lines.specs.Forms.{newline, openBracket, openWord, EventLine, SetupLine, trimmed}
+use Rattle.lines.specs.Contracts.{noSetup, eventReading, openingReading, noForm, line}
+use Rattle.lines.specs.Splitting.{lineMost, nextLine, ended, cutRead}
+use Rattle.lines.specs.Promises.{NextForm, Formed, ReadsLines, JudgesLines, OneEvent, OneSetup, NeverBoth, ShortForms, AllFormed, readingOf, readingsOf, ReadsBack}
+use Rattle.lines.proofs.Readings.{judges}
+use Rattle.lines.proofs.Schedules.{before-form, cuts-back}
 use Rattle.reader.specs.Lines.{eventAt, openingAt, reading}
 use Rattle.reader.proofs.Words.{left-all, by-word, word-there, word-away}
 use Rattle.reader.proofs.Events.{EventRead, event-only, inside, inside-form, inside-no-opening, event-there}
@@ -67,6 +68,10 @@ reading-reads s = record {
     told : (x : Read) → reading s .read ≡ x → ReadAs s x (reading s .setup)
     told x q = subst (λ (y : Read). ReadAs s y (reading s .setup)) q (line-only s)
 
+-- check 1 where it is the form of nothing, and only there
+pub reading-judges : JudgesLines reading
+reading-judges s = judges s (reading s) (reading-reads s)
+
 -- ---- forms and what they are the forms of
 
 -- two events with one line are the same event
@@ -85,21 +90,35 @@ never-both s e u l m =
     let z : _≡_ {A = ℕ} 0 1 = cc in
     omega arith
 
--- every form is shorter than "a line is at most 4,800 bytes" asks
+-- every form is far shorter than "a line is at most 4,800 bytes" allows
 pub short-forms : ShortForms
 short-forms s =
     ⊎-elim (λ (x : (e : Event) × EventLine s e). rw (x .1 .bytes) (event-length (x .0)))
     (λ (x : (u : Setup) × SetupLine s u). rw (x .1 .bytes) (setup-length (x .0) (x .1 .formed)))
 
+-- ---- what is written
+
+pub next-form : NextForm
+unfolding nextLine
+next-form s f more =
+    let n : length (line s ++ more) ≡ length s + 1 + length more = length-append (line s) more ∙ ap (λ (k : ℕ). k + length more) (length-append s (newline ∷ [])) in
+    let l : ltb (length s) (length (line s ++ more)) ≡ true = lt-ltb (length s) (length (line s ++ more)) (omega arith) in
+    let h : leb (length s) lineMost ≡ true = le-leb (length s) lineMost (omega (arith, short-forms s f)) in
+    rw (before-form s f more, l, h)
+
 -- ---- a whole schedule
 
-line-back : (s : List ℕ) → Formed s → cutRead reading (ended s) ≡ reading s
-line-back s f = let h : leb (length s) lineMost ≡ true = le-leb (length s) lineMost (omega (arith, short-forms s f)) in rw h
+form-back : (s : List ℕ) (f : Formed s) → reading s ≡ readingOf s f
+form-back s (inl x) = event-back s (x .0) (x .1)
+form-back s (inr x) = setup-back s (x .0) (x .1)
 
-lines-back : (l : List (List ℕ)) → AllFormed l → map (cutRead reading) (map ended l) ≡ map reading l
+line-back : (s : List ℕ) (f : Formed s) → cutRead reading (ended s) ≡ readingOf s f
+line-back s f = let h : leb (length s) lineMost ≡ true = le-leb (length s) lineMost (omega (arith, short-forms s f)) in rw h (form-back s f)
+
+lines-back : (l : List (List ℕ)) (h : AllFormed l) → map (cutRead reading) (map ended l) ≡ readingsOf l h
 lines-back [] h = refl
 lines-back (s ∷ l) h = ap₂ (λ (x : Reading) (r : List Reading). x ∷ r) (line-back s (h .0)) (lines-back l (h .1))
 
--- a schedule is read as the lines it is made of
+-- a schedule is read as the events and openings whose forms it is made of
 pub reads-back : ReadsBack reading
 reads-back l h = ap (map (cutRead reading)) (cuts-back l h) ∙ lines-back l h

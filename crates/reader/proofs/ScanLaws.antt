@@ -12,7 +12,7 @@ use lib.Seq.{drop-cons}
 use lib.Dec.{eqb, ltb}
 use borrow.Author.Tests.{lt-ltb, le-ltb, eq-eqb, ne-eqb}
 use Rattle.base.specs.Tests.{le?}
-use Rattle.lines.specs.Decimal.{fieldLimit}
+use Rattle.lines.specs.Decimal.{digit, fieldLimit}
 use Rattle.reader.specs.declared.Class.the-variants.{Digit}
 use Rattle.reader.specs.declared.After.the-variants.{At, Away}
 use Rattle.reader.specs.declared.Number.{Number}
@@ -90,22 +90,22 @@ Spelling s at v value i =
 abbrev pub Spelled : List ℕ → ℕ → ℕ → Number → Type 0
 Spelled s at v r = r ≡ fitting (spelled v (digitRun (drop at s))) (at + length (digitRun (drop at s)))
 
-spelled-digit : (v d : ℕ) (l : List ℕ) → spelled v ((48 + d) ∷ l) ≡ spelled (v * 10 + d) l
-spelled-digit v d l = let m : 48 + d - 48 ≡ d = omega arith in ap (λ (x : ℕ). spelled (v * 10 + x) l) m
+spelled-digit : (v d : ℕ) (l : List ℕ) → spelled v ((digit d) ∷ l) ≡ spelled (v * 10 + d) l
+spelled-digit v d l = let m : digit d - digit 0 ≡ d = omega arith in ap (λ (x : ℕ). spelled (v * 10 + x) l) m
 
 pub spelling-more : (s : List ℕ) (at v value i d : ℕ) → Spelling s at v value i → classAt s i ≡ Digit d → value * 10 + d < fieldLimit → Spelling s at v (value * 10 + d) (i + 1)
 spelling-more s at v value i d x e h =
-    let q : digitRun (drop i s) ≡ (48 + d) ∷ digitRun (drop (i + 1) s) = digit-run s i d e in
+    let q : digitRun (drop i s) ≡ (digit d) ∷ digitRun (drop (i + 1) s) = digit-run s i d e in
     (h, x .1 ∙ rw q (spelled-digit value d (digitRun (drop (i + 1) s))), x .2 ∙ rw q (omega arith))
 
 -- what digits spell is no less than what stands before them
 pub spelled-least : (v : ℕ) (l : List ℕ) → v ≤ spelled v l
 spelled-least v [] = omega arith
-spelled-least v (b ∷ l) = omega (arith, spelled-least (v * 10 + (b - 48)) l)
+spelled-least v (b ∷ l) = omega (arith, spelled-least (v * 10 + (b - digit 0)) l)
 
 pub spelling-large : (s : List ℕ) (at v value i d : ℕ) → Spelling s at v value i → classAt s i ≡ Digit d → fieldLimit ≤ value * 10 + d → Spelled s at v NoNumber
 spelling-large s at v value i d x e h =
-    let q : digitRun (drop i s) ≡ (48 + d) ∷ digitRun (drop (i + 1) s) = digit-run s i d e in
+    let q : digitRun (drop i s) ≡ (digit d) ∷ digitRun (drop (i + 1) s) = digit-run s i d e in
     let z : spelled v (digitRun (drop at s)) ≡ spelled (value * 10 + d) (digitRun (drop (i + 1) s)) = x .1 ∙ rw q (spelled-digit value d (digitRun (drop (i + 1) s))) in
     rw (le-ltb (spelled v (digitRun (drop at s))) fieldLimit (omega (arith, spelled-least (value * 10 + d) (digitRun (drop (i + 1) s)))))
 
@@ -130,7 +130,7 @@ number-zero s at d e z n = rw (digit-run s at d e, z, no-digit s (at + 1) n)
 pub number-other : (s : List ℕ) (at d : ℕ) (r : Number) → classAt s at ≡ Digit d → d ≢ 0 → Spelled s (at + 1) d r → r ≡ numberAt s at
 unfolding numberAt
 number-other s at d r e n x =
-    let o : eqb (48 + d) 48 ≡ false = ne-eqb (48 + d) 48 (λ (q : 48 + d ≡ 48). n (omega arith)) in
+    let o : eqb (digit d) (digit 0) ≡ false = ne-eqb (digit d) (digit 0) (λ (q : digit d ≡ digit 0). n (omega arith)) in
     let k : at + suc (length (digitRun (drop (at + 1) s))) ≡ at + 1 + length (digitRun (drop (at + 1) s)) = omega arith in
     let z : 0 * 10 + d ≡ d = omega arith in
     x ∙ rw (digit-run s at d e, o, spelled-digit 0 d (digitRun (drop (at + 1) s)), z, k)

@@ -120,16 +120,16 @@ parts-there P (field ∷ ps) s at f (n ∷ ns) r h c b t g =
 -- ---- the numbers one by one
 
 -- k of them from place i on
-abbrev pub listed : ℕ → ℕ → List ℕ → List ℕ
-listed zero i ns = []
-listed (suc k) i ns = getD ns i 0 ∷ listed k (suc i) ns
+abbrev pub picked : ℕ → ℕ → List ℕ → List ℕ
+picked zero i ns = []
+picked (suc k) i ns = getD ns i 0 ∷ picked k (suc i) ns
 
-listed-later : (k i n : ℕ) (ns : List ℕ) → listed k (suc i) (n ∷ ns) ≡ listed k i ns
-listed-later zero i n ns = refl
-listed-later (suc k) i n ns = ap (λ (l : List ℕ). getD ns i 0 ∷ l) (listed-later k (suc i) n ns)
+picked-later : (k i n : ℕ) (ns : List ℕ) → picked k (suc i) (n ∷ ns) ≡ picked k i ns
+picked-later zero i n ns = refl
+picked-later (suc k) i n ns = ap (λ (l : List ℕ). getD ns i 0 ∷ l) (picked-later k (suc i) n ns)
 
-pub listed-all : (k : ℕ) (ns : List ℕ) → length ns ≡ k → ns ≡ listed k 0 ns
-listed-all zero [] h = refl
-listed-all zero (n ∷ ns) h = absurd (omega arith)
-listed-all (suc k) [] h = absurd (omega arith)
-listed-all (suc k) (n ∷ ns) h = ap (λ (l : List ℕ). n ∷ l) (listed-all k ns (omega arith) ∙ sym (listed-later k 0 n ns))
+pub picked-all : (k : ℕ) (ns : List ℕ) → length ns ≡ k → ns ≡ picked k 0 ns
+picked-all zero [] h = refl
+picked-all zero (n ∷ ns) h = absurd (omega arith)
+picked-all (suc k) [] h = absurd (omega arith)
+picked-all (suc k) (n ∷ ns) h = ap (λ (l : List ℕ). n ∷ l) (picked-all k ns (omega arith) ∙ sym (picked-later k 0 n ns))

@@ -2,3 +2,4 @@
 pub mod Bytes
 pub mod Scan
 pub mod Lines
+pub mod Examples

@@ -32,6 +32,11 @@ use Rattle.reader.specs.declared.Heading.the-variants.{Parameters, NoHea
 use Rattle.reader.specs.declared.Table.{Table}
 use Rattle.reader.specs.Scan.{Part, word, field, Fields, fields, none, afterWord, onAfter, numberAt, readParts}
 
+-- j numbers, each behind a blank
+abbrev pub numbers : ℕ → List Part
+numbers zero = []
+numbers (suc j) = word blank ∷ field ∷ numbers j
+
 -- ---- "(view w p)", and so for vote, vc, qc
 
 -- the kind whose word stands at the place, and the place after it
@@ -84,13 +89,13 @@ signAt s at = endingSaid s Sign (messageAt s at)
 unfoldable pub showAt : List ℕ → ℕ → Read
 showAt s at = endingSaid s Show (messageAt s at)
 
--- " m)"
+-- " m", and the bracket behind it
 abbrev pub endingTicks : List ℕ → Fields → Read
 endingTicks s (fields ns k) = endingAt s k (Tick (getD ns 0 0))
 endingTicks s none = NoForm
 
 unfoldable pub ticksAt : List ℕ → ℕ → Read
-ticksAt s at = endingTicks s (readParts (word blank ∷ field ∷ []) s at)
+ticksAt s at = endingTicks s (readParts (numbers 1) s at)
 
 -- by the word behind the first bracket
 unfoldable pub eventAt : List ℕ → ℕ → Read
@@ -102,11 +107,6 @@ eventAt s at =
     (onAfter (afterWord s at settleWord) (λ a. endingAt s a Settle) NoForm))))
 
 -- ---- the opening
-
--- j numbers, each behind a blank
-abbrev pub numbers : ℕ → List Part
-numbers zero = []
-numbers (suc j) = word blank ∷ field ∷ numbers j
 
 -- " n Δ Γ V mask"
 abbrev pub headingParts : List Part

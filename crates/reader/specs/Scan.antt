@@ -4,7 +4,7 @@ use mathlib.Core.Bool.{Bool, true, false, _&&_, cond}
 use mathlib.Core.List.{List, [], _∷_}
 use lib.ListN.{length, drop}
 use lib.Dec.{eqb, ltb}
-use Rattle.lines.specs.Decimal.{fieldLimit}
+use Rattle.lines.specs.Decimal.{digit, fieldLimit}
 use Rattle.reader.specs.declared.After.{After}
 use Rattle.reader.specs.declared.After.the-variants.{At, Away}
 use Rattle.reader.specs.declared.Number.{Number}
@@ -31,7 +31,7 @@ fitting v k = cond (ltb v fieldLimit) (Value v k) NoNumber
 -- what digits say that end before place k: "decimal without leading zeros, below 2^64"
 abbrev pub numeral : List ℕ → ℕ → Number
 numeral [] k = NoNumber
-numeral (b ∷ l) k = cond (eqb b 48) (cond (eqb (length l) 0) (Value 0 k) NoNumber) (fitting (spelled 0 (b ∷ l)) k)
+numeral (b ∷ l) k = cond (eqb b (digit 0)) (cond (eqb (length l) 0) (Value 0 k) NoNumber) (fitting (spelled 0 (b ∷ l)) k)
 
 -- the number at a place, and the place after it
 unfoldable pub numberAt : List ℕ → ℕ → Number

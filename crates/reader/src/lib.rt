@@ -10,7 +10,7 @@ ghost use Prim.Native.Nat.{_+_, _≤_};
 ghost use lib.ListN.{length, drop};
 ghost use Rattle.model.specs.Quantities.{nMost};
 ghost use Rattle.lines.specs.Forms.{openBracket, closeBracket, blank};
-ghost use Rattle.lines.specs.Contracts.{noSetup, noForm};
+ghost use Rattle.lines.specs.Contracts.{noSetup, noForm, Reads};
 ghost use Rattle.reader.specs.Bytes.{classOf, classAt, digitRun, spelled};
 ghost use Rattle.reader.specs.Scan.{afterWord, fitting, numberAt};
 ghost use Rattle.reader.specs.Lines.{headAt, messageOf, saidHead, messageAt, endingAt, deliverAt, signAt, showAt, ticksAt, eventAt, headingAt, nextNumberAt, firstClockAt, tableEndAt, noTable, tableAt, openingAt, reading};
@@ -20,8 +20,8 @@ ghost use Rattle.reader.specs.Lines.{headAt, messageOf, saidHead, messag
 // What a byte is to the reader.
 enum Class {
     Digit(u64),
-    Opening,
-    Closing,
+    OpenBracket,
+    CloseBracket,
     Blank,
     Other,
 }
@@ -37,14 +37,14 @@ fn classify(b: u8) -> Class
 {
     match b {
         b'0'..=b'9' => Class::Digit(wide(b - b'0')),
-        b'(' => Class::Opening,
-        b')' => Class::Closing,
+        b'(' => Class::OpenBracket,
+        b')' => Class::CloseBracket,
         b' ' => Class::Blank,
         _ => Class::Other,
     }
 }
 
-// The class of the byte at a place; nothing beyond the end.
+// The class of the byte at a place; beyond the end none of the others.
 fn class_at(s: &[u8], at: usize) -> Class
     ensures { λ r. ⌜ r ≡ classAt (now (s .entry)) at ⌝ }
 {
@@ -62,19 +62,19 @@ enum After {
     Away,
 }
 
-fn after_opening(s: &[u8], at: usize) -> After
+fn after_open_bracket(s: &[u8], at: usize) -> After
     ensures { λ r. ⌜ r ≡ afterWord (now (s .entry)) at openBracket ⌝ }
 {
-    let Class::Opening = class_at(s, at) else {
+    let Class::OpenBracket = class_at(s, at) else {
         return After::Away;
     };
     After::At(at + 1)
 }
 
-fn after_closing(s: &[u8], at: usize) -> After
+fn after_close_bracket(s: &[u8], at: usize) -> After
     ensures { λ r. ⌜ r ≡ afterWord (now (s .entry)) at closeBracket ⌝ }
 {
-    let Class::Closing = class_at(s, at) else {
+    let Class::CloseBracket = class_at(s, at) else {
         return After::Away;
     };
     After::At(at + 1)
@@ -222,7 +222,7 @@ fn read_inside(s: &[u8], at: usize) -> Said
     let Number::Value(p, e) = read_number(s, d) else {
         return Said::NoMessage;
     };
-    let After::At(k) = after_closing(s, e) else {
+    let After::At(k) = after_close_bracket(s, e) else {
         return Said::NoMessage;
     };
     Said::Told(make(kind, w, p), k)
@@ -235,7 +235,7 @@ fn read_message(s: &[u8], at: usize) -> Said
     let After::At(a) = after_blank(s, at) else {
         return Said::NoMessage;
     };
-    let After::At(b) = after_opening(s, a) else {
+    let After::At(b) = after_open_bracket(s, a) else {
         return Said::NoMessage;
     };
     read_inside(s, b)
@@ -247,7 +247,7 @@ fn read_message(s: &[u8], at: usize) -> Said
 fn ending(s: &[u8], at: usize, event: Event) -> Read
     ensures { λ r. ⌜ r ≡ endingAt (now (s .entry)) at event ⌝ }
 {
-    let After::At(k) = after_closing(s, at) else {
+    let After::At(k) = after_close_bracket(s, at) else {
         return Read::NoForm;
     };
     if k != s.len() {
@@ -378,7 +378,7 @@ fn first_clock(s: &[u8], at: usize) -> Number
     let After::At(a) = after_blank(s, at) else {
         return Number::NoNumber;
     };
-    let After::At(b) = after_opening(s, a) else {
+    let After::At(b) = after_open_bracket(s, a) else {
         return Number::NoNumber;
     };
     read_number(s, b)
@@ -388,10 +388,10 @@ fn first_clock(s: &[u8], at: usize) -> Number
 fn table_end(s: &[u8], at: usize) -> After
     ensures { λ r. ⌜ r ≡ tableEndAt (now (s .entry)) at ⌝ }
 {
-    let After::At(a) = after_closing(s, at) else {
+    let After::At(a) = after_close_bracket(s, at) else {
         return After::Away;
     };
-    after_closing(s, a)
+    after_close_bracket(s, a)
 }
 
 fn no_table() -> Table
@@ -490,11 +490,11 @@ fn read_opening(s: &[u8], at: usize) -> Reading
     }
 }
 
-// What a line, without its newline, is read as.
-pub fn read_line(line: &[u8]) -> Reading
+// From the left.
+fn read_bytes(line: &[u8]) -> Reading
     ensures { λ r. ⌜ r ≡ reading (now (line .entry)) ⌝ }
 {
-    let After::At(a) = after_opening(line, 0) else {
+    let After::At(a) = after_open_bracket(line, 0) else {
         return no_form();
     };
     if let After::At(b) = after_word(line, a, b"open") {
@@ -504,4 +504,11 @@ pub fn read_line(line: &[u8]) -> Reading
         read: read_event(line, a),
         setup: no_setup(),
     }
+}
+
+// What a line, without its newline, is read as.
+pub fn read_line(line: &[u8]) -> Reading
+    ensures { λ r. ⌜ (r ≡ reading (now (line .entry))) × Reads (now (line .entry)) r ⌝ }
+{
+    read_bytes(line)
 }

@@ -6,7 +6,7 @@ use Rattle.reader.proofs.first_clock.Tie as tie
 use Rattle.reader.proofs.first_clock.Reads as reads
 use Rattle.reader.proofs.first_clock.Lts as lts
 use Rattle.reader.proofs.after_blank.Reads as after-blank-reads
-use Rattle.reader.proofs.after_opening.Reads as after-opening-reads
+use Rattle.reader.proofs.after_open_bracket.Reads as after-open-bracket-reads
 use Rattle.reader.proofs.read_number.Reads as read-number-reads
 
 after-blank-requires : tie.Need-after-blank-requires
@@ -22,8 +22,8 @@ returns : tie.Need-returns
 unfolding firstClockAt
 returns c = rw (sym (c .before .before .after-blank .ensures) ∙ c .enum-told .given .1)
 
-after-opening-requires : tie.Need-after-opening-requires
-after-opening-requires c κs = search needs
+after-open-bracket-requires : tie.Need-after-open-bracket-requires
+after-open-bracket-requires c κs = search needs
 
 enum-known-b : tie.Need-enum-known-b
 enum-known-b c = search needs
@@ -36,7 +36,7 @@ unfolding firstClockAt
 returns-2 c =
     rw (
       sym (c .before .before .before .before .before .before .after-blank .ensures) ∙ c .before .before .before .before .a .given .1,
-      sym (c .before .before .after-opening .ensures) ∙ c .enum-told2 .given .1,
+      sym (c .before .before .after-open-bracket .ensures) ∙ c .enum-told2 .given .1,
     )
 
 read-number-requires : tie.Need-read-number-requires
@@ -47,7 +47,7 @@ unfolding firstClockAt
 returns-3 c =
     rw (
       sym (c .before .before .before .before .before .before .before .before .after-blank .ensures) ∙ c .before .before .before .before .before .before .a .given .1,
-      sym (c .before .before .before .before .after-opening .ensures) ∙ c .before .before .b .given .1,
+      sym (c .before .before .before .before .after-open-bracket .ensures) ∙ c .before .before .b .given .1,
     )
     (c .read-number .ensures)
 
@@ -59,7 +59,7 @@ first-clock-spec =
     enum-known-a
     enum-told
     returns
-    after-opening-requires
+    after-open-bracket-requires
     enum-known-b
     enum-told-2
     returns-2

@@ -5,7 +5,7 @@ use Rattle.reader.proofs.read_inside.Tie as tie
 use Rattle.reader.proofs.read_inside.Reads as reads
 use Rattle.reader.proofs.read_inside.Lts as lts
 use Rattle.reader.proofs.after_blank.Reads as after-blank-reads
-use Rattle.reader.proofs.after_closing.Reads as after-closing-reads
+use Rattle.reader.proofs.after_close_bracket.Reads as after-close-bracket-reads
 use Rattle.reader.proofs.make.Reads as make-reads
 use Rattle.reader.proofs.read_head.Reads as read-head-reads
 use Rattle.reader.proofs.read_number.Reads as read-number-reads
@@ -92,8 +92,8 @@ returns-5 c =
       sym (c .before .before .read-number2 .ensures) ∙ c .enum-told5 .given .1,
     )
 
-after-closing-requires : tie.Need-after-closing-requires
-after-closing-requires c κs = search needs
+after-close-bracket-requires : tie.Need-after-close-bracket-requires
+after-close-bracket-requires c κs = search needs
 
 enum-known-k : tie.Need-enum-known-k
 enum-known-k c = search needs
@@ -109,7 +109,7 @@ returns-6 c =
       sym (c .before .before .before .before .before .before .before .before .before .before .before .before .before .before .read-number .ensures) ∙ c .before .before .before .before .before .before .before .before .before .before .before .before .w .given .1,
       sym (c .before .before .before .before .before .before .before .before .before .before .after-blank2 .ensures) ∙ c .before .before .before .before .before .before .before .before .d .given .1,
       sym (c .before .before .before .before .before .before .read-number2 .ensures) ∙ c .before .before .before .before .p .given .1,
-      sym (c .before .before .after-closing .ensures) ∙ c .enum-told6 .given .1,
+      sym (c .before .before .after-close-bracket .ensures) ∙ c .enum-told6 .given .1,
     )
 
 make-requires : tie.Need-make-requires
@@ -123,7 +123,7 @@ returns-7 c =
       sym (c .before .before .before .before .before .before .before .before .before .before .before .before .before .before .before .before .read-number .ensures) ∙ c .before .before .before .before .before .before .before .before .before .before .before .before .before .before .w .given .1,
       sym (c .before .before .before .before .before .before .before .before .before .before .before .before .after-blank2 .ensures) ∙ c .before .before .before .before .before .before .before .before .before .before .d .given .1,
       sym (c .before .before .before .before .before .before .before .before .read-number2 .ensures) ∙ c .before .before .before .before .before .before .p .given .1,
-      sym (c .before .before .before .before .after-closing .ensures) ∙ c .before .before .k .given .1,
+      sym (c .before .before .before .before .after-close-bracket .ensures) ∙ c .before .before .k .given .1,
       c .make .ensures,
     )
 
@@ -151,7 +151,7 @@ read-inside-spec =
     enum-known-p
     enum-told-5
     returns-5
-    after-closing-requires
+    after-close-bracket-requires
     enum-known-k
     enum-told-6
     returns-6

@@ -1,79 +1,18 @@
-use Rattle.reader.specs.Lines.{reading}
-use mathlib.Core.Path.{sym, _∙_}
+use mathlib.Core.Path.{sym, subst}
 use borrow.Author.Needs.{needs}
+use Rattle.lines.specs.Contracts.{Reads}
+use Rattle.reader.proofs.RoundTrip.{reading-reads}
 use Rattle.reader.proofs.read_line.Statement.{statement}
 use Rattle.reader.proofs.read_line.Tie as tie
 use Rattle.reader.proofs.read_line.Reads as reads
 use Rattle.reader.proofs.read_line.Lts as lts
-use Rattle.reader.proofs.after_opening.Reads as after-opening-reads
-use Rattle.reader.proofs.after_word.Reads as after-word-reads
-use Rattle.reader.proofs.no_form.Reads as no-form-reads
-use Rattle.reader.proofs.no_setup.Reads as no-setup-reads
-use Rattle.reader.proofs.read_event.Reads as read-event-reads
-use Rattle.reader.proofs.read_opening.Reads as read-opening-reads
+use Rattle.reader.proofs.read_bytes.Reads as read-bytes-reads
 
-after-opening-requires : tie.Need-after-opening-requires
-after-opening-requires c κs = search needs
-
-enum-known-a : tie.Need-enum-known-a
-enum-known-a c = search needs
-
-enum-told : tie.Need-enum-told
-enum-told c = search needs
-
-no-form-requires : tie.Need-no-form-requires
-no-form-requires c κs = search needs
+read-bytes-requires : tie.Need-read-bytes-requires
+read-bytes-requires c κs = search needs
 
 returns : tie.Need-returns
-unfolding reading
-returns c = rw (sym (c .before .before .before .after-opening .ensures) ∙ c .before .enum-told .given .1) (c .no-form .ensures)
-
-slice-aggregate-after-word : tie.Need-slice-aggregate-after-word
-slice-aggregate-after-word c = search needs
-
-after-word-requires : tie.Need-after-word-requires
-after-word-requires c κs = search needs
-
-enum-known-b : tie.Need-enum-known-b
-enum-known-b c = search needs
-
-read-opening-requires : tie.Need-read-opening-requires
-read-opening-requires c κs = search needs
-
-returns-2 : tie.Need-returns-2
-unfolding reading
-returns-2 c =
-    rw (sym (c .before .before .before .before .before .before .before .before .before .after-opening .ensures) ∙ c .before .before .before .before .before .before .before .a .given .1, sym (c .before .before .before .before .after-word .ensures) ∙ c .before .before .b .given .1) (c .read-opening .ensures)
-
-enum-told-2 : tie.Need-enum-told-2
-enum-told-2 c = search needs
-
-read-event-requires : tie.Need-read-event-requires
-read-event-requires c κs = search needs
-
-no-setup-requires : tie.Need-no-setup-requires
-no-setup-requires c κs = search needs
-
-returns-3 : tie.Need-returns-3
-unfolding reading
-returns-3 c =
-    rw (sym (c .before .before .before .before .before .before .before .before .before .after-opening .ensures) ∙ c .before .before .before .before .before .before .before .a .given .1, sym (c .before .before .before .before .after-word .ensures) ∙ c .before .before .enum-told2 .given .1, c .before .read-event .ensures, c .no-setup .ensures)
+returns c = (c .read-bytes .ensures, subst (Reads _) (sym (c .read-bytes .ensures)) (reading-reads _))
 
 pub read-line-spec : {M : Type 1} → statement M
-read-line-spec =
-    tie.close
-    (tie.spec
-    after-opening-requires
-    enum-known-a
-    enum-told
-    no-form-requires
-    returns
-    slice-aggregate-after-word
-    after-word-requires
-    enum-known-b
-    read-opening-requires
-    returns-2
-    enum-told-2
-    read-event-requires
-    no-setup-requires
-    returns-3)
+read-line-spec = tie.close (tie.spec read-bytes-requires returns)

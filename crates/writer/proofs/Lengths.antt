@@ -1,0 +1,48 @@
+-- How many bytes the forms have. Assumes nothing.
+use mathlib.Core.Path.{_≡_, refl}
+use Prim.Native.Nat.{ℕ, _+_, _<_}
+use native.Mathlib.Omega.{arith}
+use mathlib.Core.List.{List}
+use lib.ListN.{length, take, length-append}
+use Rattle.model.specs.declared.Plan.{Plan}
+use Rattle.model.specs.declared.Message.{Message}
+use Rattle.model.specs.declared.Event.the-variants.{Deliver, Sign, Show, Settle, Tick}
+use Rattle.model.specs.State.{viewIn, processorIn}
+use Rattle.lines.specs.Decimal.{decimal}
+use Rattle.lines.specs.Forms.{kindWord, messageForm, eventForm, furtherClocks, clocksForm, setupForm}
+use Rattle.writer.specs.Setups.{setupWith}
+use Rattle.writer.proofs.Clocks.{further-length, line-whole}
+
+pub message-bytes : (m : Message) (k v p a b : ℕ) → k ≡ length (kindWord m) → v ≡ viewIn m → a ≡ length (decimal v) → p ≡ processorIn m → b ≡ length (decimal p)
+    → k + a + b + 4 ≡ length (messageForm m)
+unfolding messageForm
+message-bytes m k v p a b hk hv ha hp hb = rw (hk, ha, hb, hv, hp) (simp length-append (omega arith))
+
+pub deliver-bytes : (m : Message) (k : ℕ) → k ≡ length (messageForm m) → 10 + k ≡ length (eventForm (Deliver m))
+unfolding eventForm
+deliver-bytes m k h = simp length-append (omega arith)
+
+pub sign-bytes : (m : Message) (k : ℕ) → k ≡ length (messageForm m) → 7 + k ≡ length (eventForm (Sign m))
+unfolding eventForm
+sign-bytes m k h = simp length-append (omega arith)
+
+pub show-bytes : (m : Message) (k : ℕ) → k ≡ length (messageForm m) → 7 + k ≡ length (eventForm (Show m))
+unfolding eventForm
+show-bytes m k h = simp length-append (omega arith)
+
+pub settle-bytes : 8 ≡ length (eventForm Settle)
+unfolding eventForm
+settle-bytes = refl
+
+pub tick-bytes : (n k : ℕ) → k ≡ length (decimal n) → 7 + k ≡ length (eventForm (Tick n))
+unfolding eventForm
+tick-bytes n k h = simp length-append (omega arith)
+
+pub setup-bytes : (plan : Plan) (faulty : ℕ) (cs : List ℕ) (k n delta gamma views set : ℕ) → 0 < plan .n → length cs ≡ plan .n → k ≡ length (furtherClocks cs)
+    → n ≡ length (decimal (plan .n)) → delta ≡ length (decimal (plan .delta)) → gamma ≡ length (decimal (plan .gamma)) → views ≡ length (decimal (plan .views))
+    → set ≡ length (decimal faulty) → 13 + k + n + delta + gamma + views + set ≡ length (setupForm (setupWith plan faulty cs))
+unfolding setupForm
+setup-bytes plan faulty cs k n delta gamma views set p l hk hn hd hg hv hs =
+    let t : take (plan .n) cs ≡ cs = line-whole (plan .n) cs l in
+    let f : length (furtherClocks cs) ≡ 1 + length (clocksForm cs) = further-length cs (omega arith) in
+    simp length-append (rw t (omega arith))

@@ -1,0 +1,6 @@
+-- Laws behind the proofs of the functions.
+pub mod Stamping
+pub mod Digits
+pub mod Lengths
+pub mod Answers
+pub mod Clocks

@@ -1,0 +1,3 @@
+-- What the writer's clauses cite.
+pub mod Stamps
+pub mod Setups

@@ -1,0 +1,64 @@
+// Writing one line of a schedule into lent bytes: the form of an event or of a setup, and a newline.
+mod events;
+mod pieces;
+mod setups;
+
+use lines::Written;
+use model::Event;
+use model::Plan;
+use model::Setup;
+ghost use mathlib.Core.Path.{_≡_};
+ghost use mathlib.Core.Bool.{false};
+ghost use Prim.Native.Nat.{_≤_, _<_};
+ghost use lib.ListN.{length};
+ghost use Rattle.model.specs.Quantities.{nMost};
+ghost use Rattle.model.specs.Checks.{lacksForm};
+ghost use Rattle.lines.specs.Forms.{eventForm, setupForm, lacksSetupForm};
+ghost use Rattle.lines.specs.Contracts.{Writes};
+ghost use Rattle.writer.specs.Setups.{setupWith};
+
+// The line of an event.
+pub fn write_event(event: Event, out: &mut [u8]) -> Written
+    ensures { λ r. ⌜ Writes (lacksForm event) (eventForm event) (now (out .entry)) r (now (out .exit)) ⌝ }
+{
+    if event.lacks_form() {
+        return Written::Refused(1);
+    }
+    let length = events::event_length(event) + 1;
+    if out.len() < length {
+        return Written::Refused(1);
+    }
+    let end = events::put_event(out, event);
+    pieces::put_byte(out, end, b'\n');
+    Written::Bytes(length)
+}
+
+// The line of a setup that has a form, of which the clocks that are lent are those of the line.
+fn write_formed(plan: Plan, faulty: u64, clocks: &[u64], out: &mut [u8]) -> Written
+    requires { ⌜ (0 < plan .n) × (plan .n ≤ nMost) × (length (now clocks) ≡ plan .n) ⌝ }
+    ensures { λ r. ⌜ Writes false (setupForm (setupWith plan faulty (now (clocks .entry)))) (now (out .entry)) r (now (out .exit)) ⌝ }
+{
+    let bytes = setups::setup_length(plan, faulty, clocks) + 1;
+    if out.len() < bytes {
+        return Written::Refused(1);
+    }
+    let end = setups::put_setup(out, plan, faulty, clocks);
+    pieces::put_byte(out, end, b'\n');
+    Written::Bytes(bytes)
+}
+
+// The line of a setup.
+pub fn write_setup(setup: Setup, out: &mut [u8]) -> Written
+    ensures { λ r. ⌜ Writes (lacksSetupForm setup) (setupForm setup) (now (out .entry)) r (now (out .exit)) ⌝ }
+{
+    let plan = setup.plan;
+    if plan.n == 0 {
+        return Written::Refused(1);
+    }
+    if Plan::N_MOST < plan.n {
+        return Written::Refused(1);
+    }
+    let table = setup.clocks;
+    let n = plan.n as usize;
+    write_formed(plan, setup.faulty, &table[..n], out)
+}

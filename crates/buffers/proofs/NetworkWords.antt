@@ -6,9 +6,10 @@ use native.Mathlib.Omega.{arith}
 use native.Mathlib.Numerals.{add-one}
 use lib.ListN.{length, getD, take, drop, set, length-drop, List·getD-eq-default}
 use lib.Seq.{take-add, drop-at, length-take-le, drop-drop, slice, paste, paste-suc, paste-zero, length-paste-head, getD-append-add, getD-drop, sets-eq, take-paste, drop-paste}
-use Rattle.model.specs.declared.Message.{Message}
-use Rattle.model.specs.Quantities.{messageWords}
-use Rattle.model.specs.State.{kindOf, viewIn, processorIn, sentAt, posted, removed}
+use Rattle.types.specs.declared.Message.{Message}
+use Rattle.types.specs.Quantities.{messageWords}
+use Rattle.types.specs.Messages.{kindOf, viewIn, processorIn}
+use Rattle.model.specs.State.{sentAt, posted, removed}
 use Rattle.buffers.specs.Network.{moved}
 
 -- four stores in a row

@@ -8,9 +8,10 @@ use lib.Dec.{T, eqb, ltb, eqb→eq}
 use borrow.Author.Tests.{lt-ltb}
 use Rattle.base.specs.Choice.{or-second}
 use Rattle.base.specs.Tests.{by-cond}
-use Rattle.model.specs.declared.Message.{Message}
-use Rattle.model.specs.declared.Message.the-variants.{View, Vote, Vc, Qc}
-use Rattle.model.specs.State.{kindOf, viewIn, processorIn, kindLeast, kindMost, kindAt, viewAt, processorAt, capacity}
+use Rattle.types.specs.declared.Message.{Message}
+use Rattle.types.specs.declared.Message.the-variants.{View, Vote, Vc, Qc}
+use Rattle.types.specs.Messages.{kindOf, viewIn, processorIn, kindLeast, kindMost}
+use Rattle.model.specs.State.{kindAt, viewAt, processorAt, capacity}
 use Rattle.buffers.specs.declared.Stored.{Stored}
 use Rattle.buffers.specs.declared.Stored.the-variants.{Holds, Unknown}
 use Rattle.buffers.specs.Kinds.{storedAs, stored}

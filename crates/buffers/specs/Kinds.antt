@@ -3,7 +3,7 @@ use mathlib.Core.Bool.{cond}
 use mathlib.Core.List.{List}
 use Prim.Native.Nat.{ℕ}
 use lib.Dec.{eqb, ltb}
-use Rattle.model.specs.declared.Message.the-variants.{View, Vote, Vc, Qc}
+use Rattle.types.specs.declared.Message.the-variants.{View, Vote, Vc, Qc}
 use Rattle.model.specs.State.{kindAt, viewAt, processorAt, capacity}
 use Rattle.buffers.specs.declared.Stored.{Stored}
 use Rattle.buffers.specs.declared.Stored.the-variants.{Holds, Unknown}

@@ -9,8 +9,8 @@ use lib.Seq.{paste}
 use borrow.Author.Tests.{lt-ltb, le-leb}
 use Rattle.base.specs.Choice.{cond-yes, and-both}
 use Rattle.base.specs.Scan.{first}
-use Rattle.model.specs.declared.Message.{Message}
-use Rattle.model.specs.Quantities.{messageWords}
+use Rattle.types.specs.declared.Message.{Message}
+use Rattle.types.specs.Quantities.{messageWords}
 use Rattle.model.specs.State.{capacity, posted, removed}
 use Rattle.model.specs.Checks.{isAt}
 

@@ -5,9 +5,10 @@ use Prim.Native.Nat.{ℕ, _+_, _*_, _≤_}
 use native.Mathlib.Omega.{arith}
 use lib.ListN.{length, take, drop, length-append, length-drop, take-append-drop}
 use lib.Seq.{take-at, drop-at, drop-drop, length-take-le}
-use Rattle.model.specs.declared.Message.{Message}
-use Rattle.model.specs.Quantities.{messageWords}
-use Rattle.model.specs.State.{kindOf, viewIn, processorIn, wordsOf, posted, capacity}
+use Rattle.types.specs.declared.Message.{Message}
+use Rattle.types.specs.Quantities.{messageWords}
+use Rattle.types.specs.Messages.{kindOf, viewIn, processorIn}
+use Rattle.model.specs.State.{wordsOf, posted, capacity}
 
 pub length-wordsOf : (now : ℕ) (ms : List Message) → length (wordsOf now ms) ≡ messageWords * length ms
 length-wordsOf now [] = refl

@@ -1,12 +1,12 @@
 // The two lent buffers: the tally, four 64-bit words a view, and the network, four words a message.
-use model::Message;
+use types::Message;
 ghost use mathlib.Core.Path.{_≡_};
 ghost use mathlib.Core.List.{[], _∷_, _++_};
 ghost use Prim.Native.Nat.{_+_, _*_, _<_, _≤_};
 ghost use lib.ListN.{length, take, drop};
 ghost use Rattle.base.specs.Scan.{first};
 ghost use Rattle.base.specs.Sets.{member};
-ghost use Rattle.model.specs.Quantities.{messageWords};
+ghost use Rattle.types.specs.Quantities.{messageWords};
 ghost use Rattle.model.specs.State.{capacity, word, added, enteredWord, heardWord, marksWord, markBit, posted, removed, sentAt};
 ghost use Rattle.model.specs.Checks.{isAt};
 ghost use Rattle.buffers.specs.Tally.{place, addedWord};

@@ -5,11 +5,12 @@ use mathlib.Core.List.{List}
 use Prim.Native.Nat.{ℕ, _<_}
 use lib.Dec.{ltb}
 use Rattle.base.specs.Scan.{some}
-use Rattle.model.specs.declared.Plan.{Plan}
-use Rattle.model.specs.declared.Message.{Message}
-use Rattle.model.specs.declared.Run.{Run}
-use Rattle.model.specs.Quantities.{correct}
-use Rattle.model.specs.State.{stateOf, kindOf, viewIn, processorIn, kindLeast, kindMost, kindAt, viewAt, processorAt, sentAt, addressee, capacity}
+use Rattle.types.specs.declared.Plan.{Plan}
+use Rattle.types.specs.declared.Message.{Message}
+use Rattle.types.specs.declared.Run.{Run}
+use Rattle.types.specs.Quantities.{correct}
+use Rattle.types.specs.Messages.{kindOf, viewIn, processorIn, kindLeast, kindMost, addressee}
+use Rattle.model.specs.State.{stateOf, kindAt, viewAt, processorAt, sentAt, capacity}
 use Rattle.model.specs.Checks.{noView, noProcessor, messageUnsound}
 use Rattle.buffers.specs.declared.Stored.the-variants.{Holds, Unknown}
 use Rattle.buffers.specs.Kinds.{stored}

@@ -8,9 +8,9 @@ use lib.Dec.{leb}
 use borrow.Author.Tests.{le-leb, lt-leb}
 use Rattle.base.specs.Choice.{or-parts}
 use Rattle.base.specs.Scan.{some}
-use Rattle.model.specs.declared.Plan.{Plan}
-use Rattle.model.specs.Quantities.{endTime}
-use Rattle.model.specs.PlanFunctions.{clockTimeWord}
+use Rattle.types.specs.declared.Plan.{Plan}
+use Rattle.types.specs.Quantities.{endTime}
+use Rattle.types.specs.PlanFunctions.{clockTimeWord}
 use Rattle.model.specs.State.{State}
 use Rattle.model.specs.Checks.{planOutside, faultyOutside, buffersOutside}
 use Rattle.model.specs.Checks.{limitsBroken, clocksUnsound, timeUnsound, heldTooMany, messageUnsound, settlingUnsound, tailNotZero, unsound}

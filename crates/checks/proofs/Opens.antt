@@ -9,8 +9,8 @@ use lib.ListN.{length}
 use borrow.Author.Tests.{eq-eqb, ne-eqb, eqb-true}
 use Rattle.base.specs.Tests.{T-left, T-right}
 use Rattle.base.specs.Choice.{cond-no}
-use Rattle.model.specs.declared.Plan.{Plan}
-use Rattle.model.specs.declared.Setup.{Setup}
+use Rattle.types.specs.declared.Plan.{Plan}
+use Rattle.types.specs.declared.Setup.{Setup}
 use Rattle.model.specs.State.{State, After, refused}
 use Rattle.model.specs.Checks.{Check, judged, nOutside, delaysOutside, viewsOutside, planOutside, faultyOutside, lengthsOutside, startTooHigh, tooFarAhead}
 use Rattle.model.specs.Opening.{openingChecks}

@@ -4,12 +4,13 @@ use mathlib.Core.List.{List, []}
 use Prim.Native.Nat.{ℕ, _+_}
 use lib.Dec.{leb, ltb}
 use lib.ListN.{getD}
-use Rattle.model.specs.declared.Plan.{Plan}
-use Rattle.model.specs.declared.Message.{Message}
-use Rattle.model.specs.declared.Setup.{Setup}
-use Rattle.model.specs.declared.Run.{Run}
-use Rattle.model.specs.Quantities.{tolerated, startLimit, correct}
-use Rattle.model.specs.State.{State, stateOf, runOf, clockOf, viewOf, isCorrect, kindOf, viewIn, processorIn, addressee}
+use Rattle.types.specs.declared.Plan.{Plan}
+use Rattle.types.specs.declared.Message.{Message}
+use Rattle.types.specs.declared.Setup.{Setup}
+use Rattle.types.specs.declared.Run.{Run}
+use Rattle.types.specs.Quantities.{tolerated, startLimit, correct}
+use Rattle.types.specs.Messages.{kindOf, viewIn, processorIn, addressee}
+use Rattle.model.specs.State.{State, stateOf, runOf, clockOf, viewOf, isCorrect}
 use Rattle.model.specs.Checks.{noView, noProcessor, clockOutside, supporting}
 
 -- 7: q is correct and its start clock 3Γ or more

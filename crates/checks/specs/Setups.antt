@@ -1,6 +1,6 @@
 -- The answer of checks 2 to 8 to a setup and the lengths of the lent buffers.
 use Prim.Native.Nat.{ℕ}
-use Rattle.model.specs.declared.Setup.{Setup}
+use Rattle.types.specs.declared.Setup.{Setup}
 use Rattle.model.specs.Checks.{judged}
 use Rattle.model.specs.Opening.{setupChecks}
 

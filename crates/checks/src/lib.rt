@@ -1,10 +1,10 @@
 // Check 9 on whatever is handed in, and checks 2 to 8 of an opening.
 use buffers::Stored;
-use model::Message;
-use model::Plan;
-use model::Processor;
-use model::Run;
-use model::Setup;
+use types::Message;
+use types::Plan;
+use types::Processor;
+use types::Run;
+use types::Setup;
 ghost use mathlib.Core.Path.{_≡_};
 ghost use mathlib.Core.Bool.{false, not, _&&_, _||_};
 ghost use Prim.Native.Nat.{_+_, _^_, _≤_, _<_};
@@ -12,7 +12,7 @@ ghost use lib.Dec.{eqb, leb, ltb};
 ghost use lib.ListN.{drop};
 ghost use Rattle.base.specs.Count.{bit};
 ghost use Rattle.base.specs.Scan.{some};
-ghost use Rattle.model.specs.Quantities.{correct, startLimit};
+ghost use Rattle.types.specs.Quantities.{correct, startLimit};
 ghost use Rattle.model.specs.State.{stateOf, capacity};
 ghost use Rattle.model.specs.Checks.{planOutside, faultyOutside, lengthsOutside, clockOutside, messageUnsound, someNonZero, unsound, startTooHigh, supporting, tooFarAhead};
 ghost use Rattle.pacemaker.specs.Limits.{Within};

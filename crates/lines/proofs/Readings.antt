@@ -4,8 +4,8 @@ use mathlib.Core.Logic.{inl, inr, ⊎-elim}
 use Prim.Native.Nat.{ℕ}
 use native.Mathlib.Omega.{arith}
 use mathlib.Core.List.{List}
-use Rattle.model.specs.declared.Event.{Event}
-use Rattle.model.specs.declared.Setup.{Setup}
+use Rattle.types.specs.declared.Event.{Event}
+use Rattle.types.specs.declared.Setup.{Setup}
 use Rattle.lines.specs.declared.Read.{Read}
 use Rattle.lines.specs.declared.Read.the-variants as Read
 use Rattle.lines.specs.declared.Reading.{Reading}

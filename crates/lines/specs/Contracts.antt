@@ -5,9 +5,9 @@ use mathlib.Core.Bool.{Bool, _||_, cond}
 use mathlib.Core.List.{List, [], _∷_, _++_}
 use lib.ListN.{length, drop, replicate}
 use lib.Dec.{ltb}
-use Rattle.model.specs.declared.Event.{Event}
-use Rattle.model.specs.declared.Setup.{Setup}
-use Rattle.model.specs.Quantities.{tableClocks}
+use Rattle.types.specs.declared.Event.{Event}
+use Rattle.types.specs.declared.Setup.{Setup}
+use Rattle.types.specs.Quantities.{tableClocks}
 use Rattle.lines.specs.declared.Read.{Read}
 use Rattle.lines.specs.declared.Read.the-variants as Read
 use Rattle.lines.specs.declared.Reading.{Reading}

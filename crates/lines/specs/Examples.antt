@@ -4,11 +4,11 @@ use mathlib.Core.Bool.{Bool, true, false}
 use mathlib.Core.List.{List, [], _∷_, _++_, map}
 use Prim.Native.Nat.{ℕ}
 use lib.ListN.{replicate}
-use Rattle.model.specs.declared.Message.the-variants.{View, Vote, Vc, Qc}
-use Rattle.model.specs.declared.Event.the-variants.{Deliver, Sign, Show, Settle, Tick}
+use Rattle.types.specs.declared.Message.the-variants.{View, Vote, Vc, Qc}
+use Rattle.types.specs.declared.Event.the-variants.{Deliver, Sign, Show, Settle, Tick}
 use Rattle.model.specs.Rows.{planOf, standard, setupOf}
 use Rattle.lines.specs.declared.Reading.{Reading}
-use Rattle.model.specs.declared.Setup.{Setup}
+use Rattle.types.specs.declared.Setup.{Setup}
 use Rattle.lines.specs.declared.Written.{Written}
 use Rattle.lines.specs.declared.Written.the-variants.{Bytes, Refused}
 use Rattle.lines.specs.declared.Read.the-variants as Read

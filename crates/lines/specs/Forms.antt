@@ -5,15 +5,14 @@ use mathlib.Core.Bool.{Bool, false, _||_}
 use mathlib.Core.List.{List, [], _∷_, _++_}
 use lib.ListN.{length, take, replicate}
 use lib.Dec.{eqb, ltb}
-use Rattle.model.specs.declared.Message.{Message}
-use Rattle.model.specs.declared.Message.the-variants.{View, Vote, Vc, Qc}
-use Rattle.model.specs.declared.Event.{Event}
-use Rattle.model.specs.declared.Event.the-variants.{Deliver, Sign, Show, Settle, Tick}
-use Rattle.model.specs.declared.Plan.{Plan}
-use Rattle.model.specs.declared.Setup.{Setup}
-use Rattle.model.specs.Quantities.{nMost, tableClocks}
-use Rattle.model.specs.State.{viewIn, processorIn}
-use Rattle.model.specs.Checks.{lacksForm}
+use Rattle.types.specs.declared.Message.{Message}
+use Rattle.types.specs.declared.Message.the-variants.{View, Vote, Vc, Qc}
+use Rattle.types.specs.declared.Event.{Event}
+use Rattle.types.specs.declared.Event.the-variants.{Deliver, Sign, Show, Settle, Tick}
+use Rattle.types.specs.declared.Plan.{Plan}
+use Rattle.types.specs.declared.Setup.{Setup}
+use Rattle.types.specs.Quantities.{nMost, tableClocks}
+use Rattle.types.specs.Messages.{viewIn, processorIn, lacksForm}
 use Rattle.lines.specs.Decimal.{decimal, fieldLimit}
 
 -- ---- the fixed bytes

@@ -1,6 +1,6 @@
 // What lines of a schedule are, and where the next one ends.
-use model::Event;
-use model::Setup;
+use types::Event;
+use types::Setup;
 ghost use mathlib.Core.Path.{_≡_};
 ghost use Rattle.lines.specs.Splitting.{beforeNewline, nextLine};
 

@@ -17,10 +17,10 @@ use Rattle.protocol.specs.Params.{Params}
 use Rattle.protocol.specs.State.{Processors, Tally, onward}
 use Rattle.protocol.specs.Moves.{Reason, Enter}
 use Rattle.protocol.specs.EnterKeeps.{ready-up}
-use Rattle.model.specs.declared.Plan.{Plan}
-use Rattle.model.specs.declared.Message.{Message}
-use Rattle.model.specs.declared.Run.{Run}
-use Rattle.model.specs.Quantities.{lead, nextInitial, clockTime, endTime}
+use Rattle.types.specs.declared.Plan.{Plan}
+use Rattle.types.specs.declared.Message.{Message}
+use Rattle.types.specs.declared.Run.{Run}
+use Rattle.types.specs.Quantities.{lead, nextInitial, clockTime, endTime}
 use Rattle.model.specs.State.{clockOf, viewOf, isCorrect, enteredWord, heardWord, marksWord, markBit, slot, added}
 use Rattle.model.specs.Moves.{toCorrect, entryClock, entryMessages, certificate}
 use Rattle.liveness.proofs.TallyLaws.{heard-low, length-added, added-other, added-member, added-below}

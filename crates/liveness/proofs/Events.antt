@@ -16,12 +16,12 @@ use Rattle.base.specs.SetLaws.{size-count}
 use Rattle.protocol.specs.Params as proto
 use Rattle.protocol.specs.Params.{Params}
 use Rattle.protocol.specs.State.{Exists}
-use Rattle.model.specs.declared.Plan.{Plan}
-use Rattle.model.specs.declared.Message.{Message}
-use Rattle.model.specs.declared.Message.the-variants.{View, Vote, Vc, Qc}
-use Rattle.model.specs.declared.Event.{Event}
-use Rattle.model.specs.declared.Event.the-variants.{Deliver, Sign, Show, Settle, Tick}
-use Rattle.model.specs.Quantities.{lead, initial}
+use Rattle.types.specs.declared.Plan.{Plan}
+use Rattle.types.specs.declared.Message.{Message}
+use Rattle.types.specs.declared.Message.the-variants.{View, Vote, Vc, Qc}
+use Rattle.types.specs.declared.Event.{Event}
+use Rattle.types.specs.declared.Event.the-variants.{Deliver, Sign, Show, Settle, Tick}
+use Rattle.types.specs.Quantities.{lead, initial}
 use Rattle.model.specs.State.{State, removed, After, isCorrect, enteredWord, word, checkOf, refused}
 use Rattle.model.specs.Moves.{Change, still, needed, certificate, hearing, handling, made}
 use Rattle.model.specs.Checks.{isAt, placeOf, notHeld, exists, reachesEnd, overfull}

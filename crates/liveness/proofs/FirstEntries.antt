@@ -14,12 +14,12 @@ use Rattle.base.specs.Members.{Elem, elem-left, elem-right, elem-cases}
 use Rattle.base.specs.Tests.{T-left, T-right, or-left, or-right, or-cases, le?, eq→eqb, by-cond}
 use Rattle.base.specs.Sets.{member}
 use Rattle.base.specs.SetLaws.{member-none}
-use Rattle.model.specs.declared.Plan.{Plan}
-use Rattle.model.specs.declared.Message.{Message}
-use Rattle.model.specs.declared.Message.the-variants.{View, Vote}
-use Rattle.model.specs.declared.Run.{Run}
-use Rattle.model.specs.declared.Setup.{Setup}
-use Rattle.model.specs.Quantities.{tableClocks, rowWords, perLeader, lead, initial, correct}
+use Rattle.types.specs.declared.Plan.{Plan}
+use Rattle.types.specs.declared.Message.{Message}
+use Rattle.types.specs.declared.Message.the-variants.{View, Vote}
+use Rattle.types.specs.declared.Run.{Run}
+use Rattle.types.specs.declared.Setup.{Setup}
+use Rattle.types.specs.Quantities.{tableClocks, rowWords, perLeader, lead, initial, correct}
 use Rattle.model.specs.State.{clockOf, isCorrect, enteredWord, slot, word, added}
 use Rattle.model.specs.Moves.{Change, changed, still, also, Entry, stay, into, toCorrect, entryClock, entryMessages, entering, taking, entries}
 use Rattle.model.specs.Opening.{startClocks, blankRun, firstEntry}

@@ -10,10 +10,11 @@ use lib.ListN.{length, take, drop, replicate, length-append, length-replicate}
 use lib.Seq.{take-at, drop-at, drop-drop}
 use Rattle.base.specs.Members.{Elem}
 use Rattle.base.specs.Tests.{T-left, T-right}
-use Rattle.model.specs.declared.Message.{Message}
-use Rattle.model.specs.declared.Message.the-variants.{View, Vote, Vc, Qc}
-use Rattle.model.specs.State.{kindOf, viewIn, processorIn, kindAt, viewAt, processorAt, sentAt, wordsOf, posted, removed}
-use Rattle.model.specs.Quantities.{messageWords}
+use Rattle.types.specs.declared.Message.{Message}
+use Rattle.types.specs.declared.Message.the-variants.{View, Vote, Vc, Qc}
+use Rattle.types.specs.Messages.{kindOf, viewIn, processorIn}
+use Rattle.model.specs.State.{kindAt, viewAt, processorAt, sentAt, wordsOf, posted, removed}
+use Rattle.types.specs.Quantities.{messageWords}
 use Rattle.model.specs.Checks.{isAt}
 
 -- a message in flight, and when it was sent

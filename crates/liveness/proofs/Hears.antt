@@ -16,10 +16,10 @@ use Rattle.protocol.specs.Params as proto
 use Rattle.protocol.specs.Params.{Params}
 use Rattle.protocol.specs.State.{Processors, Tally, Enough, Allowed}
 use Rattle.protocol.specs.Moves.{Hear}
-use Rattle.model.specs.declared.Plan.{Plan}
-use Rattle.model.specs.declared.Message.{Message}
-use Rattle.model.specs.declared.Run.{Run}
-use Rattle.model.specs.Quantities.{lead}
+use Rattle.types.specs.declared.Plan.{Plan}
+use Rattle.types.specs.declared.Message.{Message}
+use Rattle.types.specs.declared.Run.{Run}
+use Rattle.types.specs.Quantities.{lead}
 use Rattle.model.specs.State.{viewOf, isCorrect, enteredWord, heardWord, marksWord, markBit, slot, word, added}
 use Rattle.model.specs.Moves.{toCorrect, needed, forms, ripe, certificate, toEach}
 use Rattle.liveness.proofs.TallyLaws.{heard-low, length-added, added-same, added-other, added-member, added-below}

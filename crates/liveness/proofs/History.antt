@@ -6,10 +6,10 @@ use Prim.Native.Nat.{_≤_, _<_, ℕ, zero, suc, _+_, _-_}
 use native.Mathlib.Omega.{arith}
 use lib.Dec.{eqb, eqb→eq}
 use Rattle.base.specs.Tests.{by-cond}
-use Rattle.model.specs.declared.Event.{Event}
-use Rattle.model.specs.declared.Event.the-variants.{Deliver, Sign, Show, Settle, Tick}
-use Rattle.model.specs.declared.Answer.{Answer}
-use Rattle.model.specs.declared.Answer.the-variants.{Done, Stopped, Refused}
+use Rattle.types.specs.declared.Event.{Event}
+use Rattle.types.specs.declared.Event.the-variants.{Deliver, Sign, Show, Settle, Tick}
+use Rattle.types.specs.declared.Answer.{Answer}
+use Rattle.types.specs.declared.Answer.the-variants.{Done, Stopped, Refused}
 use Rattle.model.specs.State.{State, After, checkOf, ticksOf, refused}
 use Rattle.model.specs.Moves.{made}
 use Rattle.model.specs.Events.{without, nowSettled, tickChecks, tickOnce, Ticks, continued, ticks, ticksAnswer, tickRun, checks, effect, applied}

@@ -8,8 +8,8 @@ use native.Mathlib.Omega.{arith}
 use lib.Dec.{T, leb, ltb, le→leb, lt→ltb}
 use Rattle.base.specs.ScanLaws.{first-le}
 use Rattle.base.specs.Tests.{eq?, eq→eqb, or-left, or-right, or-cases, le?, by-cond}
-use Rattle.model.specs.declared.Plan.{Plan}
-use Rattle.model.specs.declared.Message.{Message}
+use Rattle.types.specs.declared.Plan.{Plan}
+use Rattle.types.specs.declared.Message.{Message}
 use Rattle.model.specs.State.{State}
 use Rattle.model.specs.Checks.{Check, judged, namedOutside, isAt, placeOf, notHeld}
 

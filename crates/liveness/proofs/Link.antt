@@ -15,9 +15,9 @@ use Rattle.base.specs.SetLaws.{size-count}
 use Rattle.protocol.specs.Params as proto
 use Rattle.protocol.specs.Params.{Params}
 use Rattle.protocol.specs.State.{Processors, Tally, Flight, Starts}
-use Rattle.model.specs.declared.Plan.{Plan}
-use Rattle.model.specs.declared.Message.{Message}
-use Rattle.model.specs.Quantities.{deltaLeast, gammaLeast, nLeast, nMost, viewsLeast, rowWords, messageWords, tolerated, perLeader, lead, initial, nextInitial, clockTime, endTime, correct}
+use Rattle.types.specs.declared.Plan.{Plan}
+use Rattle.types.specs.declared.Message.{Message}
+use Rattle.types.specs.Quantities.{deltaLeast, gammaLeast, nLeast, nMost, viewsLeast, rowWords, messageWords, tolerated, perLeader, lead, initial, nextInitial, clockTime, endTime, correct}
 use Rattle.model.specs.State.{enteredWord, heardWord, marksWord, markBit, word, posted, removed, capacity}
 use Rattle.model.specs.Moves.{certificate}
 use Rattle.liveness.proofs.Flight.{sentAs, Sent, In, laid, stamped, length-laid, length-stamped, posted-laid, removed-laid, Found}

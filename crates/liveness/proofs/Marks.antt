@@ -11,13 +11,14 @@ use Rattle.base.specs.Tests.{passes?, T-left, T-right, T-and, T-iff, or-left, o
 use Rattle.base.specs.ScanLaws.{first-at}
 use Rattle.base.specs.Sets.{member, insert, size}
 use Rattle.base.specs.SetLaws.{member-insert}
-use Rattle.model.specs.declared.Message.{Message}
-use Rattle.model.specs.declared.Message.the-variants.{View, Vote, Vc, Qc}
-use Rattle.model.specs.declared.Event.{Event}
-use Rattle.model.specs.declared.Event.the-variants.{Deliver, Sign, Show, Settle, Tick}
-use Rattle.model.specs.declared.Run.{Run}
-use Rattle.model.specs.Quantities.{rowWords, lead}
-use Rattle.model.specs.State.{State, After, voteStage, isCorrect, viewOf, enteredWord, heardWord, marksWord, markBit, slot, word, added, kindOf, viewIn, processorIn, addressee, kindAt, viewAt, processorAt, sentAt, checkOf, accepted, refused}
+use Rattle.types.specs.declared.Message.{Message}
+use Rattle.types.specs.declared.Message.the-variants.{View, Vote, Vc, Qc}
+use Rattle.types.specs.declared.Event.{Event}
+use Rattle.types.specs.declared.Event.the-variants.{Deliver, Sign, Show, Settle, Tick}
+use Rattle.types.specs.declared.Run.{Run}
+use Rattle.types.specs.Quantities.{rowWords, lead}
+use Rattle.types.specs.Messages.{voteStage, kindOf, viewIn, processorIn, addressee}
+use Rattle.model.specs.State.{State, After, isCorrect, viewOf, enteredWord, heardWord, marksWord, markBit, slot, word, added, kindAt, viewAt, processorAt, sentAt, checkOf, accepted, refused}
 use Rattle.model.specs.Moves.{Change, changed, still, Entry, stay, into, byView, byQuorum, needed, forms, ripe, entering, taking, entries, hearing, handling, advanced, arrival, arrivals, made}
 use Rattle.model.specs.Checks.{isAt, placeOf, notHeld, limitsBroken, messageUnsound, unsound}
 use Rattle.model.specs.Events.{without, delivering, signing, nowSettled, tickChecks, tickOnce, continued, ticks, tickRun, checks, effect, applied}

@@ -15,10 +15,10 @@ use Rattle.protocol.specs.Params as proto
 use Rattle.protocol.specs.Params.{Params}
 use Rattle.protocol.specs.State.{Processors, Tally, nearby}
 use Rattle.protocol.specs.Opening.{Open, open-holds}
-use Rattle.model.specs.declared.Plan.{Plan}
-use Rattle.model.specs.declared.Run.{Run}
-use Rattle.model.specs.declared.Setup.{Setup}
-use Rattle.model.specs.Quantities.{nLeast, nMost, deltaLeast, deltaMost, gammaLeast, gammaMost, viewsLeast, viewsMost, networkLeast, networkMost, tableClocks, rowWords, perLeader, tolerated, lead, initial, nextInitial, startLimit, correct}
+use Rattle.types.specs.declared.Plan.{Plan}
+use Rattle.types.specs.declared.Run.{Run}
+use Rattle.types.specs.declared.Setup.{Setup}
+use Rattle.types.specs.Quantities.{nLeast, nMost, deltaLeast, deltaMost, gammaLeast, gammaMost, viewsLeast, viewsMost, networkLeast, networkMost, tableClocks, rowWords, perLeader, tolerated, lead, initial, nextInitial, startLimit, correct}
 use Rattle.model.specs.State.{State, capacity, enteredWord, heardWord, marksWord, markBit, word}
 use Rattle.model.specs.Moves.{Change, entries, certificate, made}
 use Rattle.model.specs.Checks.{supporting, startTooHigh, tooFarAhead, nOutside, delaysOutside, viewsOutside, faultyOutside, planOutside}

@@ -23,11 +23,11 @@ use Rattle.protocol.specs.Quorum.{some-correct}
 use Rattle.protocol.specs.Runs.{steps-kept, steps-flag, steps-view-up, steps-clock-up}
 use Rattle.protocol.specs.Runs as runs
 use Rattle.protocol.specs.End.{settle-holds, Reached, reached}
-use Rattle.model.specs.declared.Plan.{Plan}
-use Rattle.model.specs.declared.Event.{Event}
-use Rattle.model.specs.declared.Event.the-variants.{Deliver, Sign, Show, Settle, Tick}
-use Rattle.model.specs.declared.Setup.{Setup}
-use Rattle.model.specs.Quantities.{perLeader, tolerated, lead, correct}
+use Rattle.types.specs.declared.Plan.{Plan}
+use Rattle.types.specs.declared.Event.{Event}
+use Rattle.types.specs.declared.Event.the-variants.{Deliver, Sign, Show, Settle, Tick}
+use Rattle.types.specs.declared.Setup.{Setup}
+use Rattle.types.specs.Quantities.{perLeader, tolerated, lead, correct}
 use Rattle.model.specs.State.{State, After, clockOf, viewOf, checkOf, accepted, refused, done}
 use Rattle.model.specs.Checks.{supporting, tooFarAhead, unsound}
 use Rattle.model.specs.Opening.{opened, openingChecks, opening}

@@ -15,10 +15,10 @@ use Rattle.protocol.specs.Params.{Params}
 use Rattle.protocol.specs.State.{onward, Exists}
 use Rattle.protocol.specs.Moves.{Reason, by-certificate}
 use Rattle.protocol.specs.Runs.{none, more, hears, enters, passes}
-use Rattle.model.specs.declared.Plan.{Plan}
-use Rattle.model.specs.declared.Message.{Message}
-use Rattle.model.specs.declared.Message.the-variants.{Vc, Qc}
-use Rattle.model.specs.Quantities.{lead, initial}
+use Rattle.types.specs.declared.Plan.{Plan}
+use Rattle.types.specs.declared.Message.{Message}
+use Rattle.types.specs.declared.Message.the-variants.{Vc, Qc}
+use Rattle.types.specs.Quantities.{lead, initial}
 use Rattle.model.specs.State.{State, withHeld, clockOf, viewOf, isCorrect, enteredWord}
 use Rattle.model.specs.Moves.{Change, still, entryClock, Entry, stay, into, certificate, entering, taking, hearing, handling, made}
 use Rattle.model.specs.Checks.{reachesEnd, overfull}

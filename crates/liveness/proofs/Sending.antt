@@ -8,12 +8,13 @@ use native.Mathlib.Omega.{arith}
 use lib.Dec.{T}
 use Rattle.base.specs.Members.{Elem, elem-left, elem-right, elem-cases}
 use Rattle.base.specs.Tests.{le?, by-cond}
-use Rattle.model.specs.declared.Plan.{Plan}
-use Rattle.model.specs.declared.Message.{Message}
-use Rattle.model.specs.declared.Message.the-variants.{View, Vote}
-use Rattle.model.specs.declared.Run.{Run}
-use Rattle.model.specs.Quantities.{lead, initial}
-use Rattle.model.specs.State.{isCorrect, kindOf, viewIn, processorIn, addressee}
+use Rattle.types.specs.declared.Plan.{Plan}
+use Rattle.types.specs.declared.Message.{Message}
+use Rattle.types.specs.declared.Message.the-variants.{View, Vote}
+use Rattle.types.specs.declared.Run.{Run}
+use Rattle.types.specs.Quantities.{lead, initial}
+use Rattle.types.specs.Messages.{kindOf, viewIn, processorIn, addressee}
+use Rattle.model.specs.State.{isCorrect}
 use Rattle.model.specs.Moves.{toCorrect, entryMessages, certificate, toEach}
 use Rattle.liveness.proofs.Flight.{sentAs, Sent, In, stamped}
 

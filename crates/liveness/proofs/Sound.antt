@@ -12,11 +12,12 @@ use Rattle.base.specs.Tests.{passes?, T-left, T-right, T-false, eq→eqb}
 use Rattle.protocol.specs.Params as proto
 use Rattle.protocol.specs.Params.{Params}
 use Rattle.protocol.specs.Quorum.{some-correct, exists-entered}
-use Rattle.model.specs.declared.Plan.{Plan}
-use Rattle.model.specs.declared.Message.{Message}
-use Rattle.model.specs.declared.Message.the-variants.{View, Vote, Vc, Qc}
-use Rattle.model.specs.Quantities.{messageWords, lead, nextInitial, clockTime, endTime, correct}
-use Rattle.model.specs.State.{State, clockOf, viewOf, isCorrect, kindOf, viewIn, processorIn, addressee, kindAt, viewAt, processorAt, sentAt}
+use Rattle.types.specs.declared.Plan.{Plan}
+use Rattle.types.specs.declared.Message.{Message}
+use Rattle.types.specs.declared.Message.the-variants.{View, Vote, Vc, Qc}
+use Rattle.types.specs.Quantities.{messageWords, lead, nextInitial, clockTime, endTime, correct}
+use Rattle.types.specs.Messages.{kindOf, viewIn, processorIn, addressee}
+use Rattle.model.specs.State.{State, clockOf, viewOf, isCorrect, kindAt, viewAt, processorAt, sentAt}
 use Rattle.model.specs.Moves.{certificate}
 use Rattle.model.specs.Checks.{clockOutside, messageUnsound, someNonZero, unsound}
 use Rattle.liveness.proofs.Flight.{In, laid-beyond, read-at}

@@ -6,8 +6,8 @@ use lib.ListN.{length}
 use Rattle.base.specs.Tests.{T-left, T-right, T-and}
 use Rattle.base.specs.Scan.{some}
 use Rattle.base.specs.ScanLaws.{some-by, some-gives}
-use Rattle.model.specs.declared.Plan.{Plan}
-use Rattle.model.specs.Quantities.{rowWords, networkLeast, networkMost}
+use Rattle.types.specs.declared.Plan.{Plan}
+use Rattle.types.specs.Quantities.{rowWords, networkLeast, networkMost}
 use Rattle.model.specs.State.{State, clockOf, viewOf, isCorrect}
 use Rattle.model.specs.Checks.{planOutside, faultyOutside, buffersOutside, limitsBroken, clockOutside, clocksUnsound, timeUnsound, heldTooMany, messageUnsound, settlingUnsound, tailNotZero, unsound}
 use Rattle.liveness.proofs.Link.{correct-below}

@@ -8,7 +8,7 @@ use lib.Dec.{T}
 use lib.ListN.{length, getD, set, length-set}
 use lib.Seq.{getD-set-same, getD-set-other, set-out}
 use Rattle.base.specs.Tests.{le?, eq?, by-cond}
-use Rattle.model.specs.declared.Run.{Run}
+use Rattle.types.specs.declared.Run.{Run}
 use Rattle.model.specs.State.{clockOf, isCorrect}
 use Rattle.model.specs.Moves.{changed, Entry, stay, into, entryClock, entering, taking, entries, clocksOn}
 use Rattle.liveness.proofs.Enters.{entry-max}

@@ -16,10 +16,10 @@ use Rattle.protocol.specs.State.{Processors}
 use Rattle.protocol.specs.Moves.{Reason, by-clock, Enter, Tick, clocked}
 use Rattle.protocol.specs.Runs.{st, Steps, none, more, enters, ticks-on}
 use Rattle.protocol.specs.RunKeeps.{steps-holds}
-use Rattle.model.specs.declared.Plan.{Plan}
-use Rattle.model.specs.declared.Message.{Message}
-use Rattle.model.specs.declared.Run.{Run}
-use Rattle.model.specs.Quantities.{initial, nextInitial, clockTime, endTime}
+use Rattle.types.specs.declared.Plan.{Plan}
+use Rattle.types.specs.declared.Message.{Message}
+use Rattle.types.specs.declared.Run.{Run}
+use Rattle.types.specs.Quantities.{initial, nextInitial, clockTime, endTime}
 use Rattle.model.specs.State.{State, clockOf, viewOf, isCorrect, sentAt, enteredWord}
 use Rattle.model.specs.Moves.{Change, changed, still, also, Entry, stay, into, byClock, entering, taking, entries, advanced, arrival, arrivals, made}
 use Rattle.model.specs.Checks.{overdueAt, overdue, reachesEnd, overfull}

@@ -11,8 +11,8 @@ use Rattle.protocol.specs.State.{Processors, Tally}
 use Rattle.protocol.specs.Base.{Base}
 use Rattle.protocol.specs.Runs.{St, st, Steps, none, steps-trans, steps-kept, steps-flag, steps-clock-up}
 use Rattle.protocol.specs.RunKeeps.{steps-holds}
-use Rattle.model.specs.declared.Plan.{Plan}
-use Rattle.model.specs.Quantities.{correct}
+use Rattle.types.specs.declared.Plan.{Plan}
+use Rattle.types.specs.Quantities.{correct}
 use Rattle.model.specs.State.{State, clockOf}
 use Rattle.model.specs.Checks.{planOutside, faultyOutside, lengthsOutside, limitsBroken}
 use Rattle.liveness.proofs.Flight.{Sent}

@@ -8,12 +8,12 @@ use lib.Dec.{T}
 use lib.ListN.{take}
 use Rattle.base.specs.Scan.{listed}
 use Rattle.base.specs.Sets.{size}
-use Rattle.model.specs.declared.Message.the-variants.{View, Vote, Vc, Qc}
-use Rattle.model.specs.declared.Event.{Event}
-use Rattle.model.specs.declared.Event.the-variants.{Deliver, Settle, Tick}
-use Rattle.model.specs.declared.Answer.{Answer}
-use Rattle.model.specs.declared.Setup.{Setup}
-use Rattle.model.specs.Quantities.{tolerated}
+use Rattle.types.specs.declared.Message.the-variants.{View, Vote, Vc, Qc}
+use Rattle.types.specs.declared.Event.{Event}
+use Rattle.types.specs.declared.Event.the-variants.{Deliver, Settle, Tick}
+use Rattle.types.specs.declared.Answer.{Answer}
+use Rattle.types.specs.declared.Setup.{Setup}
+use Rattle.types.specs.Quantities.{tolerated}
 use Rattle.model.specs.State.{State, accepted}
 use Rattle.model.specs.Opening.{opening}
 use Rattle.model.specs.Lists.{after, sinceSettling, ticksDone, ticksSince, formedIn, formedDuring, formedSince}

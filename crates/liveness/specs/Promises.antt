@@ -8,14 +8,15 @@ use Prim.Native.Nat.{ℕ, _+_, _*_, _≤_, _<_}
 use lib.Dec.{T}
 use lib.ListN.{length, take}
 use Rattle.base.specs.Sets.{member, size}
-use Rattle.model.specs.declared.Event.{Event}
-use Rattle.model.specs.declared.Event.the-variants.{Tick}
-use Rattle.model.specs.declared.Answer.{Answer}
-use Rattle.model.specs.declared.Answer.the-variants.{Done, Stopped, Refused}
-use Rattle.model.specs.declared.Run.{Run}
-use Rattle.model.specs.declared.Setup.{Setup}
-use Rattle.model.specs.Quantities.{lead, correct}
-use Rattle.model.specs.State.{State, voteStage, clockOf, viewOf, marksWord, markBit, word, checkOf, accepted, refused}
+use Rattle.types.specs.declared.Event.{Event}
+use Rattle.types.specs.declared.Event.the-variants.{Tick}
+use Rattle.types.specs.declared.Answer.{Answer}
+use Rattle.types.specs.declared.Answer.the-variants.{Done, Stopped, Refused}
+use Rattle.types.specs.declared.Run.{Run}
+use Rattle.types.specs.declared.Setup.{Setup}
+use Rattle.types.specs.Quantities.{lead, correct}
+use Rattle.types.specs.Messages.{voteStage}
+use Rattle.model.specs.State.{State, clockOf, viewOf, marksWord, markBit, word, checkOf, accepted, refused}
 use Rattle.model.specs.Checks.{unsound}
 use Rattle.model.specs.Opening.{opening}
 use Rattle.model.specs.Events.{tickOnce, Ticks, ticks, applied}

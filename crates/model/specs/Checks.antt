@@ -7,13 +7,12 @@ use lib.ListN.{length, getD, drop}
 use Rattle.base.specs.Count.{count}
 use Rattle.base.specs.Scan.{some, first}
 use Rattle.base.specs.Sets.{member, size}
-use Rattle.model.specs.declared.Plan.{Plan}
-use Rattle.model.specs.declared.Message.{Message}
-use Rattle.model.specs.declared.Event.{Event}
-use Rattle.model.specs.declared.Event.the-variants.{Deliver, Sign, Show, Settle, Tick}
-use Rattle.model.specs.declared.Run.{Run}
-use Rattle.model.specs.Quantities.{nLeast, nMost, deltaLeast, deltaMost, gammaLeast, gammaMost, viewsLeast, viewsMost, rowWords, messageWords, networkLeast, networkMost, tolerated, lead, initial, nextInitial, clockTime, endTime, startLimit, correct}
-use Rattle.model.specs.State.{State, clockOf, viewOf, isCorrect, enteredWord, marksWord, markBit, word, kindOf, viewIn, processorIn, kindLeast, kindMost, stageOf, isSignature, addressee, kindAt, viewAt, processorAt, sentAt, capacity}
+use Rattle.types.specs.declared.Plan.{Plan}
+use Rattle.types.specs.declared.Message.{Message}
+use Rattle.types.specs.declared.Run.{Run}
+use Rattle.types.specs.Quantities.{nLeast, nMost, deltaLeast, deltaMost, gammaLeast, gammaMost, viewsLeast, viewsMost, rowWords, messageWords, networkLeast, networkMost, tolerated, lead, initial, nextInitial, clockTime, endTime, startLimit, correct}
+use Rattle.types.specs.Messages.{kindOf, viewIn, processorIn, kindLeast, kindMost, stageOf, addressee}
+use Rattle.model.specs.State.{State, clockOf, viewOf, isCorrect, enteredWord, marksWord, markBit, word, kindAt, viewAt, processorAt, sentAt, capacity}
 use Rattle.model.specs.Moves.{Change, needed}
 
 -- a check's number, and whether its sentence holds
@@ -24,14 +23,6 @@ Check = ℕ × Bool
 abbrev pub judged : {A : Type 0} → (ℕ → A) → List Check → A → A
 judged refusal [] a = a
 judged refusal (c ∷ cs) a = cond (c .1) (refusal (c .0)) (judged refusal cs a)
-
--- 1. "an event handed in has 0 ticks or a kind its form lacks"
-abbrev pub lacksForm : Event → Bool
-lacksForm (Deliver m) = false
-lacksForm (Sign m) = not (isSignature m)
-lacksForm (Show m) = isSignature m
-lacksForm Settle = false
-lacksForm (Tick m) = eqb m 0
 
 -- the two halves of 10
 abbrev pub noProcessor : Plan → ℕ → Bool

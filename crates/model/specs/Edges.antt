@@ -4,12 +4,12 @@ use mathlib.Core.Path.{_≡_, refl}
 use mathlib.Core.Bool.{true, false, cond}
 use mathlib.Core.List.{List, [], _∷_, _++_, map}
 use lib.ListN.{length, replicate}
-use Rattle.model.specs.declared.Message.the-variants.{View, Vote, Qc}
-use Rattle.model.specs.declared.Event.the-variants.{Deliver, Sign, Show, Settle, Tick}
-use Rattle.model.specs.declared.Answer.the-variants.{Done, Stopped, Refused}
-use Rattle.model.specs.declared.Input.the-variants as input
-use Rattle.model.specs.declared.Sends.the-variants.{Nothing, Vote as VoteFor, ViewAndVote}
-use Rattle.model.specs.declared.Stepped.the-variants as step
+use Rattle.types.specs.declared.Message.the-variants.{View, Vote, Qc}
+use Rattle.types.specs.declared.Event.the-variants.{Deliver, Sign, Show, Settle, Tick}
+use Rattle.types.specs.declared.Answer.the-variants.{Done, Stopped, Refused}
+use Rattle.types.specs.declared.Input.the-variants as input
+use Rattle.types.specs.declared.Sends.the-variants.{Nothing, Vote as VoteFor, ViewAndVote}
+use Rattle.types.specs.declared.Stepped.the-variants as step
 use Rattle.model.specs.State.{checkOf, heldOf}
 use Rattle.model.specs.Checks.{lengthsOutside}
 use Rattle.model.specs.Opening.{opening}

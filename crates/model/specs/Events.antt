@@ -3,15 +3,16 @@ use mathlib.Core.Bool.{cond}
 use mathlib.Core.List.{List, [], _∷_}
 use Prim.Native.Nat.{ℕ, zero, suc, _+_, _-_}
 use lib.Dec.{eqb}
-use Rattle.model.specs.declared.Message.{Message}
-use Rattle.model.specs.declared.Event.{Event}
-use Rattle.model.specs.declared.Event.the-variants.{Deliver, Sign, Show, Settle, Tick}
-use Rattle.model.specs.declared.Answer.{Answer}
-use Rattle.model.specs.declared.Answer.the-variants.{Done, Stopped, Refused}
-use Rattle.model.specs.Quantities.{lead}
-use Rattle.model.specs.State.{State, After, withHeld, withGst, isCorrect, viewIn, processorIn, stageOf, removed, checkOf, refused, done}
+use Rattle.types.specs.declared.Message.{Message}
+use Rattle.types.specs.declared.Event.{Event}
+use Rattle.types.specs.declared.Event.the-variants.{Deliver, Sign, Show, Settle, Tick}
+use Rattle.types.specs.declared.Answer.{Answer}
+use Rattle.types.specs.declared.Answer.the-variants.{Done, Stopped, Refused}
+use Rattle.types.specs.Quantities.{lead}
+use Rattle.types.specs.Messages.{viewIn, processorIn, stageOf, lacksForm}
+use Rattle.model.specs.State.{State, After, withHeld, withGst, isCorrect, removed, checkOf, refused, done}
 use Rattle.model.specs.Moves.{Change, still, handling, advanced, arrivals, made}
-use Rattle.model.specs.Checks.{Check, judged, lacksForm, unsound, namedOutside, notInitial, signerCorrect, receiverFaulty, placeOf, notHeld, notExisting, settledBefore, overdue, reachesEnd, overfull}
+use Rattle.model.specs.Checks.{Check, judged, unsound, namedOutside, notInitial, signerCorrect, receiverFaulty, placeOf, notHeld, notExisting, settledBefore, overdue, reachesEnd, overfull}
 
 -- ---- "It leaves the post (the first, of equal ones) and is handled."
 

@@ -1,5 +1,4 @@
 -- Document 01 as definitions, grouped by its headings, and what they give when they are computed.
-pub mod Quantities
 pub mod State
 pub mod Moves
 pub mod Checks
@@ -7,7 +6,6 @@ pub mod Opening
 pub mod Events
 pub mod Processors
 pub mod Lists
-pub mod PlanFunctions
 pub mod Rows
 pub mod Settings
 pub mod Vectors

@@ -4,13 +4,14 @@ use mathlib.Core.Bool.{Bool, true, false, _&&_, _||_, cond}
 use mathlib.Core.List.{List, [], _∷_}
 use Prim.Native.Nat.{ℕ, _+_}
 use lib.Dec.{eqb}
-use Rattle.model.specs.declared.Message.{Message}
-use Rattle.model.specs.declared.Message.the-variants.{View, Vote, Vc, Qc}
-use Rattle.model.specs.declared.Event.{Event}
-use Rattle.model.specs.declared.Event.the-variants.{Deliver, Sign, Show, Settle, Tick}
-use Rattle.model.specs.declared.Run.{Run}
-use Rattle.model.specs.Quantities.{lead}
-use Rattle.model.specs.State.{State, voteStage, isCorrect, ticksOf, accepted}
+use Rattle.types.specs.declared.Message.{Message}
+use Rattle.types.specs.declared.Message.the-variants.{View, Vote, Vc, Qc}
+use Rattle.types.specs.declared.Event.{Event}
+use Rattle.types.specs.declared.Event.the-variants.{Deliver, Sign, Show, Settle, Tick}
+use Rattle.types.specs.declared.Run.{Run}
+use Rattle.types.specs.Quantities.{lead}
+use Rattle.types.specs.Messages.{voteStage}
+use Rattle.model.specs.State.{State, isCorrect, ticksOf, accepted}
 use Rattle.model.specs.Moves.{forms}
 use Rattle.model.specs.Checks.{tooFarAhead}
 use Rattle.model.specs.Events.{applied}

@@ -5,12 +5,13 @@ use Prim.Native.Nat.{ℕ, zero, suc, _+_, _-_, _/_, _%_}
 use lib.Dec.{eqb, leb, ltb}
 use lib.ListN.{length, set}
 use Rattle.base.specs.Sets.{member, insert, size}
-use Rattle.model.specs.declared.Plan.{Plan}
-use Rattle.model.specs.declared.Message.{Message}
-use Rattle.model.specs.declared.Message.the-variants.{View, Vote, Vc, Qc}
-use Rattle.model.specs.declared.Run.{Run}
-use Rattle.model.specs.Quantities.{tolerated, lead, initial, clockTime, correct}
-use Rattle.model.specs.State.{State, viewStage, voteStage, withHeld, withTime, withClocks, withViews, clockOf, viewOf, isCorrect, enteredWord, heardWord, marksWord, markBit, word, added, kindOf, viewIn, processorIn, addressee, posted}
+use Rattle.types.specs.declared.Plan.{Plan}
+use Rattle.types.specs.declared.Message.{Message}
+use Rattle.types.specs.declared.Message.the-variants.{View, Vote, Vc, Qc}
+use Rattle.types.specs.declared.Run.{Run}
+use Rattle.types.specs.Quantities.{tolerated, lead, initial, clockTime, correct}
+use Rattle.types.specs.Messages.{viewStage, voteStage, kindOf, viewIn, processorIn, addressee}
+use Rattle.model.specs.State.{State, withHeld, withTime, withClocks, withViews, clockOf, viewOf, isCorrect, enteredWord, heardWord, marksWord, markBit, word, added, posted}
 
 -- what a move leaves of clocks, views and tally, and the messages that it sends, in order; nothing else of the run moves
 pub record Change : Type 0 where

@@ -4,9 +4,9 @@ use mathlib.Core.List.{List, [], _∷_, _++_}
 use Prim.Native.Nat.{ℕ, _*_}
 use lib.ListN.{length, getD, drop, replicate}
 use Rattle.base.specs.Scan.{listed}
-use Rattle.model.specs.declared.Run.{Run}
-use Rattle.model.specs.declared.Setup.{Setup}
-use Rattle.model.specs.Quantities.{tableClocks, rowWords, correct}
+use Rattle.types.specs.declared.Run.{Run}
+use Rattle.types.specs.declared.Setup.{Setup}
+use Rattle.types.specs.Quantities.{tableClocks, rowWords, correct}
 use Rattle.model.specs.State.{State, After, runOf, refused, done}
 use Rattle.model.specs.Moves.{Entry, stay, into, entries, made}
 use Rattle.model.specs.Checks.{Check, judged, nOutside, delaysOutside, viewsOutside, faultyOutside, lengthsOutside, startTooHigh, tooFarAhead}

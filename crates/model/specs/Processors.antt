@@ -4,17 +4,17 @@ use mathlib.Core.Bool.{Bool, true, false, _||_}
 use mathlib.Core.List.{List, [], _∷_}
 use Prim.Native.Nat.{ℕ, _+_}
 use lib.Dec.{eqb}
-use Rattle.model.specs.declared.Plan.{Plan}
-use Rattle.model.specs.declared.Message.{Message}
-use Rattle.model.specs.declared.Message.the-variants.{View, Vote}
-use Rattle.model.specs.declared.Processor.{Processor}
-use Rattle.model.specs.declared.Input.{Input}
-use Rattle.model.specs.declared.Input.the-variants.{Tick, Vc, Qc}
-use Rattle.model.specs.declared.Sends.{Sends}
-use Rattle.model.specs.declared.Sends.the-variants.{Nothing, Vote as VoteFor, ViewAndVote}
-use Rattle.model.specs.declared.Stepped.{Stepped}
-use Rattle.model.specs.declared.Stepped.the-variants.{Sent, Refused}
-use Rattle.model.specs.State.{viewStage, voteStage}
+use Rattle.types.specs.declared.Plan.{Plan}
+use Rattle.types.specs.declared.Message.{Message}
+use Rattle.types.specs.declared.Message.the-variants.{View, Vote}
+use Rattle.types.specs.declared.Processor.{Processor}
+use Rattle.types.specs.declared.Input.{Input}
+use Rattle.types.specs.declared.Input.the-variants.{Tick, Vc, Qc}
+use Rattle.types.specs.declared.Sends.{Sends}
+use Rattle.types.specs.declared.Sends.the-variants.{Nothing, Vote as VoteFor, ViewAndVote}
+use Rattle.types.specs.declared.Stepped.{Stepped}
+use Rattle.types.specs.declared.Stepped.the-variants.{Sent, Refused}
+use Rattle.types.specs.Messages.{viewStage, voteStage}
 use Rattle.model.specs.Moves.{Entry, stay, into, entryClock, entryMessages, byClock, byQuorum, byView}
 use Rattle.model.specs.Checks.{Check, judged, planOutside, clockOutside, noProcessor, namedOutside, notInitial, atEnd}
 

@@ -4,10 +4,10 @@ use mathlib.Core.Path.{_≡_, refl}
 use mathlib.Core.Bool.{true, false}
 use mathlib.Core.List.{List, [], _∷_, _++_}
 use lib.ListN.{length, replicate}
-use Rattle.model.specs.declared.Message.the-variants.{View, Vote, Vc, Qc}
-use Rattle.model.specs.declared.Event.the-variants.{Deliver, Sign, Show, Settle, Tick}
-use Rattle.model.specs.declared.Input.the-variants as input
-use Rattle.model.specs.declared.Answer.the-variants.{Done, Refused}
+use Rattle.types.specs.declared.Message.the-variants.{View, Vote, Vc, Qc}
+use Rattle.types.specs.declared.Event.the-variants.{Deliver, Sign, Show, Settle, Tick}
+use Rattle.types.specs.declared.Input.the-variants as input
+use Rattle.types.specs.declared.Answer.the-variants.{Done, Refused}
 use Rattle.model.specs.Rows.{definitions, planOf, standard, padded, zeroes, copies, setupOf, lent, buffers, handedIn, withTally, withNetwork, Row, agreeing, schedule, fullSchedule, handed, refusedWhole, oneMove}
 
 -- ---- checks 2 to 8

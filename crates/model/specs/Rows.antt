@@ -4,20 +4,21 @@ use mathlib.Core.List.{List, [], _∷_, _++_, map}
 use Prim.Native.Nat.{ℕ, zero, suc, _+_, _-_}
 use lib.Dec.{eqb}
 use lib.ListN.{length, replicate}
-use Rattle.model.specs.declared.Plan.{Plan}
-use Rattle.model.specs.declared.Message.{Message}
-use Rattle.model.specs.declared.Event.{Event}
-use Rattle.model.specs.declared.Run.{Run}
-use Rattle.model.specs.declared.Setup.{Setup}
-use Rattle.model.specs.declared.Input.{Input}
-use Rattle.model.specs.declared.Answer.{Answer}
-use Rattle.model.specs.declared.Answer.the-variants.{Done, Stopped, Refused}
+use Rattle.types.specs.declared.Plan.{Plan}
+use Rattle.types.specs.declared.Message.{Message}
+use Rattle.types.specs.declared.Event.{Event}
+use Rattle.types.specs.declared.Run.{Run}
+use Rattle.types.specs.declared.Setup.{Setup}
+use Rattle.types.specs.declared.Input.{Input}
+use Rattle.types.specs.declared.Answer.{Answer}
+use Rattle.types.specs.declared.Answer.the-variants.{Done, Stopped, Refused}
 use lib.Count.{ones, onesIn}
 use Rattle.base.specs.Count.{count}
 use Rattle.base.specs.Scan.{some, first, listed}
 use Rattle.base.specs.Sets.{member}
-use Rattle.model.specs.Quantities.{tableClocks, perLeader}
-use Rattle.model.specs.State.{State, After, runOf, clockOf, viewOf, isCorrect, kindOf, viewIn, processorIn, posted, removed}
+use Rattle.types.specs.Quantities.{tableClocks, perLeader}
+use Rattle.types.specs.Messages.{kindOf, viewIn, processorIn}
+use Rattle.model.specs.State.{State, After, runOf, clockOf, viewOf, isCorrect, posted, removed}
 use Rattle.model.specs.Moves.{toCorrect, entering, taking, entries, ripe, toEach, hearing, handling, clocksOn, arrivals, made}
 use Rattle.model.specs.Checks.{startTooHigh, tooFarAhead, messageUnsound, unsound, exists, overdue, reachesEnd}
 use Rattle.model.specs.Opening.{blank, opened, opening}

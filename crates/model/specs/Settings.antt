@@ -3,11 +3,11 @@
 use mathlib.Core.Path.{_≡_, refl}
 use mathlib.Core.List.{List, [], _∷_}
 use lib.ListN.{length, replicate}
-use Rattle.model.specs.declared.Message.the-variants.{View}
-use Rattle.model.specs.declared.Event.the-variants.{Deliver, Settle, Tick}
-use Rattle.model.specs.declared.Input.the-variants.{Vc, Qc}
-use Rattle.model.specs.declared.Answer.the-variants.{Done, Stopped, Refused}
-use Rattle.model.specs.Quantities.{tolerated, lead}
+use Rattle.types.specs.declared.Message.the-variants.{View}
+use Rattle.types.specs.declared.Event.the-variants.{Deliver, Settle, Tick}
+use Rattle.types.specs.declared.Input.the-variants.{Vc, Qc}
+use Rattle.types.specs.declared.Answer.the-variants.{Done, Stopped, Refused}
+use Rattle.types.specs.Quantities.{tolerated, lead}
 use Rattle.model.specs.Rows.{definitions, planOf, standard, zeroes, setupOf, lent, Row, agreeing, number, schedule, fullSchedule, oneMove}
 
 -- ---- the starred settings

@@ -1,19 +1,18 @@
 -- "Quantities", continued: the run, the tally and the network as they are lent, word by word, and what an answer says.
-use mathlib.Core.Bool.{Bool, true, false, cond}
+use mathlib.Core.Bool.{Bool, true, false}
 use mathlib.Core.List.{List, [], _∷_, _++_}
 use Prim.Native.Nat.{ℕ, _+_, _*_, _/_}
-use lib.Dec.{leb}
 use lib.ListN.{length, getD, set, take, drop, replicate}
 use lib.Seq.{slice}
 use Rattle.base.specs.Sets.{insert}
-use Rattle.model.specs.declared.Plan.{Plan}
-use Rattle.model.specs.declared.Message.{Message}
-use Rattle.model.specs.declared.Message.the-variants.{View, Vote, Vc, Qc}
-use Rattle.model.specs.declared.Run.{Run}
-use Rattle.model.specs.declared.Answer.{Answer}
-use Rattle.model.specs.declared.Applied.{Applied}
-use Rattle.model.specs.declared.Answer.the-variants.{Done, Stopped, Refused}
-use Rattle.model.specs.Quantities.{correct, lead, rowWords, messageWords}
+use Rattle.types.specs.declared.Plan.{Plan}
+use Rattle.types.specs.declared.Message.{Message}
+use Rattle.types.specs.declared.Run.{Run}
+use Rattle.types.specs.declared.Answer.{Answer}
+use Rattle.types.specs.declared.Applied.{Applied}
+use Rattle.types.specs.declared.Answer.the-variants.{Done, Stopped, Refused}
+use Rattle.types.specs.Quantities.{correct, rowWords, messageWords}
+use Rattle.types.specs.Messages.{kindOf, viewIn, processorIn}
 
 -- the run, and the two lent buffers: tally ("The ledger") and network ("The post")
 pub record State : Type 0 where
@@ -62,14 +61,6 @@ viewOf r p = getD (r .views) p 0
 abbrev pub isCorrect : Run → ℕ → Bool
 isCorrect r p = correct (r .plan) (r .faulty) p
 
--- ---- the two stages of a view: view messages make a view certificate, votes make a quorum certificate
-
-abbrev pub viewStage : Bool
-viewStage = false
-
-abbrev pub voteStage : Bool
-voteStage = true
-
 -- ---- the tally: "four 64-bit words a view, being the correct cabinets that entered it, those whose view message its leader heard,
 -- those whose vote it heard, and two marks (1 view certificate formed, 2 quorum certificate formed)"; "A mark is one bit of its word"
 
@@ -98,51 +89,6 @@ abbrev pub added : List ℕ → ℕ → ℕ → ℕ → List ℕ
 added t w j p = set t (slot w j) (insert (word t w j) p)
 
 -- ---- the network: "kind (1 view, 2 vote, 3 view certificate, 4 quorum certificate), view, cabinet, sending time"
-
-abbrev pub kindOf : Message → ℕ
-kindOf (View w p) = 1
-kindOf (Vote w p) = 2
-kindOf (Vc w p) = 3
-kindOf (Qc w p) = 4
-
-abbrev pub viewIn : Message → ℕ
-viewIn (View w p) = w
-viewIn (Vote w p) = w
-viewIn (Vc w p) = w
-viewIn (Qc w p) = w
-
-abbrev pub processorIn : Message → ℕ
-processorIn (View w p) = p
-processorIn (Vote w p) = p
-processorIn (Vc w p) = p
-processorIn (Qc w p) = p
-
-abbrev pub kindLeast : ℕ
-kindLeast = 1
-
-abbrev pub kindMost : ℕ
-kindMost = 4
-
--- the stage that a message belongs to
-abbrev pub stageOf : Message → Bool
-stageOf (View w p) = viewStage
-stageOf (Vote w p) = voteStage
-stageOf (Vc w p) = viewStage
-stageOf (Qc w p) = voteStage
-
--- a view message or a vote, and no certificate
-abbrev pub isSignature : Message → Bool
-isSignature (View w p) = true
-isSignature (Vote w p) = true
-isSignature (Vc w p) = false
-isSignature (Qc w p) = false
-
--- "The cabinet is the sender for kinds 1 and 2, the receiver for 3 and 4": whom a stored message is for
-abbrev pub lastSignatureKind : ℕ
-lastSignatureKind = 2
-
-abbrev pub addressee : Plan → ℕ → ℕ → ℕ → ℕ
-addressee plan kind w p = cond (leb kind lastSignatureKind) (lead plan w) p
 
 abbrev pub kindAt : List ℕ → ℕ → ℕ
 kindAt ws i = getD ws (messageWords * i) 0

@@ -6,10 +6,10 @@ use mathlib.Core.List.{List, [], _∷_, _++_}
 use Prim.Native.Nat.{ℕ}
 use lib.ListN.{length, replicate}
 use Rattle.base.specs.Scan.{listed}
-use Rattle.model.specs.declared.Message.the-variants.{View, Vote, Vc, Qc}
-use Rattle.model.specs.declared.Event.{Event}
-use Rattle.model.specs.declared.Event.the-variants.{Deliver, Sign, Show, Settle, Tick}
-use Rattle.model.specs.declared.Answer.the-variants.{Done, Stopped, Refused}
+use Rattle.types.specs.declared.Message.the-variants.{View, Vote, Vc, Qc}
+use Rattle.types.specs.declared.Event.{Event}
+use Rattle.types.specs.declared.Event.the-variants.{Deliver, Sign, Show, Settle, Tick}
+use Rattle.types.specs.declared.Answer.the-variants.{Done, Stopped, Refused}
 use Rattle.model.specs.State.{State}
 use Rattle.model.specs.Opening.{opening}
 use Rattle.model.specs.Events.{tickOnce}

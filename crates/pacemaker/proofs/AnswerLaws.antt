@@ -9,13 +9,13 @@ use lib.Dec.{eqb}
 use borrow.Author.Tests.{le-ltb, eqb-false}
 use Rattle.base.specs.Tests.{by-cond}
 use Rattle.base.specs.Choice.{cond-no}
-use Rattle.model.specs.declared.Plan.{Plan}
-use Rattle.model.specs.declared.Processor.{Processor}
-use Rattle.model.specs.declared.Input.{Input}
-use Rattle.model.specs.declared.Input.the-variants.{Tick, Vc, Qc}
-use Rattle.model.specs.declared.Sends.{Sends}
-use Rattle.model.specs.declared.Stepped.the-variants.{Sent, Refused}
-use Rattle.model.specs.Quantities.{initial, clockTime}
+use Rattle.types.specs.declared.Plan.{Plan}
+use Rattle.types.specs.declared.Processor.{Processor}
+use Rattle.types.specs.declared.Input.{Input}
+use Rattle.types.specs.declared.Input.the-variants.{Tick, Vc, Qc}
+use Rattle.types.specs.declared.Sends.{Sends}
+use Rattle.types.specs.declared.Stepped.the-variants.{Sent, Refused}
+use Rattle.types.specs.Quantities.{initial, clockTime}
 use Rattle.model.specs.Moves.{Entry, stay, into}
 use Rattle.model.specs.Checks.{Check, judged, atEnd}
 use Rattle.model.specs.Processors.{Moved, Gives, messagesOf, moving, clockAt, entryBy, processorUnsound, stepChecks, stepped}

@@ -9,13 +9,13 @@ use lib.Dec.{leb, ltb}
 use borrow.Author.Tests.{ltb-false, leb-false, eqb-true, not-false, lt-ltb, le-ltb, le-leb, lt-leb}
 use Rattle.base.specs.Tests.{le?}
 use Rattle.base.specs.Choice.{or-first, or-second, or-neither, or-rest, or-parts}
-use Rattle.model.specs.declared.Plan.{Plan}
-use Rattle.model.specs.declared.Processor.{Processor}
-use Rattle.model.specs.Quantities.{nLeast, nMost, deltaLeast, deltaMost, gammaLeast, gammaMost, viewsLeast, viewsMost, perLeader, initial, nextInitial, clockTime, endTime}
-use Rattle.model.specs.PlanFunctions.{nextInitialWord, clockTimeWord}
+use Rattle.types.specs.declared.Plan.{Plan}
+use Rattle.types.specs.declared.Processor.{Processor}
+use Rattle.types.specs.Quantities.{nLeast, nMost, deltaLeast, deltaMost, gammaLeast, gammaMost, viewsLeast, viewsMost, perLeader, initial, nextInitial, clockTime, endTime}
+use Rattle.types.specs.PlanFunctions.{nextInitialWord, clockTimeWord}
 use Rattle.model.specs.Checks.{nOutside, delaysOutside, viewsOutside, planOutside, atEnd, clockOutside}
 use Rattle.model.specs.Processors.{processorUnsound}
-use Rattle.model.proofs.PlanWords.{time-fits, next-fits}
+use Rattle.types.proofs.PlanWords.{time-fits, next-fits}
 use Rattle.pacemaker.specs.Limits.{planCheck, Within, Sound, timeMost}
 
 -- ---- checks 2 to 4

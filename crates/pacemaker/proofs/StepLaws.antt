@@ -7,16 +7,16 @@ use native.Mathlib.Omega.{arith}
 use lib.Dec.{eqb, ltb}
 use borrow.Author.Tests.{lt-ltb, le-ltb, le-leb, lt-leb, eq-eqb, ne-eqb}
 use Rattle.base.specs.Choice.{cond-yes, cond-no, or-first, and-both, and-not-first, and-not-second, not-yes, not-no}
-use Rattle.model.specs.declared.Plan.{Plan}
-use Rattle.model.specs.declared.Message.the-variants.{View, Vote}
-use Rattle.model.specs.declared.Processor.{Processor}
-use Rattle.model.specs.declared.Input.{Input}
-use Rattle.model.specs.declared.Input.the-variants.{Tick, Vc, Qc}
-use Rattle.model.specs.declared.Sends.{Sends}
-use Rattle.model.specs.declared.Sends.the-variants.{Vote as VoteFor, ViewAndVote}
-use Rattle.model.specs.declared.Stepped.{Stepped}
-use Rattle.model.specs.declared.Stepped.the-variants.{Sent, Refused}
-use Rattle.model.specs.Quantities.{initial, clockTime}
+use Rattle.types.specs.declared.Plan.{Plan}
+use Rattle.types.specs.declared.Message.the-variants.{View, Vote}
+use Rattle.types.specs.declared.Processor.{Processor}
+use Rattle.types.specs.declared.Input.{Input}
+use Rattle.types.specs.declared.Input.the-variants.{Tick, Vc, Qc}
+use Rattle.types.specs.declared.Sends.{Sends}
+use Rattle.types.specs.declared.Sends.the-variants.{Vote as VoteFor, ViewAndVote}
+use Rattle.types.specs.declared.Stepped.{Stepped}
+use Rattle.types.specs.declared.Stepped.the-variants.{Sent, Refused}
+use Rattle.types.specs.Quantities.{initial, clockTime}
 use Rattle.model.specs.Moves.{Entry, stay, into, entryMessages, byClock, byQuorum, byView}
 use Rattle.model.specs.Checks.{noProcessor, noView, atEnd}
 use Rattle.model.specs.Processors.{Moved, Gives, messagesOf, moving, processorUnsound, stepped}

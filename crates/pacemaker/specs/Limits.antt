@@ -3,9 +3,9 @@ use mathlib.Core.Path.{_≡_}
 use mathlib.Core.Bool.{true}
 use mathlib.Core.List.{[], _∷_}
 use Prim.Native.Nat.{ℕ, _*_, _≤_, _<_}
-use Rattle.model.specs.declared.Plan.{Plan}
-use Rattle.model.specs.declared.Processor.{Processor}
-use Rattle.model.specs.Quantities.{nLeast, nMost, deltaLeast, deltaMost, gammaLeast, gammaMost, viewsLeast, viewsMost, initial, nextInitial, clockTime, endTime}
+use Rattle.types.specs.declared.Plan.{Plan}
+use Rattle.types.specs.declared.Processor.{Processor}
+use Rattle.types.specs.Quantities.{nLeast, nMost, deltaLeast, deltaMost, gammaLeast, gammaMost, viewsLeast, viewsMost, initial, nextInitial, clockTime, endTime}
 use Rattle.model.specs.Checks.{judged, nOutside, delaysOutside, viewsOutside}
 
 -- the first of checks 2 to 4 whose sentence holds, or 0

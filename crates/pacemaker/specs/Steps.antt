@@ -3,13 +3,13 @@ use mathlib.Core.Path.{_≡_}
 use mathlib.Core.Bool.{true}
 use mathlib.Core.List.{List, [], _∷_}
 use Prim.Native.Nat.{ℕ, _<_}
-use Rattle.model.specs.declared.Plan.{Plan}
-use Rattle.model.specs.declared.Message.{Message}
-use Rattle.model.specs.declared.Processor.{Processor}
-use Rattle.model.specs.declared.Input.{Input}
-use Rattle.model.specs.declared.Input.the-variants.{Tick, Vc, Qc}
-use Rattle.model.specs.Quantities.{initial}
-use Rattle.model.specs.State.{viewStage, voteStage}
+use Rattle.types.specs.declared.Plan.{Plan}
+use Rattle.types.specs.declared.Message.{Message}
+use Rattle.types.specs.declared.Processor.{Processor}
+use Rattle.types.specs.declared.Input.{Input}
+use Rattle.types.specs.declared.Input.the-variants.{Tick, Vc, Qc}
+use Rattle.types.specs.Quantities.{initial}
+use Rattle.types.specs.Messages.{viewStage, voteStage}
 use Rattle.model.specs.Checks.{Check, judged, noView, notInitial, atEnd}
 use Rattle.model.specs.Processors.{Moved, clockAt, entryBy, moving}
 

@@ -1,14 +1,14 @@
 // The pacemaker of one processor: rules 1 to 3 behind its own checks (document 01: at the cabinet's own face).
-use model::Input;
-use model::Plan;
-use model::Processor;
-use model::Sends;
-use model::Stepped;
+use types::Input;
+use types::Plan;
+use types::Processor;
+use types::Sends;
+use types::Stepped;
 ghost use mathlib.Core.Path.{_≡_};
 ghost use mathlib.Core.Bool.{cond};
 ghost use Prim.Native.Nat.{_≤_, _<_};
 ghost use lib.Dec.{ltb};
-ghost use Rattle.model.specs.Quantities.{initial, clockTime};
+ghost use Rattle.types.specs.Quantities.{initial, clockTime};
 ghost use Rattle.model.specs.Checks.{nOutside, delaysOutside, viewsOutside, clockOutside};
 ghost use Rattle.model.specs.Moves.{stay, into};
 ghost use Rattle.model.specs.Processors.{Gives, messagesOf, moving, processorUnsound, stepped};

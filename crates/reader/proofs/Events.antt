@@ -8,10 +8,10 @@ use lib.ListN.{length, drop, getD, drop-of-length-le}
 use lib.Dec.{eqb, eqb→eq}
 use borrow.Author.Tests.{eq-eqb}
 use Rattle.base.specs.Tests.{T-false, by-cond}
-use Rattle.model.specs.declared.Message.{Message}
-use Rattle.model.specs.declared.Event.{Event}
-use Rattle.model.specs.declared.Event.the-variants.{Deliver, Sign, Show, Settle, Tick}
-use Rattle.model.specs.Checks.{lacksForm}
+use Rattle.types.specs.declared.Message.{Message}
+use Rattle.types.specs.declared.Event.{Event}
+use Rattle.types.specs.declared.Event.the-variants.{Deliver, Sign, Show, Settle, Tick}
+use Rattle.types.specs.Messages.{lacksForm}
 use Rattle.lines.specs.declared.Read.{Read}
 use Rattle.lines.specs.declared.Read.the-variants as Read
 use Rattle.lines.specs.declared.Read.the-variants.{NoForm}

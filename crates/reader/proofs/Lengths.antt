@@ -10,12 +10,12 @@ use lib.Dec.{eqb, ltb}
 use borrow.Author.Tests.{ltb-false}
 use Rattle.base.specs.Tests.{le?}
 use Rattle.base.specs.Choice.{or-parts}
-use Rattle.model.specs.declared.Message.{Message}
-use Rattle.model.specs.declared.Message.the-variants.{View, Vote, Vc, Qc}
-use Rattle.model.specs.declared.Event.{Event}
-use Rattle.model.specs.declared.Event.the-variants.{Deliver, Sign, Show, Settle, Tick}
-use Rattle.model.specs.declared.Setup.{Setup}
-use Rattle.model.specs.Quantities.{nMost}
+use Rattle.types.specs.declared.Message.{Message}
+use Rattle.types.specs.declared.Message.the-variants.{View, Vote, Vc, Qc}
+use Rattle.types.specs.declared.Event.{Event}
+use Rattle.types.specs.declared.Event.the-variants.{Deliver, Sign, Show, Settle, Tick}
+use Rattle.types.specs.declared.Setup.{Setup}
+use Rattle.types.specs.Quantities.{nMost}
 use Rattle.lines.specs.Decimal.{decimal}
 use Rattle.lines.specs.Forms.{openBracket, closeBracket, blank, furtherClocks, clocksForm, lineClocks, headingNumbers, messageForm, eventForm, setupForm, lacksSetupForm}
 use Rattle.lines.specs.Promises.{formMost}

@@ -11,9 +11,9 @@ use lib.Dec.{T, eqb, ltb, eqb→eq}
 use borrow.Author.Tests.{eq-eqb, ltb-false, eqb-false}
 use Rattle.base.specs.Tests.{T-and, T-false, by-cond}
 use Rattle.base.specs.Choice.{or-neither, or-parts}
-use Rattle.model.specs.declared.Plan.{Plan}
-use Rattle.model.specs.declared.Setup.{Setup}
-use Rattle.model.specs.Quantities.{nMost, tableClocks}
+use Rattle.types.specs.declared.Plan.{Plan}
+use Rattle.types.specs.declared.Setup.{Setup}
+use Rattle.types.specs.Quantities.{nMost, tableClocks}
 use Rattle.lines.specs.declared.Read.{Read}
 use Rattle.lines.specs.declared.Read.the-variants as Read
 use Rattle.lines.specs.declared.Read.the-variants.{NoForm}

@@ -8,8 +8,8 @@ use mathlib.Core.Bool.{true}
 use lib.ListN.{length, length-append}
 use lib.Dec.{leb, ltb}
 use borrow.Author.Tests.{le-leb, lt-ltb}
-use Rattle.model.specs.declared.Event.{Event}
-use Rattle.model.specs.declared.Setup.{Setup}
+use Rattle.types.specs.declared.Event.{Event}
+use Rattle.types.specs.declared.Setup.{Setup}
 use Rattle.lines.specs.declared.Read.{Read}
 use Rattle.lines.specs.declared.Read.the-variants as Read
 use Rattle.lines.specs.declared.Read.the-variants.{NoForm}

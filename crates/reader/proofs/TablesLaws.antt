@@ -6,7 +6,7 @@ use native.Mathlib.Numerals.{add-one}
 use native.Mathlib.Omega.{arith}
 use lib.ListN.{length, take, drop, set, replicate, length-take, length-set, take-append-drop}
 use lib.Seq.{take-suc-set, drop-set-lt, drop-drop}
-use Rattle.model.specs.Quantities.{nMost, tableClocks}
+use Rattle.types.specs.Quantities.{nMost, tableClocks}
 use Rattle.lines.specs.Forms.{openBracket, closeBracket, blank}
 use Rattle.reader.specs.declared.After.{After}
 use Rattle.reader.specs.declared.After.the-variants.{At, Away}

@@ -2,8 +2,8 @@
 use mathlib.Core.Path.{_≡_, refl}
 use mathlib.Core.List.{List, [], _∷_, _++_, map}
 use Prim.Native.Nat.{ℕ, _^_}
-use Rattle.model.specs.declared.Message.the-variants.{View, Vote, Vc, Qc}
-use Rattle.model.specs.declared.Event.the-variants.{Deliver, Sign, Show, Settle, Tick}
+use Rattle.types.specs.declared.Message.the-variants.{View, Vote, Vc, Qc}
+use Rattle.types.specs.declared.Event.the-variants.{Deliver, Sign, Show, Settle, Tick}
 use Rattle.model.specs.Rows.{standard, setupOf}
 use Rattle.lines.specs.Decimal.{decimal}
 use Rattle.lines.specs.Forms.{openBracket, closeBracket, blank, openWord, tickWord, joined, carrying, signWord, showWord, clocksForm, messageForm, eventForm, setupForm}

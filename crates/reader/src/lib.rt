@@ -1,14 +1,14 @@
 // Reading one line of a schedule: any bytes in, the event, the opening with its setup, or that it is none of the forms.
 use lines::Read;
 use lines::Reading;
-use model::Event;
-use model::Message;
-use model::Plan;
-use model::Setup;
+use types::Event;
+use types::Message;
+use types::Plan;
+use types::Setup;
 ghost use mathlib.Core.Path.{_≡_};
 ghost use Prim.Native.Nat.{_+_, _≤_};
 ghost use lib.ListN.{length, drop};
-ghost use Rattle.model.specs.Quantities.{nMost};
+ghost use Rattle.types.specs.Quantities.{nMost};
 ghost use Rattle.lines.specs.Forms.{openBracket, closeBracket, blank};
 ghost use Rattle.lines.specs.Contracts.{noSetup, noForm, Reads};
 ghost use Rattle.reader.specs.Bytes.{classOf, classAt, digitRun, spelled};

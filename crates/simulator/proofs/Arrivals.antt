@@ -13,11 +13,11 @@ use lib.Seq.{set-getD, getD-set-other}
 use Rattle.base.specs.Tests.{T-left, by-cond}
 use Rattle.base.specs.Scan.{some}
 use Rattle.base.specs.ScanLaws.{some-ext}
-use Rattle.model.specs.declared.Plan.{Plan}
-use Rattle.model.specs.declared.Run.{Run}
-use Rattle.model.specs.declared.Processor.{Processor}
-use Rattle.model.specs.declared.Input.the-variants.{Tick}
-use Rattle.model.specs.Quantities.{initial, clockTime}
+use Rattle.types.specs.declared.Plan.{Plan}
+use Rattle.types.specs.declared.Run.{Run}
+use Rattle.types.specs.declared.Processor.{Processor}
+use Rattle.types.specs.declared.Input.the-variants.{Tick}
+use Rattle.types.specs.Quantities.{initial, clockTime}
 use Rattle.model.specs.State.{State, clockOf, viewOf, isCorrect}
 use Rattle.model.specs.Moves.{Change, changed, Entry, stay, into, entryClock, byClock, clocksOn, advanced, arrival, arrivals}
 use Rattle.model.specs.Checks.{atEnd, reachesEnd}

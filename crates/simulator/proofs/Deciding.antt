@@ -7,13 +7,14 @@ use native.Mathlib.Omega.{arith}
 use lib.ListN.{length}
 use borrow.Author.Tests.{le-leb, lt-leb, leb-false}
 use Rattle.base.specs.Choice.{cond-yes, cond-no, or-first, or-second, or-neither, or-parts, and-both, and-not-first, and-not-second, not-yes, not-no}
-use Rattle.model.specs.declared.Plan.{Plan}
-use Rattle.model.specs.declared.Message.{Message}
-use Rattle.model.specs.declared.Message.the-variants.{View, Vote, Vc, Qc}
-use Rattle.model.specs.declared.Run.{Run}
-use Rattle.model.specs.declared.Input.the-variants.{Vc as VcIn, Qc as QcIn}
-use Rattle.model.specs.Quantities.{initial}
-use Rattle.model.specs.State.{State, stateOf, withHeld, withClocks, withViews, viewStage, voteStage, viewOf, isCorrect, viewIn, processorIn, stageOf}
+use Rattle.types.specs.declared.Plan.{Plan}
+use Rattle.types.specs.declared.Message.{Message}
+use Rattle.types.specs.declared.Message.the-variants.{View, Vote, Vc, Qc}
+use Rattle.types.specs.declared.Run.{Run}
+use Rattle.types.specs.declared.Input.the-variants.{Vc as VcIn, Qc as QcIn}
+use Rattle.types.specs.Quantities.{initial}
+use Rattle.types.specs.Messages.{viewStage, voteStage, viewIn, processorIn, stageOf}
+use Rattle.model.specs.State.{State, stateOf, withHeld, withClocks, withViews, viewOf, isCorrect}
 use Rattle.model.specs.Moves.{Change, byView, byQuorum, forms, hearing, handling, made, heardTally, formedMessages}
 use Rattle.model.specs.Checks.{noProcessor, noView, namedOutside, notInitial, reachesEnd}
 use Rattle.pacemaker.specs.Steps.{movingBy}

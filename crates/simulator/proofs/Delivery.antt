@@ -9,10 +9,10 @@ use lib.Seq.{slice, length-take-le, length-slice}
 use borrow.Author.Tests.{eq-eqb, ne-eqb}
 use Rattle.base.specs.Tests.{fails, T-true}
 use Rattle.base.specs.ScanLaws.{first-le}
-use Rattle.model.specs.declared.Message.{Message}
-use Rattle.model.specs.declared.Message.the-variants.{View, Vote, Vc, Qc}
-use Rattle.model.specs.declared.Run.{Run}
-use Rattle.model.specs.Quantities.{messageWords}
+use Rattle.types.specs.declared.Message.{Message}
+use Rattle.types.specs.declared.Message.the-variants.{View, Vote, Vc, Qc}
+use Rattle.types.specs.declared.Run.{Run}
+use Rattle.types.specs.Quantities.{messageWords}
 use Rattle.model.specs.State.{State, stateOf, withHeld, isCorrect, capacity, removed}
 use Rattle.model.specs.Checks.{unsound, isAt, placeOf, notHeld}
 use Rattle.model.specs.Events.{without}

@@ -5,7 +5,7 @@ use mathlib.Core.List.{[], _∷_}
 use Prim.Native.Nat.{ℕ, zero, suc, _<_}
 use lib.Dec.{T}
 use lib.ListN.{take}
-use Rattle.model.specs.declared.Plan.{Plan}
+use Rattle.types.specs.declared.Plan.{Plan}
 use Rattle.model.specs.State.{State, After, checkOf, accepted}
 use Rattle.model.specs.Checks.{tooFarAhead}
 use Rattle.model.specs.Opening.{opening}

@@ -7,8 +7,8 @@ use native.Mathlib.Numerals.{add-one}
 use native.Mathlib.Omega.{arith}
 use lib.ListN.{length, getD, set, length-append}
 use lib.Seq.{set-getD, getD-set-other}
-use Rattle.model.specs.declared.Message.{Message}
-use Rattle.model.specs.declared.Run.{Run}
+use Rattle.types.specs.declared.Message.{Message}
+use Rattle.types.specs.declared.Run.{Run}
 use Rattle.model.specs.State.{clockOf, viewOf, capacity}
 use Rattle.model.specs.Moves.{Change, changed, toCorrect, Entry, stay, into, entryClock, entryMessages, entering, taking, entries}
 use Rattle.model.specs.Processors.{Moved, messagesOf, moving}

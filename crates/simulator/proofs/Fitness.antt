@@ -7,9 +7,9 @@ use native.Mathlib.Nat.{mod-lt}
 use lib.Dec.{T, ltb}
 use Rattle.liveness.proofs.Opens.{planned-within}
 use Rattle.base.specs.Tests.{fails, T-true, T-false}
-use Rattle.model.specs.declared.Plan.{Plan}
-use Rattle.model.specs.declared.Run.{Run}
-use Rattle.model.specs.Quantities.{perLeader, lead, endTime}
+use Rattle.types.specs.declared.Plan.{Plan}
+use Rattle.types.specs.declared.Run.{Run}
+use Rattle.types.specs.Quantities.{perLeader, lead, endTime}
 use Rattle.model.specs.State.{State, clockOf, viewOf, isCorrect, capacity}
 use Rattle.model.specs.Checks.{planOutside, faultyOutside, buffersOutside, clockOutside, atEnd, unsound}
 use Rattle.liveness.proofs.Judging.{neither, not-ltb, not-leb}

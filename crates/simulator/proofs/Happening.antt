@@ -10,18 +10,19 @@ use lib.Dec.{ltb}
 use lib.ListN.{length}
 use borrow.Author.Tests.{lt-ltb, le-ltb, eqb-false}
 use Rattle.base.specs.Choice.{cond-yes, cond-no, not-yes, not-no}
-use Rattle.model.specs.declared.Plan.{Plan}
-use Rattle.model.specs.declared.Message.{Message}
-use Rattle.model.specs.declared.Message.the-variants.{View, Vote, Vc, Qc}
-use Rattle.model.specs.declared.Event.{Event}
-use Rattle.model.specs.declared.Event.the-variants.{Deliver, Sign, Show, Settle, Tick}
-use Rattle.model.specs.declared.Run.{Run}
-use Rattle.model.specs.declared.Answer.the-variants.{Done, Refused}
-use Rattle.model.specs.declared.Applied.{Applied}
-use Rattle.model.specs.Quantities.{lead}
-use Rattle.model.specs.State.{State, After, stateOf, withHeld, handedBack, isCorrect, viewIn, processorIn, stageOf, capacity, refused, done}
+use Rattle.types.specs.declared.Plan.{Plan}
+use Rattle.types.specs.declared.Message.{Message}
+use Rattle.types.specs.declared.Message.the-variants.{View, Vote, Vc, Qc}
+use Rattle.types.specs.declared.Event.{Event}
+use Rattle.types.specs.declared.Event.the-variants.{Deliver, Sign, Show, Settle, Tick}
+use Rattle.types.specs.declared.Run.{Run}
+use Rattle.types.specs.declared.Answer.the-variants.{Done, Refused}
+use Rattle.types.specs.declared.Applied.{Applied}
+use Rattle.types.specs.Quantities.{lead}
+use Rattle.types.specs.Messages.{viewIn, processorIn, stageOf, lacksForm}
+use Rattle.model.specs.State.{State, After, stateOf, withHeld, handedBack, isCorrect, capacity, refused, done}
 use Rattle.model.specs.Moves.{Change, still, handling, made}
-use Rattle.model.specs.Checks.{lacksForm, unsound, namedOutside, notInitial, exists, notHeld, reachesEnd, overfull}
+use Rattle.model.specs.Checks.{unsound, namedOutside, notInitial, exists, notHeld, reachesEnd, overfull}
 use Rattle.model.specs.Events.{without, delivering, signing, nowSettled, tickRun, checks, effect, applied}
 use Rattle.liveness.proofs.Answers.{no-yes}
 use Rattle.buffers.specs.WordLaws.{posted-none}

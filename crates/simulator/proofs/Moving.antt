@@ -10,8 +10,8 @@ use lib.Seq.{set-getD, getD-set-same, getD-set-other}
 use Rattle.base.specs.Tests.{fails, T-and, T-left, T-right, T-iff, T-true, eq?}
 use Rattle.base.specs.Scan.{some}
 use Rattle.base.specs.ScanLaws.{some-by, some-gives, some-none}
-use Rattle.model.specs.declared.Run.{Run}
-use Rattle.model.specs.declared.Processor.{Processor}
+use Rattle.types.specs.declared.Run.{Run}
+use Rattle.types.specs.declared.Processor.{Processor}
 use Rattle.model.specs.State.{clockOf, viewOf, isCorrect}
 use Rattle.model.specs.Moves.{Change, toCorrect, Entry, stay, into, taking, entering}
 use Rattle.model.specs.Checks.{clockOutside, atEnd, reachesEnd}

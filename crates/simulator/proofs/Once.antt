@@ -9,9 +9,9 @@ use lib.ListN.{length}
 use borrow.Author.Tests.{lt-ltb, le-ltb, eq-eqb, ne-eqb}
 use Rattle.base.specs.Scan.{some}
 use Rattle.base.specs.Choice.{cond-yes, cond-no}
-use Rattle.model.specs.declared.Run.{Run}
-use Rattle.model.specs.declared.Answer.the-variants.{Done, Stopped, Refused}
-use Rattle.model.specs.declared.Applied.{Applied}
+use Rattle.types.specs.declared.Run.{Run}
+use Rattle.types.specs.declared.Answer.the-variants.{Done, Stopped, Refused}
+use Rattle.types.specs.declared.Applied.{Applied}
 use Rattle.model.specs.State.{State, After, stateOf, handedBack, checkOf, capacity, refused}
 use Rattle.model.specs.Moves.{advanced, arrivals, made}
 use Rattle.model.specs.Checks.{overdue, reachesEnd, overfull}

@@ -6,12 +6,12 @@ use Prim.Native.Nat.{ℕ, _+_, _/_, _≤_, _<_}
 use native.Mathlib.Nat.{add-zero}
 use native.Mathlib.Omega.{arith}
 use lib.ListN.{length, length-append}
-use Rattle.model.specs.declared.Message.{Message}
-use Rattle.model.specs.Quantities.{messageWords}
+use Rattle.types.specs.declared.Message.{Message}
+use Rattle.types.specs.Quantities.{messageWords}
 use Rattle.model.specs.State.{capacity}
 use Rattle.buffers.specs.WordLaws.{posted-none, posted-length, posted-turn}
 use Rattle.buffers.specs.Network.{appended, appended-fits}
-use Rattle.model.specs.declared.Plan.{Plan}
+use Rattle.types.specs.declared.Plan.{Plan}
 use Rattle.model.specs.Moves.{toCorrect, certificate, toEach}
 use Rattle.simulator.specs.Inner.{Posts}
 use Rattle.simulator.proofs.Sending.{goes, correct-yes, correct-no, each-more, each-room}

@@ -5,14 +5,14 @@ use Prim.Native.Nat.{ℕ, _+_, _-_, _≤_, _<_, max}
 use native.Mathlib.Omega.{arith}
 use lib.Dec.{leb, leb→le, le→leb}
 use Rattle.base.specs.Tests.{T-iff}
-use Rattle.model.specs.declared.Plan.{Plan}
-use Rattle.model.specs.declared.Processor.{Processor}
-use Rattle.model.specs.declared.Input.{Input}
-use Rattle.model.specs.declared.Input.the-variants.{Tick}
-use Rattle.model.specs.declared.Sends.{Sends}
-use Rattle.model.specs.declared.Sends.the-variants.{Nothing}
-use Rattle.model.specs.declared.Stepped.the-variants.{Sent, Refused}
-use Rattle.model.specs.Quantities.{correct}
+use Rattle.types.specs.declared.Plan.{Plan}
+use Rattle.types.specs.declared.Processor.{Processor}
+use Rattle.types.specs.declared.Input.{Input}
+use Rattle.types.specs.declared.Input.the-variants.{Tick}
+use Rattle.types.specs.declared.Sends.{Sends}
+use Rattle.types.specs.declared.Sends.the-variants.{Nothing}
+use Rattle.types.specs.declared.Stepped.the-variants.{Sent, Refused}
+use Rattle.types.specs.Quantities.{correct}
 use Rattle.model.specs.Moves.{Entry, stay, into}
 use Rattle.model.specs.Checks.{atEnd}
 use Rattle.model.specs.Processors.{Moved, Gives, messagesOf, clockAt, entryBy, moving, processorUnsound, stepped}

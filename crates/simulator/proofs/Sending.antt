@@ -8,13 +8,14 @@ use native.Mathlib.Omega.{arith}
 use lib.ListN.{length, length-append}
 use Rattle.base.specs.Count.{bit, count}
 use Rattle.base.specs.Sets.{size}
-use Rattle.model.specs.declared.Plan.{Plan}
-use Rattle.model.specs.declared.Message.{Message}
-use Rattle.model.specs.declared.Message.the-variants.{View, Vote}
-use Rattle.model.specs.declared.Sends.{Sends}
-use Rattle.model.specs.declared.Sends.the-variants.{Nothing, Vote as VoteFor, ViewAndVote}
-use Rattle.model.specs.Quantities.{lead, initial, correct}
-use Rattle.model.specs.State.{kindOf, viewIn, processorIn, addressee, added, enteredWord}
+use Rattle.types.specs.declared.Plan.{Plan}
+use Rattle.types.specs.declared.Message.{Message}
+use Rattle.types.specs.declared.Message.the-variants.{View, Vote}
+use Rattle.types.specs.declared.Sends.{Sends}
+use Rattle.types.specs.declared.Sends.the-variants.{Nothing, Vote as VoteFor, ViewAndVote}
+use Rattle.types.specs.Quantities.{lead, initial, correct}
+use Rattle.types.specs.Messages.{kindOf, viewIn, processorIn, addressee}
+use Rattle.model.specs.State.{added, enteredWord}
 use Rattle.model.specs.Moves.{toCorrect, certificate, toEach, entryMessages, formedMessages}
 use Rattle.model.specs.Processors.{messagesOf}
 use Rattle.liveness.proofs.Link.{Planned, correct-count}

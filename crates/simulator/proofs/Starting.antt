@@ -14,12 +14,12 @@ use borrow.Author.Tests.{eq-eqb, ne-eqb, ltb-false}
 use Rattle.base.specs.Choice.{cond-yes, cond-no, or-parts}
 use Rattle.base.specs.Tests.{le?}
 use Rattle.base.specs.ScanLaws.{length-listed, getD-listed}
-use Rattle.model.specs.declared.Plan.{Plan}
-use Rattle.model.specs.declared.Run.{Run}
-use Rattle.model.specs.declared.Setup.{Setup}
-use Rattle.model.specs.declared.Sends.{Sends}
-use Rattle.model.specs.declared.Sends.the-variants.{Nothing, ViewAndVote}
-use Rattle.model.specs.Quantities.{networkLeast, networkMost, tableClocks, rowWords, perLeader, initial, correct}
+use Rattle.types.specs.declared.Plan.{Plan}
+use Rattle.types.specs.declared.Run.{Run}
+use Rattle.types.specs.declared.Setup.{Setup}
+use Rattle.types.specs.declared.Sends.{Sends}
+use Rattle.types.specs.declared.Sends.the-variants.{Nothing, ViewAndVote}
+use Rattle.types.specs.Quantities.{networkLeast, networkMost, tableClocks, rowWords, perLeader, initial, correct}
 use Rattle.model.specs.State.{stateOf, runOf, withHeld, clockOf, viewOf, posted, capacity, refused, done}
 use Rattle.model.specs.Moves.{Change, changed, stay, into, made}
 use Rattle.model.specs.Processors.{messagesOf, moving}

@@ -15,9 +15,9 @@ use Rattle.base.specs.Choice.{or-neither, and-both}
 use Rattle.base.specs.Scan.{some}
 use Rattle.base.specs.ScanLaws.{some-not}
 use Rattle.pacemaker.proofs.LimitLaws.{within}
-use Rattle.model.specs.declared.Plan.{Plan}
-use Rattle.model.specs.declared.Run.{Run}
-use Rattle.model.specs.Quantities.{messageWords, perLeader, initial, nextInitial, clockTime, endTime}
+use Rattle.types.specs.declared.Plan.{Plan}
+use Rattle.types.specs.declared.Run.{Run}
+use Rattle.types.specs.Quantities.{messageWords, perLeader, initial, nextInitial, clockTime, endTime}
 use Rattle.model.specs.State.{State, clockOf, viewOf, isCorrect, capacity}
 use Rattle.buffers.specs.WordLaws.{posted-length}
 use Rattle.model.specs.Moves.{changed, Entry, stay, into, entering, taking, entries, byClock, advanced, arrival, arrivals, made}

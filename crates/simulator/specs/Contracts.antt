@@ -1,7 +1,7 @@
 -- What the public functions of the simulator do, by the model's definitions.
 use mathlib.Core.Path.{_≡_}
-use Rattle.model.specs.declared.Event.{Event}
-use Rattle.model.specs.declared.Setup.{Setup}
+use Rattle.types.specs.declared.Event.{Event}
+use Rattle.types.specs.declared.Setup.{Setup}
 use Rattle.model.specs.State.{State, After}
 use Rattle.model.specs.Opening.{opening}
 use Rattle.model.specs.Events.{applied}

@@ -7,8 +7,8 @@ use mathlib.Core.List.{List, [], _∷_}
 use Prim.Native.Nat.{ℕ, zero, suc, _<_}
 use lib.Dec.{T}
 use lib.ListN.{take}
-use Rattle.model.specs.declared.Event.{Event}
-use Rattle.model.specs.declared.Setup.{Setup}
+use Rattle.types.specs.declared.Event.{Event}
+use Rattle.types.specs.declared.Setup.{Setup}
 use Rattle.model.specs.State.{State, After, checkOf, accepted}
 use Rattle.model.specs.Checks.{tooFarAhead}
 use Rattle.model.specs.Lists.{after, sinceSettling, ticksSince}

@@ -4,17 +4,18 @@ use mathlib.Core.Bool.{Bool, true, false, _&&_, cond}
 use mathlib.Core.List.{List, [], _∷_}
 use Prim.Native.Nat.{ℕ, _+_, _^_, _≤_, _<_}
 use lib.ListN.{length, set}
-use Rattle.model.specs.declared.Plan.{Plan}
-use Rattle.model.specs.declared.Message.{Message}
-use Rattle.model.specs.declared.Message.the-variants.{View, Vote, Vc, Qc}
-use Rattle.model.specs.declared.Run.{Run}
-use Rattle.model.specs.declared.Processor.{Processor}
-use Rattle.model.specs.declared.Input.the-variants.{Tick}
-use Rattle.model.specs.declared.Sends.{Sends}
-use Rattle.model.specs.declared.Sends.the-variants.{Nothing, Vote as VoteFor, ViewAndVote}
-use Rattle.model.specs.Quantities.{correct}
+use Rattle.types.specs.declared.Plan.{Plan}
+use Rattle.types.specs.declared.Message.{Message}
+use Rattle.types.specs.declared.Message.the-variants.{View, Vote, Vc, Qc}
+use Rattle.types.specs.declared.Run.{Run}
+use Rattle.types.specs.declared.Processor.{Processor}
+use Rattle.types.specs.declared.Input.the-variants.{Tick}
+use Rattle.types.specs.declared.Sends.{Sends}
+use Rattle.types.specs.declared.Sends.the-variants.{Nothing, Vote as VoteFor, ViewAndVote}
+use Rattle.types.specs.Quantities.{correct}
 use Rattle.base.specs.Scan.{some}
-use Rattle.model.specs.State.{State, After, stateOf, viewStage, voteStage, clockOf, viewOf, isCorrect, enteredWord, added, viewIn, processorIn, stageOf, sentAt, posted, capacity, checkOf, refused, done}
+use Rattle.types.specs.Messages.{viewStage, voteStage, viewIn, processorIn, stageOf}
+use Rattle.model.specs.State.{State, After, stateOf, clockOf, viewOf, isCorrect, enteredWord, added, sentAt, posted, capacity, checkOf, refused, done}
 use Rattle.model.specs.Moves.{Change, toCorrect, heardTally, formedMessages, stay, entries, handling, advanced, arrival, made}
 use Rattle.model.specs.Checks.{judged, planOutside, faultyOutside, clockOutside, atEnd, late, namedOutside, notInitial, reachesEnd, overfull}
 use Rattle.model.specs.Events.{tickOnce, Ticks}

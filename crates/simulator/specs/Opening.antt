@@ -2,11 +2,11 @@
 use mathlib.Core.Bool.{cond}
 use mathlib.Core.List.{List}
 use Prim.Native.Nat.{ℕ}
-use Rattle.model.specs.declared.Plan.{Plan}
-use Rattle.model.specs.declared.Setup.{Setup}
-use Rattle.model.specs.declared.Sends.{Sends}
-use Rattle.model.specs.declared.Sends.the-variants.{Nothing, ViewAndVote}
-use Rattle.model.specs.Quantities.{correct}
+use Rattle.types.specs.declared.Plan.{Plan}
+use Rattle.types.specs.declared.Setup.{Setup}
+use Rattle.types.specs.declared.Sends.{Sends}
+use Rattle.types.specs.declared.Sends.the-variants.{Nothing, ViewAndVote}
+use Rattle.types.specs.Quantities.{correct}
 use Rattle.model.specs.Moves.{Change, entries}
 use Rattle.model.specs.Opening.{blankRun, firstEntry}
 

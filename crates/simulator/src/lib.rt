@@ -5,13 +5,13 @@ mod moves;
 mod opening;
 mod ticks;
 
-use model::Answer;
-use model::Applied;
-use model::Event;
-use model::Processor;
-use model::Run;
-use model::Sends;
-use model::Setup;
+use types::Answer;
+use types::Applied;
+use types::Event;
+use types::Processor;
+use types::Run;
+use types::Sends;
+use types::Setup;
 ghost use Rattle.model.specs.State.{stateOf, handedBack};
 ghost use Rattle.simulator.specs.Contracts.{Opens, Applies};
 

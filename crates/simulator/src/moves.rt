@@ -1,16 +1,17 @@
 // What one processor's entry, and a signature that a leader hears, do to the lent buffers. Nothing here refuses: the caller has seen that the
 // messages fit.
-use model::Message;
-use model::Plan;
-use model::Sends;
+use types::Message;
+use types::Plan;
+use types::Sends;
 ghost use mathlib.Core.Path.{_≡_};
 ghost use mathlib.Core.List.{[], _∷_};
 ghost use mathlib.Core.Bool.{cond};
 ghost use Prim.Native.Nat.{_+_, _-_, _<_, _≤_};
 ghost use lib.ListN.{length};
 ghost use Rattle.base.specs.Sets.{size};
-ghost use Rattle.model.specs.Quantities.{lead, correct};
-ghost use Rattle.model.specs.State.{enteredWord, added, addressee, capacity};
+ghost use Rattle.types.specs.Quantities.{lead, correct};
+ghost use Rattle.types.specs.Messages.{addressee};
+ghost use Rattle.model.specs.State.{enteredWord, added, capacity};
 ghost use Rattle.model.specs.Moves.{toCorrect, needed, ripe, certificate, toEach, heardTally, formedMessages};
 ghost use Rattle.simulator.specs.Inner.{Posts, sentBy, enteredBy};
 

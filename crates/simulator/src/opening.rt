@@ -1,15 +1,15 @@
 // The opening: buffers set to 0, the run that a setup starts, and the first entries.
 use crate::moves;
-use model::Plan;
-use model::Run;
-use model::Sends;
-use model::Setup;
+use types::Plan;
+use types::Run;
+use types::Sends;
+use types::Setup;
 ghost use mathlib.Core.Path.{_≡_};
 ghost use mathlib.Core.Bool.{cond};
 ghost use mathlib.Core.List.{_++_};
 ghost use Prim.Native.Nat.{_*_, _≤_, _<_};
 ghost use lib.ListN.{length, drop, replicate};
-ghost use Rattle.model.specs.Quantities.{correct};
+ghost use Rattle.types.specs.Quantities.{correct};
 ghost use Rattle.model.specs.State.{stateOf, capacity};
 ghost use Rattle.model.specs.Opening.{blankRun, opened};
 ghost use Rattle.checks.specs.Setups.{setupCheck};

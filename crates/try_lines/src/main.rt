@@ -4,9 +4,9 @@ use libc::STDOUT_FILENO;
 use lines::Next;
 use lines::Read;
 use lines::Written;
-use model::Event;
-use model::Message;
-use model::Setup;
+use types::Event;
+use types::Message;
+use types::Setup;
 ghost use Prim.Native.Nat.{_<_, _≤_};
 ghost use lib.ListN.{length};
 

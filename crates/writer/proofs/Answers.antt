@@ -11,8 +11,8 @@ use lib.Seq.{take-take}
 use lib.Dec.{eqb, ltb}
 use borrow.Author.Tests.{lt-ltb, le-ltb, eq-eqb, ne-eqb}
 use Rattle.base.specs.Choice.{or-first, or-second, or-neither, cond-yes, cond-no}
-use Rattle.model.specs.declared.Setup.{Setup}
-use Rattle.model.specs.Quantities.{nMost}
+use Rattle.types.specs.declared.Setup.{Setup}
+use Rattle.types.specs.Quantities.{nMost}
 use Rattle.lines.specs.declared.Written.{Written}
 use Rattle.lines.specs.declared.Written.the-variants.{Bytes, Refused}
 use Rattle.lines.specs.Forms.{newline, lineClocks, setupForm, lacksSetupForm}

@@ -6,7 +6,7 @@ use native.Mathlib.Omega.{arith}
 use mathlib.Core.List.{List, [], _∷_, _++_, append-assoc, append-nil}
 use lib.ListN.{length, getD, take, drop, length-append, take-append-drop}
 use lib.Seq.{take-suc, take-all, drop-cons}
-use Rattle.model.specs.Quantities.{nMost}
+use Rattle.types.specs.Quantities.{nMost}
 use Rattle.lines.specs.Decimal.{decimal}
 use Rattle.lines.specs.Forms.{blank, furtherClocks, clocksForm}
 use Rattle.lines.proofs.Decimals.{length-most}

@@ -4,10 +4,10 @@ use Prim.Native.Nat.{ℕ, _+_, _<_}
 use native.Mathlib.Omega.{arith}
 use mathlib.Core.List.{List}
 use lib.ListN.{length, take, length-append}
-use Rattle.model.specs.declared.Plan.{Plan}
-use Rattle.model.specs.declared.Message.{Message}
-use Rattle.model.specs.declared.Event.the-variants.{Deliver, Sign, Show, Settle, Tick}
-use Rattle.model.specs.State.{viewIn, processorIn}
+use Rattle.types.specs.declared.Plan.{Plan}
+use Rattle.types.specs.declared.Message.{Message}
+use Rattle.types.specs.declared.Event.the-variants.{Deliver, Sign, Show, Settle, Tick}
+use Rattle.types.specs.Messages.{viewIn, processorIn}
 use Rattle.lines.specs.Decimal.{decimal}
 use Rattle.lines.specs.Forms.{kindWord, messageForm, eventForm, furtherClocks, clocksForm, setupForm}
 use Rattle.writer.specs.Setups.{setupWith}

@@ -1,8 +1,8 @@
 -- A setup in parts, as the writer's functions take it.
 use Prim.Native.Nat.{ℕ}
 use mathlib.Core.List.{List, [], _∷_}
-use Rattle.model.specs.declared.Plan.{Plan}
-use Rattle.model.specs.declared.Setup.{Setup}
+use Rattle.types.specs.declared.Plan.{Plan}
+use Rattle.types.specs.declared.Setup.{Setup}
 use Rattle.lines.specs.Decimal.{decimal}
 use Rattle.lines.specs.Forms.{blank, openBracket, closeBracket, joined, clocksForm}
 

@@ -1,7 +1,7 @@
 // The forms of events: how many bytes they have, and their bytes written.
 use crate::pieces;
-use model::Event;
-use model::Message;
+use types::Event;
+use types::Message;
 ghost use mathlib.Core.Path.{_≡_};
 ghost use mathlib.Core.List.{[], _∷_};
 ghost use Prim.Native.Nat.{_≤_};

@@ -1,10 +1,10 @@
 // The form of a setup: how many bytes it has, and its bytes written. The clocks that are lent are those of the line, one of each processor.
 use crate::pieces;
-use model::Plan;
+use types::Plan;
 ghost use mathlib.Core.Path.{_≡_};
 ghost use Prim.Native.Nat.{_*_, _≤_, _<_};
 ghost use lib.ListN.{length};
-ghost use Rattle.model.specs.Quantities.{nMost};
+ghost use Rattle.types.specs.Quantities.{nMost};
 ghost use Rattle.lines.specs.Forms.{setupForm, clocksForm, furtherClocks};
 ghost use Rattle.lines.specs.Splitting.{lineMost};
 ghost use Rattle.writer.specs.Setups.{setupWith, startForm};

@@ -6,9 +6,9 @@ use Rattle.buffers.proofs.put.Statement.{statement}
 use Rattle.buffers.proofs.put.Tie as tie
 use Rattle.buffers.proofs.put.Reads as reads
 use Rattle.buffers.proofs.put.Lts as lts
-use Rattle.model.proofs.Message.kind.Reads as kind-reads
-use Rattle.model.proofs.Message.processor.Reads as processor-reads
-use Rattle.model.proofs.Message.view.Reads as view-reads
+use Rattle.types.proofs.Message.kind.Reads as kind-reads
+use Rattle.types.proofs.Message.processor.Reads as processor-reads
+use Rattle.types.proofs.Message.view.Reads as view-reads
 
 mul-at : tie.Need-mul-at
 mul-at c = search needs

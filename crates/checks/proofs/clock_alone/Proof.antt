@@ -8,8 +8,8 @@ use Rattle.checks.proofs.clock_alone.Tie as tie
 use Rattle.checks.proofs.clock_alone.Reads as reads
 use Rattle.checks.proofs.clock_alone.Lts as lts
 use Rattle.checks.proofs.count_support.Reads as count-support-reads
-use Rattle.model.proofs.Plan.correct.Reads as correct-reads
-use Rattle.model.proofs.Plan.tolerated.Reads as tolerated-reads
+use Rattle.types.proofs.Plan.correct.Reads as correct-reads
+use Rattle.types.proofs.Plan.tolerated.Reads as tolerated-reads
 
 correct-requires : tie.Need-correct-requires
 correct-requires c κs = tt

@@ -1,5 +1,5 @@
 use Rattle.pacemaker.proofs.LimitLaws.{time-word}
-use Rattle.model.specs.Quantities.{perLeader}
+use Rattle.types.specs.Quantities.{perLeader}
 use Rattle.base.specs.Choice.{and-rest, and-not-first}
 use lib.Dec.{leb}
 use Prim.Native.Nat.{ℕ}
@@ -8,8 +8,8 @@ use Rattle.checks.proofs.clock_too_high.Statement.{statement}
 use Rattle.checks.proofs.clock_too_high.Tie as tie
 use Rattle.checks.proofs.clock_too_high.Reads as reads
 use Rattle.checks.proofs.clock_too_high.Lts as lts
-use Rattle.model.proofs.Plan.start_limit.Reads as start-limit-reads
-use Rattle.model.proofs.Plan.correct.Reads as correct-reads
+use Rattle.types.proofs.Plan.start_limit.Reads as start-limit-reads
+use Rattle.types.proofs.Plan.correct.Reads as correct-reads
 
 correct-requires : tie.Need-correct-requires
 correct-requires c κs = tt

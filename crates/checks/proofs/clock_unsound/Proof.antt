@@ -5,7 +5,7 @@ use Rattle.checks.proofs.clock_unsound.Statement.{statement}
 use Rattle.checks.proofs.clock_unsound.Tie as tie
 use Rattle.checks.proofs.clock_unsound.Reads as reads
 use Rattle.checks.proofs.clock_unsound.Lts as lts
-use Rattle.model.proofs.Plan.correct.Reads as correct-reads
+use Rattle.types.proofs.Plan.correct.Reads as correct-reads
 use Rattle.pacemaker.proofs.unsound.Reads as unsound-reads
 
 correct-requires : tie.Need-correct-requires

@@ -7,7 +7,7 @@ use Rattle.checks.proofs.faulty_outside.Reads as reads
 use Rattle.checks.proofs.faulty_outside.Lts as lts
 use Rattle.base.proofs.size.Reads as size-reads
 use Rattle.checks.proofs.has_beyond.Reads as has-beyond-reads
-use Rattle.model.proofs.Plan.tolerated.Reads as tolerated-reads
+use Rattle.types.proofs.Plan.tolerated.Reads as tolerated-reads
 
 has-beyond-requires : tie.Need-has-beyond-requires
 has-beyond-requires c κs = tt

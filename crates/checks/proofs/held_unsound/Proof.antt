@@ -1,7 +1,7 @@
-use Rattle.model.specs.State.{viewIn, processorIn}
+use Rattle.types.specs.Messages.{viewIn, processorIn}
 use native.Mathlib.Omega.{arith}
 use Rattle.checks.proofs.Held.{four1, four2, four3, four4}
-use Rattle.model.specs.Quantities.{correct}
+use Rattle.types.specs.Quantities.{correct}
 use Rattle.base.specs.Choice.{not-yes, not-no}
 use borrow.Author.Tests.{le-leb, lt-leb}
 use mathlib.Core.Path.{sym, ap, _∙_}
@@ -9,11 +9,11 @@ use Rattle.checks.proofs.held_unsound.Statement.{statement}
 use Rattle.checks.proofs.held_unsound.Tie as tie
 use Rattle.checks.proofs.held_unsound.Reads as reads
 use Rattle.checks.proofs.held_unsound.Lts as lts
-use Rattle.model.proofs.PlanWords.{addressee-fits}
-use Rattle.model.proofs.Message.addressee.Reads as addressee-reads
-use Rattle.model.proofs.Message.processor.Reads as processor-reads
-use Rattle.model.proofs.Message.view.Reads as view-reads
-use Rattle.model.proofs.Plan.correct.Reads as correct-reads
+use Rattle.types.proofs.PlanWords.{addressee-fits}
+use Rattle.types.proofs.Message.addressee.Reads as addressee-reads
+use Rattle.types.proofs.Message.processor.Reads as processor-reads
+use Rattle.types.proofs.Message.view.Reads as view-reads
+use Rattle.types.proofs.Plan.correct.Reads as correct-reads
 
 view-requires : tie.Need-view-requires
 view-requires c κs = tt

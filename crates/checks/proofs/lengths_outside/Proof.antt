@@ -1,7 +1,7 @@
 use mathlib.Core.Path.{sym, refl}
 use native.Mathlib.Omega.{arith}
 use mathlib.Core.Bool.{_||_}
-use Rattle.model.specs.Quantities.{rowWords, networkLeast, networkMost}
+use Rattle.types.specs.Quantities.{rowWords, networkLeast, networkMost}
 use lib.Dec.{ltb}
 use Prim.Native.Nat.{_*_}
 use Rattle.base.specs.Choice.{or-first, or-second, or-neither, or-rest}

@@ -1,4 +1,4 @@
-use Rattle.model.specs.Quantities.{correct}
+use Rattle.types.specs.Quantities.{correct}
 use Rattle.checks.proofs.Arithmetic.{near-above, near-below, far-below}
 use Rattle.base.specs.Choice.{and-both, and-not-first, and-not-second}
 use Rattle.base.specs.Count.{bit}
@@ -9,7 +9,7 @@ use Rattle.checks.proofs.support.Statement.{statement}
 use Rattle.checks.proofs.support.Tie as tie
 use Rattle.checks.proofs.support.Reads as reads
 use Rattle.checks.proofs.support.Lts as lts
-use Rattle.model.proofs.Plan.correct.Reads as correct-reads
+use Rattle.types.proofs.Plan.correct.Reads as correct-reads
 
 correct-requires : tie.Need-correct-requires
 correct-requires c κs = tt

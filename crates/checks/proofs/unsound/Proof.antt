@@ -16,7 +16,7 @@ use Rattle.checks.proofs.limits_broken.Reads as limits-broken-reads
 use Rattle.checks.proofs.messages_unsound.Reads as messages-unsound-reads
 use Rattle.checks.proofs.settling_unsound.Reads as settling-unsound-reads
 use Rattle.checks.proofs.tail_not_zero.Reads as tail-not-zero-reads
-use Rattle.model.proofs.Plan.end_time.Reads as end-time-reads
+use Rattle.types.proofs.Plan.end_time.Reads as end-time-reads
 
 limits-broken-requires : tie.Need-limits-broken-requires
 limits-broken-requires c κs = tt

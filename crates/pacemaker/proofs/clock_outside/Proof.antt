@@ -1,5 +1,5 @@
 use borrow.Author.Needs.{needs}
-use Rattle.model.specs.Quantities.{clockTime}
+use Rattle.types.specs.Quantities.{clockTime}
 use Rattle.pacemaker.proofs.LimitLaws.{past-views, next-within, next-word, outside-end, outside-view, outside-next}
 use mathlib.Core.Path.{sym, ap, _∙_}
 use native.Mathlib.Omega.{arith}
@@ -7,7 +7,7 @@ use Rattle.pacemaker.proofs.clock_outside.Statement.{statement}
 use Rattle.pacemaker.proofs.clock_outside.Tie as tie
 use Rattle.pacemaker.proofs.clock_outside.Reads as reads
 use Rattle.pacemaker.proofs.clock_outside.Lts as lts
-use Rattle.model.proofs.Plan.next_initial.Reads as next-initial-reads
+use Rattle.types.proofs.Plan.next_initial.Reads as next-initial-reads
 use Rattle.pacemaker.proofs.time_of.Reads as time-of-reads
 
 returns : tie.Need-returns

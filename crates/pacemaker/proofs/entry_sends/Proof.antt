@@ -5,7 +5,7 @@ use Rattle.pacemaker.proofs.entry_sends.Statement.{statement}
 use Rattle.pacemaker.proofs.entry_sends.Tie as tie
 use Rattle.pacemaker.proofs.entry_sends.Reads as reads
 use Rattle.pacemaker.proofs.entry_sends.Lts as lts
-use Rattle.model.proofs.Plan.initial.Reads as initial-reads
+use Rattle.types.proofs.Plan.initial.Reads as initial-reads
 
 initial-requires : tie.Need-initial-requires
 initial-requires c κs = search needs

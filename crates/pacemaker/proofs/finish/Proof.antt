@@ -1,6 +1,6 @@
 use native.Mathlib.Omega.{arith}
 use borrow.Author.Tests.{le-leb, lt-leb}
-use Rattle.model.specs.Quantities.{endTime}
+use Rattle.types.specs.Quantities.{endTime}
 use Rattle.pacemaker.proofs.StepLaws.{as-moved, gives-move, ends, goes-on}
 use borrow.Author.Needs.{needs}
 use Rattle.pacemaker.proofs.finish.Statement.{statement}

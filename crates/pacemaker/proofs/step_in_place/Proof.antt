@@ -38,19 +38,19 @@ use denote.Triple.Table.{entered, cited}
 use denote.Triple.Clauses.{ensured, lasts}
 use denote.Triple.Walked.{says, Stays, stay-ref, stay-none, walkOf, AllGo, goes-none, goes-ref, Walks, ends-at, walked, walk-meets}
 use denote.Exit.{yes}
-use Rattle.model.specs.declared.Plan.{Plan}
-use Rattle.model.specs.declared.Processor.{Processor}
-use Rattle.model.specs.declared.Input.{Input}
+use Rattle.types.specs.declared.Plan.{Plan}
+use Rattle.types.specs.declared.Processor.{Processor}
+use Rattle.types.specs.declared.Input.{Input}
 use Rattle.model.specs.Processors.{Gives, stepped}
 use Rattle.pacemaker.specs.declared.Outcome.{Outcome}
-use Rattle.model.proofs.Plan as P
-use Rattle.model.proofs.Plan.Laws as P′
-use Rattle.model.proofs.Processor as T
-use Rattle.model.proofs.Processor.Laws as T′
-use Rattle.model.proofs.Input as I
-use Rattle.model.proofs.Input.Laws as I′
-use Rattle.model.proofs.Stepped as N
-use Rattle.model.proofs.Stepped.Laws as N′
+use Rattle.types.proofs.Plan as P
+use Rattle.types.proofs.Plan.Laws as P′
+use Rattle.types.proofs.Processor as T
+use Rattle.types.proofs.Processor.Laws as T′
+use Rattle.types.proofs.Input as I
+use Rattle.types.proofs.Input.Laws as I′
+use Rattle.types.proofs.Stepped as N
+use Rattle.types.proofs.Stepped.Laws as N′
 use Rattle.pacemaker.proofs.Outcome as O
 use Rattle.pacemaker.proofs.Outcome.Laws as O′
 use Rattle.pacemaker.proofs.step as step

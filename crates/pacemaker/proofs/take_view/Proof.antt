@@ -6,7 +6,7 @@ use Rattle.pacemaker.proofs.take_view.Statement.{statement}
 use Rattle.pacemaker.proofs.take_view.Tie as tie
 use Rattle.pacemaker.proofs.take_view.Reads as reads
 use Rattle.pacemaker.proofs.take_view.Lts as lts
-use Rattle.model.proofs.Plan.initial.Reads as initial-reads
+use Rattle.types.proofs.Plan.initial.Reads as initial-reads
 use Rattle.pacemaker.proofs.enter.Reads as enter-reads
 use Rattle.pacemaker.proofs.refuse.Reads as refuse-reads
 use Rattle.pacemaker.proofs.remain.Reads as remain-reads

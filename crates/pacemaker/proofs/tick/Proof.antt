@@ -8,7 +8,7 @@ use Rattle.pacemaker.proofs.tick.Statement.{statement}
 use Rattle.pacemaker.proofs.tick.Tie as tie
 use Rattle.pacemaker.proofs.tick.Reads as reads
 use Rattle.pacemaker.proofs.tick.Lts as lts
-use Rattle.model.proofs.Plan.initial.Reads as initial-reads
+use Rattle.types.proofs.Plan.initial.Reads as initial-reads
 use Rattle.pacemaker.proofs.enter.Reads as enter-reads
 use Rattle.pacemaker.proofs.remain.Reads as remain-reads
 

@@ -5,7 +5,7 @@ use Rattle.pacemaker.proofs.time_of.Statement.{statement}
 use Rattle.pacemaker.proofs.time_of.Tie as tie
 use Rattle.pacemaker.proofs.time_of.Reads as reads
 use Rattle.pacemaker.proofs.time_of.Lts as lts
-use Rattle.model.proofs.Plan.clock_time.Reads as clock-time-reads
+use Rattle.types.proofs.Plan.clock_time.Reads as clock-time-reads
 
 clock-time-requires : tie.Need-clock-time-requires
 clock-time-requires c κs = search needs

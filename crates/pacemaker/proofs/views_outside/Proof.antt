@@ -6,7 +6,7 @@ use Rattle.pacemaker.proofs.views_outside.Statement.{statement}
 use Rattle.pacemaker.proofs.views_outside.Tie as tie
 use Rattle.pacemaker.proofs.views_outside.Reads as reads
 use Rattle.pacemaker.proofs.views_outside.Lts as lts
-use Rattle.model.proofs.Plan.initial.Reads as initial-reads
+use Rattle.types.proofs.Plan.initial.Reads as initial-reads
 
 returns : tie.Need-returns
 returns c = sym (or-first _ _ (or-first _ _ (lt-ltb _ _ (c .if1 .taken))))

@@ -6,7 +6,7 @@ use Rattle.reader.proofs.ending.Statement.{statement}
 use Rattle.reader.proofs.ending.Tie as tie
 use Rattle.reader.proofs.ending.Reads as reads
 use Rattle.reader.proofs.ending.Lts as lts
-use Rattle.model.proofs.Event.lacks_form.Reads as lacks-form-reads
+use Rattle.types.proofs.Event.lacks_form.Reads as lacks-form-reads
 use Rattle.reader.proofs.after_close_bracket.Reads as after-close-bracket-reads
 
 after-close-bracket-requires : tie.Need-after-close-bracket-requires

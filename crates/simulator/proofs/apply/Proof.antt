@@ -1,5 +1,5 @@
 use Rattle.simulator.proofs.Happening.{refused-is, lacking, unsound-handed, ticks-applied, ticks-some}
-use Rattle.model.specs.Checks.{lacksForm}
+use Rattle.types.specs.Messages.{lacksForm}
 use Rattle.model.specs.State.{State, stateOf}
 use mathlib.Core.Path.{_∙_, ap, sym}
 use borrow.Author.Needs.{needs}
@@ -9,7 +9,7 @@ use Rattle.simulator.proofs.apply.Reads as reads
 use Rattle.simulator.proofs.apply.Lts as lts
 use Rattle.checks.proofs.unsound.Reads as unsound-reads
 use Rattle.simulator.proofs.events.deliver.Reads as deliver-reads
-use Rattle.model.proofs.Event.lacks_form.Reads as lacks-form-reads
+use Rattle.types.proofs.Event.lacks_form.Reads as lacks-form-reads
 use Rattle.simulator.proofs.events.refuse.Reads as refuse-reads
 use Rattle.simulator.proofs.events.settle.Reads as settle-reads
 use Rattle.simulator.proofs.events.show.Reads as show-reads

@@ -6,7 +6,7 @@ use Rattle.writer.proofs.write_event.Statement.{statement}
 use Rattle.writer.proofs.write_event.Tie as tie
 use Rattle.writer.proofs.write_event.Reads as reads
 use Rattle.writer.proofs.write_event.Lts as lts
-use Rattle.model.proofs.Event.lacks_form.Reads as lacks-form-reads
+use Rattle.types.proofs.Event.lacks_form.Reads as lacks-form-reads
 use Rattle.writer.proofs.events.event_length.Reads as event-length-reads
 use Rattle.writer.proofs.events.put_event.Reads as put-event-reads
 use Rattle.writer.proofs.pieces.put_byte.Reads as put-byte-reads

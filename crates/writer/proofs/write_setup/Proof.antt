@@ -1,6 +1,6 @@
 use lib.Seq.{length-take-le}
 use Prim.Native.Nat.{_≤_}
-use Rattle.model.specs.Quantities.{tableClocks}
+use Rattle.types.specs.Quantities.{tableClocks}
 use native.Mathlib.Omega.{arith}
 use mathlib.Core.Path.{_≡_, sym}
 use lib.ListN.{length}

@@ -1,15 +1,15 @@
 use Rattle.simulator.proofs.Deciding.{no-such-processor, no-such-view, second-stage, at-initial, not-at-initial}
-use Rattle.model.specs.Quantities.{initial}
+use Rattle.types.specs.Quantities.{initial}
 use mathlib.Core.Path.{_∙_, sym, ap}
 use borrow.Author.Needs.{needs}
 use Rattle.simulator.proofs.events.check_named.Statement.{statement}
 use Rattle.simulator.proofs.events.check_named.Tie as tie
 use Rattle.simulator.proofs.events.check_named.Reads as reads
 use Rattle.simulator.proofs.events.check_named.Lts as lts
-use Rattle.model.proofs.Message.processor.Reads as processor-reads
-use Rattle.model.proofs.Message.stage.Reads as stage-reads
-use Rattle.model.proofs.Message.view.Reads as view-reads
-use Rattle.model.proofs.Plan.initial.Reads as initial-reads
+use Rattle.types.proofs.Message.processor.Reads as processor-reads
+use Rattle.types.proofs.Message.stage.Reads as stage-reads
+use Rattle.types.proofs.Message.view.Reads as view-reads
+use Rattle.types.proofs.Plan.initial.Reads as initial-reads
 
 processor-requires : tie.Need-processor-requires
 processor-requires c κs = search needs

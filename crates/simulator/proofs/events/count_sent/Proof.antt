@@ -1,6 +1,6 @@
 use Rattle.simulator.proofs.Fitness.{planned-of}
 use Rattle.simulator.proofs.Sending.{formed-count, sent-count}
-use Rattle.model.specs.State.{viewStage, voteStage}
+use Rattle.types.specs.Messages.{viewStage, voteStage}
 use native.Mathlib.Omega.{arith}
 use borrow.Author.Needs.{needs}
 use Rattle.simulator.proofs.events.count_sent.Statement.{statement}

@@ -1,6 +1,6 @@
-use Rattle.model.proofs.PlanWords.{lead-fits}
+use Rattle.types.proofs.PlanWords.{lead-fits}
 use Rattle.simulator.proofs.Fitness.{lead-low}
-use Rattle.model.specs.Quantities.{lead}
+use Rattle.types.specs.Quantities.{lead}
 use lib.ListN.{getD}
 use native.Mathlib.Omega.{arith}
 use Prim.Native.Nat.{ℕ}
@@ -10,7 +10,7 @@ use Rattle.simulator.proofs.events.leader_view.Statement.{statement}
 use Rattle.simulator.proofs.events.leader_view.Tie as tie
 use Rattle.simulator.proofs.events.leader_view.Reads as reads
 use Rattle.simulator.proofs.events.leader_view.Lts as lts
-use Rattle.model.proofs.Plan.lead.Reads as lead-reads
+use Rattle.types.proofs.Plan.lead.Reads as lead-reads
 
 lead-requires : tie.Need-lead-requires
 lead-requires c κs = search needs

@@ -4,7 +4,7 @@ use Rattle.simulator.specs.Inner.{namedCheck}
 use Rattle.pacemaker.proofs.LimitLaws.{within}
 use Rattle.model.specs.Checks.{exists}
 use Rattle.model.specs.State.{State, stateOf}
-use Rattle.model.specs.Quantities.{correct}
+use Rattle.types.specs.Quantities.{correct}
 use native.Mathlib.Omega.{arith}
 use Prim.Native.Nat.{ℕ}
 use mathlib.Core.Bool.{Bool}
@@ -14,10 +14,10 @@ use Rattle.simulator.proofs.events.show.Statement.{statement}
 use Rattle.simulator.proofs.events.show.Tie as tie
 use Rattle.simulator.proofs.events.show.Reads as reads
 use Rattle.simulator.proofs.events.show.Lts as lts
-use Rattle.model.proofs.Message.processor.Reads as processor-reads
-use Rattle.model.proofs.Message.stage.Reads as stage-reads
-use Rattle.model.proofs.Message.view.Reads as view-reads
-use Rattle.model.proofs.Plan.correct.Reads as correct-reads
+use Rattle.types.proofs.Message.processor.Reads as processor-reads
+use Rattle.types.proofs.Message.stage.Reads as stage-reads
+use Rattle.types.proofs.Message.view.Reads as view-reads
+use Rattle.types.proofs.Plan.correct.Reads as correct-reads
 use Rattle.simulator.proofs.events.check_named.Reads as check-named-reads
 use Rattle.simulator.proofs.events.finish.Reads as finish-reads
 use Rattle.simulator.proofs.events.has_certificate.Reads as has-certificate-reads

@@ -3,7 +3,7 @@ use Rattle.simulator.proofs.Happening.{refused-is, done-is, sign-named,
 use Rattle.simulator.proofs.Fitness.{fit-of}
 use Rattle.pacemaker.proofs.LimitLaws.{within}
 use Rattle.model.specs.State.{State, stateOf}
-use Rattle.model.specs.Quantities.{lead, correct}
+use Rattle.types.specs.Quantities.{lead, correct}
 use native.Mathlib.Omega.{arith}
 use Prim.Native.Nat.{ℕ}
 use mathlib.Core.Path.{_≡_, _∙_, ap, sym, refl}
@@ -12,9 +12,9 @@ use Rattle.simulator.proofs.events.sign.Statement.{statement}
 use Rattle.simulator.proofs.events.sign.Tie as tie
 use Rattle.simulator.proofs.events.sign.Reads as reads
 use Rattle.simulator.proofs.events.sign.Lts as lts
-use Rattle.model.proofs.Message.processor.Reads as processor-reads
-use Rattle.model.proofs.Message.view.Reads as view-reads
-use Rattle.model.proofs.Plan.correct.Reads as correct-reads
+use Rattle.types.proofs.Message.processor.Reads as processor-reads
+use Rattle.types.proofs.Message.view.Reads as view-reads
+use Rattle.types.proofs.Plan.correct.Reads as correct-reads
 use Rattle.simulator.proofs.events.check_named.Reads as check-named-reads
 use Rattle.simulator.proofs.events.done.Reads as done-reads
 use Rattle.simulator.proofs.events.finish.Reads as finish-reads

@@ -3,7 +3,7 @@ use Rattle.simulator.proofs.Sending.{sent-both}
 use Rattle.model.specs.State.{enteredWord}
 use Rattle.buffers.specs.Tally.{added-word}
 use Rattle.model.specs.Moves.{toCorrect}
-use Rattle.model.specs.declared.Message.the-variants.{View, Vote}
+use Rattle.types.specs.declared.Message.the-variants.{View, Vote}
 use lib.ListN.{length, length-append}
 use native.Mathlib.Omega.{arith}
 use mathlib.Core.List.{[], _∷_}

@@ -1,13 +1,13 @@
-use Rattle.model.proofs.PlanWords.{lead-fits}
-use Rattle.model.specs.Quantities.{correct}
+use Rattle.types.proofs.PlanWords.{lead-fits}
+use Rattle.types.specs.Quantities.{correct}
 use mathlib.Core.Path.{_∙_, ap}
 use borrow.Author.Needs.{needs}
 use Rattle.simulator.proofs.moves.led.Statement.{statement}
 use Rattle.simulator.proofs.moves.led.Tie as tie
 use Rattle.simulator.proofs.moves.led.Reads as reads
 use Rattle.simulator.proofs.moves.led.Lts as lts
-use Rattle.model.proofs.Plan.correct.Reads as correct-reads
-use Rattle.model.proofs.Plan.lead.Reads as lead-reads
+use Rattle.types.proofs.Plan.correct.Reads as correct-reads
+use Rattle.types.proofs.Plan.lead.Reads as lead-reads
 
 lead-requires : tie.Need-lead-requires
 lead-requires c κs = search needs

@@ -1,5 +1,5 @@
 use Rattle.simulator.proofs.Posting.{sends-yes, sends-no}
-use Rattle.model.specs.Quantities.{correct}
+use Rattle.types.specs.Quantities.{correct}
 use mathlib.Core.Path.{sym, ap, _∙_}
 use borrow.Author.Needs.{needs}
 use Rattle.simulator.proofs.moves.send.Statement.{statement}
@@ -7,9 +7,9 @@ use Rattle.simulator.proofs.moves.send.Tie as tie
 use Rattle.simulator.proofs.moves.send.Reads as reads
 use Rattle.simulator.proofs.moves.send.Lts as lts
 use Rattle.buffers.proofs.append.Reads as append-reads
-use Rattle.model.proofs.Plan.correct.Reads as correct-reads
-use Rattle.model.proofs.PlanWords.{addressee-fits}
-use Rattle.model.proofs.Message.addressee.Reads as addressee-reads
+use Rattle.types.proofs.Plan.correct.Reads as correct-reads
+use Rattle.types.proofs.PlanWords.{addressee-fits}
+use Rattle.types.proofs.Message.addressee.Reads as addressee-reads
 
 addressee-requires : tie.Need-addressee-requires
 addressee-requires c κs = search needs

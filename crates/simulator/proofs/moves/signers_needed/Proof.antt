@@ -5,7 +5,7 @@ use Rattle.simulator.proofs.moves.signers_needed.Statement.{statement}
 use Rattle.simulator.proofs.moves.signers_needed.Tie as tie
 use Rattle.simulator.proofs.moves.signers_needed.Reads as reads
 use Rattle.simulator.proofs.moves.signers_needed.Lts as lts
-use Rattle.model.proofs.Plan.tolerated.Reads as tolerated-reads
+use Rattle.types.proofs.Plan.tolerated.Reads as tolerated-reads
 
 tolerated-requires : tie.Need-tolerated-requires
 tolerated-requires c κs = search needs

@@ -4,7 +4,7 @@ use Rattle.simulator.proofs.opening.start_clock.Statement.{statement}
 use Rattle.simulator.proofs.opening.start_clock.Tie as tie
 use Rattle.simulator.proofs.opening.start_clock.Reads as reads
 use Rattle.simulator.proofs.opening.start_clock.Lts as lts
-use Rattle.model.proofs.Plan.correct.Reads as correct-reads
+use Rattle.types.proofs.Plan.correct.Reads as correct-reads
 
 correct-requires : tie.Need-correct-requires
 correct-requires c κs = search needs

@@ -5,7 +5,7 @@ use Rattle.simulator.proofs.ticks.arrive.Statement.{statement}
 use Rattle.simulator.proofs.ticks.arrive.Tie as tie
 use Rattle.simulator.proofs.ticks.arrive.Reads as reads
 use Rattle.simulator.proofs.ticks.arrive.Lts as lts
-use Rattle.model.proofs.Plan.correct.Reads as correct-reads
+use Rattle.types.proofs.Plan.correct.Reads as correct-reads
 use Rattle.simulator.proofs.ticks.react.Reads as react-reads
 
 correct-requires : tie.Need-correct-requires

@@ -5,8 +5,8 @@ use Rattle.writer.proofs.events.message_length.Statement.{statement}
 use Rattle.writer.proofs.events.message_length.Tie as tie
 use Rattle.writer.proofs.events.message_length.Reads as reads
 use Rattle.writer.proofs.events.message_length.Lts as lts
-use Rattle.model.proofs.Message.processor.Reads as processor-reads
-use Rattle.model.proofs.Message.view.Reads as view-reads
+use Rattle.types.proofs.Message.processor.Reads as processor-reads
+use Rattle.types.proofs.Message.view.Reads as view-reads
 use Rattle.writer.proofs.events.kind_length.Reads as kind-length-reads
 use Rattle.writer.proofs.pieces.width.Reads as width-reads
 

@@ -5,8 +5,8 @@ use Rattle.writer.proofs.events.put_message.Statement.{statement}
 use Rattle.writer.proofs.events.put_message.Tie as tie
 use Rattle.writer.proofs.events.put_message.Reads as reads
 use Rattle.writer.proofs.events.put_message.Lts as lts
-use Rattle.model.proofs.Message.processor.Reads as processor-reads
-use Rattle.model.proofs.Message.view.Reads as view-reads
+use Rattle.types.proofs.Message.processor.Reads as processor-reads
+use Rattle.types.proofs.Message.view.Reads as view-reads
 use Rattle.writer.proofs.events.put_kind.Reads as put-kind-reads
 use Rattle.writer.proofs.pieces.put_byte.Reads as put-byte-reads
 use Rattle.writer.proofs.pieces.put_spaced.Reads as put-spaced-reads

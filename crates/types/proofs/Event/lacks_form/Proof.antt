@@ -1,10 +1,10 @@
 use mathlib.Core.Path.{refl}
 use borrow.Author.Needs.{needs}
-use Rattle.model.proofs.Event.lacks_form.Statement.{statement}
-use Rattle.model.proofs.Event.lacks_form.Tie as tie
-use Rattle.model.proofs.Event.lacks_form.Reads as reads
-use Rattle.model.proofs.Event.lacks_form.Lts as lts
-use Rattle.model.proofs.Message.is_signature.Reads as is-signature-reads
+use Rattle.types.proofs.Event.lacks_form.Statement.{statement}
+use Rattle.types.proofs.Event.lacks_form.Tie as tie
+use Rattle.types.proofs.Event.lacks_form.Reads as reads
+use Rattle.types.proofs.Event.lacks_form.Lts as lts
+use Rattle.types.proofs.Message.is_signature.Reads as is-signature-reads
 
 enum-told : tie.Need-enum-told
 enum-told c = search needs

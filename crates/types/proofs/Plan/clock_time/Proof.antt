@@ -1,10 +1,10 @@
-use Rattle.model.proofs.PlanWords.{small-fits, quotient-fits, quotient-large, time-fits, time-large, time-zero}
+use Rattle.types.proofs.PlanWords.{small-fits, quotient-fits, quotient-large, time-fits, time-large, time-zero}
 use native.Mathlib.Omega.{arith}
 use borrow.Author.Needs.{needs}
-use Rattle.model.proofs.Plan.clock_time.Statement.{statement}
-use Rattle.model.proofs.Plan.clock_time.Tie as tie
-use Rattle.model.proofs.Plan.clock_time.Reads as reads
-use Rattle.model.proofs.Plan.clock_time.Lts as lts
+use Rattle.types.proofs.Plan.clock_time.Statement.{statement}
+use Rattle.types.proofs.Plan.clock_time.Tie as tie
+use Rattle.types.proofs.Plan.clock_time.Reads as reads
+use Rattle.types.proofs.Plan.clock_time.Lts as lts
 
 mul-result : tie.Need-mul-result
 mul-result c = omega (arith, small-fits _ _ (c .before .before .before .if1 .taken) (c .before .if2 .taken))

@@ -1,11 +1,11 @@
-use Rattle.model.proofs.PlanWords.{next-fits, next-large}
-use Rattle.model.specs.Quantities.{perLeader}
+use Rattle.types.proofs.PlanWords.{next-fits, next-large}
+use Rattle.types.specs.Quantities.{perLeader}
 use native.Mathlib.Omega.{arith}
 use borrow.Author.Needs.{needs}
-use Rattle.model.proofs.Plan.next_initial.Statement.{statement}
-use Rattle.model.proofs.Plan.next_initial.Tie as tie
-use Rattle.model.proofs.Plan.next_initial.Reads as reads
-use Rattle.model.proofs.Plan.next_initial.Lts as lts
+use Rattle.types.proofs.Plan.next_initial.Statement.{statement}
+use Rattle.types.proofs.Plan.next_initial.Tie as tie
+use Rattle.types.proofs.Plan.next_initial.Reads as reads
+use Rattle.types.proofs.Plan.next_initial.Lts as lts
 
 mul-row : tie.Need-mul-row
 mul-row c = search needs

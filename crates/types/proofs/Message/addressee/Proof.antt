@@ -1,10 +1,10 @@
 use mathlib.Core.Path.{_∙_, refl}
 use borrow.Author.Needs.{needs}
-use Rattle.model.proofs.Message.addressee.Statement.{statement}
-use Rattle.model.proofs.Message.addressee.Tie as tie
-use Rattle.model.proofs.Message.addressee.Reads as reads
-use Rattle.model.proofs.Message.addressee.Lts as lts
-use Rattle.model.proofs.Plan.lead.Reads as lead-reads
+use Rattle.types.proofs.Message.addressee.Statement.{statement}
+use Rattle.types.proofs.Message.addressee.Tie as tie
+use Rattle.types.proofs.Message.addressee.Reads as reads
+use Rattle.types.proofs.Message.addressee.Lts as lts
+use Rattle.types.proofs.Plan.lead.Reads as lead-reads
 
 enum-known-self : tie.Need-enum-known-self
 enum-known-self c = search needs

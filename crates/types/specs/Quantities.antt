@@ -3,7 +3,7 @@ use mathlib.Core.Bool.{Bool, not, _&&_}
 use Prim.Native.Nat.{ℕ, _+_, _-_, _*_, _/_, _%_}
 use lib.Dec.{eqb, ltb}
 use Rattle.base.specs.Sets.{member}
-use Rattle.model.specs.declared.Plan.{Plan}
+use Rattle.types.specs.declared.Plan.{Plan}
 
 -- "n, the cabinets: 4 to 64"
 abbrev pub nLeast : ℕ

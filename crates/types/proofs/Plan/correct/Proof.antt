@@ -1,10 +1,10 @@
 use Rattle.base.specs.Choice.{choices, parts, flag}
 use mathlib.Core.Path.{sym}
 use borrow.Author.Needs.{needs}
-use Rattle.model.proofs.Plan.correct.Statement.{statement}
-use Rattle.model.proofs.Plan.correct.Tie as tie
-use Rattle.model.proofs.Plan.correct.Reads as reads
-use Rattle.model.proofs.Plan.correct.Lts as lts
+use Rattle.types.proofs.Plan.correct.Statement.{statement}
+use Rattle.types.proofs.Plan.correct.Tie as tie
+use Rattle.types.proofs.Plan.correct.Reads as reads
+use Rattle.types.proofs.Plan.correct.Lts as lts
 use Rattle.base.proofs.member.Reads as member-reads
 
 returns : tie.Need-returns

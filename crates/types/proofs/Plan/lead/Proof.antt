@@ -1,10 +1,10 @@
-use Rattle.model.specs.Quantities.{perLeader}
+use Rattle.types.specs.Quantities.{perLeader}
 use Rattle.base.specs.Choice.{choices}
 use borrow.Author.Needs.{needs}
-use Rattle.model.proofs.Plan.lead.Statement.{statement}
-use Rattle.model.proofs.Plan.lead.Tie as tie
-use Rattle.model.proofs.Plan.lead.Reads as reads
-use Rattle.model.proofs.Plan.lead.Lts as lts
+use Rattle.types.proofs.Plan.lead.Statement.{statement}
+use Rattle.types.proofs.Plan.lead.Tie as tie
+use Rattle.types.proofs.Plan.lead.Reads as reads
+use Rattle.types.proofs.Plan.lead.Lts as lts
 
 returns : tie.Need-returns
 unfolding perLeader

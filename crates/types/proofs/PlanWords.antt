@@ -8,11 +8,11 @@ use native.Mathlib.Nat.{mul-zero, mul-le-mul, div-lt-iff-lt-mul, le-div-iff-mul-
 use lib.Dec.{leb, ltb}
 use borrow.Author.Tests.{lt-ltb, le-ltb, ne-eqb}
 use Rattle.base.specs.Choice.{cond-yes, cond-no}
-use Rattle.model.specs.declared.Plan.{Plan}
-use Rattle.model.specs.declared.Message.{Message}
-use Rattle.model.specs.Quantities.{lead, nextInitial, clockTime}
-use Rattle.model.specs.State.{kindOf, viewIn, processorIn, lastSignatureKind, addressee}
-use Rattle.model.specs.PlanFunctions.{leadWord, addresseeWord, nextInitialWord, clockTimeWord}
+use Rattle.types.specs.declared.Plan.{Plan}
+use Rattle.types.specs.declared.Message.{Message}
+use Rattle.types.specs.Quantities.{lead, nextInitial, clockTime}
+use Rattle.types.specs.Messages.{kindOf, viewIn, processorIn, lastSignatureKind, addressee}
+use Rattle.types.specs.PlanFunctions.{leadWord, addresseeWord, nextInitialWord, clockTimeWord}
 
 pub small-fits : (w g : ℕ) → w < 4294967296 → g < 4294967296 → w * g < 2 ^ 64
 small-fits w g l h = let a : w ≤ 4294967295 = omega arith in let b : g ≤ 4294967295 = omega arith in omega (arith, mul-le-mul a b)

@@ -2,10 +2,10 @@
 use mathlib.Core.Bool.{cond}
 use Prim.Native.Nat.{ℕ, _-_, _^_}
 use lib.Dec.{eqb, leb, ltb}
-use Rattle.model.specs.declared.Plan.{Plan}
-use Rattle.model.specs.declared.Message.{Message}
-use Rattle.model.specs.Quantities.{lead, nextInitial, clockTime}
-use Rattle.model.specs.State.{kindOf, viewIn, processorIn, lastSignatureKind}
+use Rattle.types.specs.declared.Plan.{Plan}
+use Rattle.types.specs.declared.Message.{Message}
+use Rattle.types.specs.Quantities.{lead, nextInitial, clockTime}
+use Rattle.types.specs.Messages.{kindOf, viewIn, processorIn, lastSignatureKind}
 
 -- of no processors none leads: 0
 abbrev pub leadWord : Plan → ℕ → ℕ

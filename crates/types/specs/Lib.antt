@@ -1,0 +1,4 @@
+-- What the types' own functions answer.
+pub mod Quantities
+pub mod Messages
+pub mod PlanFunctions

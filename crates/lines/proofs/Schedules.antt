@@ -15,7 +15,7 @@ use Rattle.types.specs.declared.Event.{Event}
 use Rattle.types.specs.declared.Event.the-variants.{Deliver, Sign, Show, Settle, Tick}
 use Rattle.types.specs.declared.Setup.{Setup}
 use Rattle.lines.specs.Decimal.{digit, digitsIn, decimal}
-use Rattle.lines.specs.Forms.{newline, closeBracket, messageForm, eventForm, furtherClocks, clocksForm, lineClocks, setupForm, EventLine, SetupLine}
+use Rattle.lines.specs.Forms.{newline, closeBracket, messageForm, eventForm, furtherClocks, clocksForm, lineClocks, setupForm, EventLine, SetupLine, blank, openBracket, joined, spaced, messageFields, headingNumbers}
 use Rattle.lines.specs.Contracts.{line}
 use Rattle.lines.specs.Splitting.{beforeNewline, ended, linesAfter, inputLines}
 use Rattle.lines.specs.Promises.{Formed, scheduleOf, CutsBack}
@@ -45,14 +45,19 @@ clean-number : (n : ℕ) (r : List ℕ) → T (clean r) → T (clean (decimal n 
 unfolding decimal
 clean-number n r h = clean-append (digitsIn 19 n) r (clean-digits 19 n) h
 
+-- numbers behind blanks, and what follows them
+clean-spaced : (l : List ℕ) (r : List (List ℕ)) → T (clean (joined r)) → T (clean (joined (spaced l ++ r)))
+clean-spaced [] r h = h
+clean-spaced (n ∷ l) r h = clean-number n (joined (spaced l ++ r)) (clean-spaced l r h)
+
 -- ---- forms
 
 clean-message : (m : Message) → T (clean (messageForm m))
 unfolding messageForm
-clean-message (View w p) = clean-number w _ (clean-number p _ tt)
-clean-message (Vote w p) = clean-number w _ (clean-number p _ tt)
-clean-message (Vc w p) = clean-number w _ (clean-number p _ tt)
-clean-message (Qc w p) = clean-number w _ (clean-number p _ tt)
+clean-message (View w p) = clean-spaced (messageFields (View w p)) (closeBracket ∷ []) tt
+clean-message (Vote w p) = clean-spaced (messageFields (Vote w p)) (closeBracket ∷ []) tt
+clean-message (Vc w p) = clean-spaced (messageFields (Vc w p)) (closeBracket ∷ []) tt
+clean-message (Qc w p) = clean-spaced (messageFields (Qc w p)) (closeBracket ∷ []) tt
 
 clean-event : (e : Event) → T (clean (eventForm e))
 unfolding eventForm
@@ -73,11 +78,8 @@ clean-clocks (c ∷ l) = clean-number c (furtherClocks l) (clean-further l)
 clean-setup : (u : Setup) → T (clean (setupForm u))
 unfolding setupForm
 clean-setup u =
-    clean-number (u .plan .n) _
-    (clean-number (u .plan .delta) _
-    (clean-number (u .plan .gamma) _
-    (clean-number (u .plan .views) _
-    (clean-number (u .faulty) _ (clean-append (clocksForm (lineClocks u)) _ (clean-clocks (lineClocks u)) tt)))))
+    clean-spaced (headingNumbers (u .plan) (u .faulty)) (blank ∷ openBracket ∷ clocksForm (lineClocks u) ∷ closeBracket ∷ closeBracket ∷ [])
+    (clean-append (clocksForm (lineClocks u)) (joined (closeBracket ∷ closeBracket ∷ [])) (clean-clocks (lineClocks u)) tt)
 
 clean-form : (s : List ℕ) → Formed s → T (clean s)
 clean-form s = ⊎-elim (λ (x : (e : Event) × EventLine s e). rw (x .1 .bytes) (clean-event (x .0))) (λ (x : (u : Setup) × SetupLine s u). rw (x .1 .bytes) (clean-setup (x .0)))

@@ -1,4 +1,4 @@
--- Members of a list. Assumes nothing.
+-- Members of a list, and what holds of every one. Assumes nothing.
 use mathlib.Core.Path.{_≡_}
 use mathlib.Core.Logic.{_⊎_, inl, inr, ⊎-elim}
 use mathlib.Core.List.{List, [], _∷_, _++_}
@@ -28,3 +28,20 @@ module _ {A : Type 0} (m : A) where
 
   pub elem-with : (a b : List A) (x : A) → Elem m (a ++ b) → Elem m (a ++ x ∷ b)
   elem-with a b x i = ⊎-elim (λ y. elem-left a (x ∷ b) y) (λ y. elem-right a (x ∷ b) (inr y)) (elem-cases a b i)
+
+abbrev pub Every : {A : Type 0} → (A → Type 0) → List A → Type 0
+Every P [] = Unit {0}
+Every P (x ∷ xs) = P x × Every P xs
+
+module _ {A : Type 0} (P : A → Type 0) where
+  pub every-append : (a b : List A) → Every P a → Every P b → Every P (a ++ b)
+  every-append [] b h k = k
+  every-append (x ∷ a) b h k = (h .0, every-append a b (h .1) k)
+
+  pub every-first : (a b : List A) → Every P (a ++ b) → Every P a
+  every-first [] b h = tt
+  every-first (x ∷ a) b h = (h .0, every-first a b (h .1))
+
+  pub every-second : (a b : List A) → Every P (a ++ b) → Every P b
+  every-second [] b h = h
+  every-second (x ∷ a) b h = every-second a b (h .1)

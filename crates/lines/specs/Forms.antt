@@ -5,6 +5,7 @@ use mathlib.Core.Bool.{Bool, false, _||_}
 use mathlib.Core.List.{List, [], _∷_, _++_}
 use lib.ListN.{length, take, replicate}
 use lib.Dec.{eqb, ltb}
+use Rattle.base.specs.Members.{Every}
 use Rattle.types.specs.declared.Message.{Message}
 use Rattle.types.specs.declared.Message.the-variants.{View, Vote, Vc, Qc}
 use Rattle.types.specs.declared.Event.{Event}
@@ -120,10 +121,11 @@ eventForm (Show m) = carrying showWord m
 eventForm Settle = joined (openBracket ∷ settleWord ∷ closeBracket ∷ [])
 eventForm (Tick m) = joined (openBracket ∷ tickWord ∷ spaced (m ∷ []) ++ (closeBracket ∷ []))
 
--- "c0 c1 .."
+-- " c1 c2 .."
 abbrev pub furtherClocks : List ℕ → List ℕ
 furtherClocks l = joined (spaced l)
 
+-- "c0 c1 .."
 abbrev pub clocksForm : List ℕ → List ℕ
 clocksForm [] = []
 clocksForm (c ∷ l) = decimal c ++ furtherClocks l
@@ -161,8 +163,7 @@ setupFields u = headingNumbers (u .plan) (u .faulty) ++ lineClocks u
 
 -- "below 2^64"
 abbrev pub Below : List ℕ → Type 0
-Below [] = Unit {0}
-Below (n ∷ l) = (n < fieldLimit) × Below l
+Below l = Every (λ (n : ℕ). n < fieldLimit) l
 
 -- the line s is the form of the event e
 pub record EventLine (s : List ℕ) (e : Event) : Type 0 where

@@ -5,6 +5,7 @@ use mathlib.Core.Bool.{Bool, true, false}
 use mathlib.Core.Logic.{_⊎_, inl, inr}
 use mathlib.Core.List.{List, [], _∷_, _++_, map}
 use lib.ListN.{length, take, drop}
+use Rattle.base.specs.Members.{Every}
 use Rattle.types.specs.declared.Event.{Event}
 use Rattle.types.specs.declared.Setup.{Setup}
 use Rattle.lines.specs.declared.Reading.{Reading}
@@ -86,8 +87,7 @@ NextForm = (s : List ℕ) → Formed s → (more : List ℕ) → nextLine (line 
 -- ---- a whole schedule
 
 abbrev pub AllFormed : List (List ℕ) → Type 0
-AllFormed [] = Unit {0}
-AllFormed (s ∷ l) = Formed s × AllFormed l
+AllFormed l = Every Formed l
 
 -- forms, each with its newline
 abbrev pub scheduleOf : List (List ℕ) → List ℕ

@@ -24,6 +24,8 @@ abbrev pub judged : {A : Type 0} → (ℕ → A) → List Check → A → A
 judged refusal [] a = a
 judged refusal (c ∷ cs) a = cond (c .1) (refusal (c .0)) (judged refusal cs a)
 
+-- 1 is judged of the event alone: `lacksForm` (types)
+
 -- the two halves of 10
 abbrev pub noProcessor : Plan → ℕ → Bool
 noProcessor plan p = leb (plan .n) p

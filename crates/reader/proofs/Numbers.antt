@@ -10,6 +10,7 @@ use lib.ListN.{length, drop}
 use lib.Seq.{drop-drop}
 use lib.Dec.{eqb, ltb, ltb→lt, eqb→eq}
 use borrow.Author.Tests.{lt-ltb, ne-eqb}
+use Rattle.base.specs.Members.{Every, every-append}
 use Rattle.base.specs.Tests.{le?, eq?, by-cond, eq→eqb}
 use Rattle.lines.specs.Decimal.{digit, decimal, fieldLimit}
 use Rattle.lines.proofs.Decimals.{decimal-small, decimal-large}
@@ -23,12 +24,7 @@ use Rattle.reader.proofs.ScanLaws.{spelled-least}
 -- ---- digits
 
 abbrev Digits : List ℕ → Type 0
-Digits [] = Unit {0}
-Digits (b ∷ l) = IsDigit b × Digits l
-
-digits-append : (a b : List ℕ) → Digits a → Digits b → Digits (a ++ b)
-digits-append [] b h k = k
-digits-append (x ∷ a) b h k = (h .0, digits-append a b (h .1) k)
+Digits l = Every IsDigit l
 
 -- ---- runs
 
@@ -101,7 +97,7 @@ shown-more n h g x =
       first = x .first;
       others = x .others ++ last;
       shown = decimal-large n h g ∙ ap (λ (l : List ℕ). l ++ last) (x .shown);
-      digits = digits-append all last (x .digits) (record { least = omega arith; most = omega arith }, tt);
+      digits = every-append IsDigit all last (x .digits) (record { least = omega arith; most = omega arith }, tt);
       value = spelled-append 0 all last ∙ rw (x .value) (omega arith);
       no-zero = λ (p : 0 < n). x .no-zero (omega arith);
     }

@@ -9,6 +9,7 @@ use lib.ListN.{length, drop, getD, replicate, length-append, length-replicate, d
 use lib.Seq.{take-at, length-take-le}
 use lib.Dec.{T, eqb, ltb, eqb→eq}
 use borrow.Author.Tests.{eq-eqb, ltb-false, eqb-false}
+use Rattle.base.specs.Members.{every-append, every-first, every-second}
 use Rattle.base.specs.Tests.{T-and, T-false, by-cond}
 use Rattle.base.specs.Choice.{or-neither, or-parts}
 use Rattle.types.specs.declared.Plan.{Plan}
@@ -67,20 +68,6 @@ apart-further (suc j) r = T-and (noDigitFirst (furtherParts j) r) (apart (furthe
 apart-table : (n : ℕ) (r : List ℕ) → T (apart (tableParts n) r)
 apart-table n r = apart-further (suc (n - 1)) r
 
--- ---- fields
-
-below-append : (a b : List ℕ) → Below a → Below b → Below (a ++ b)
-below-append [] b h k = k
-below-append (n ∷ a) b h k = (h .0, below-append a b (h .1) k)
-
-below-first : (a b : List ℕ) → Below (a ++ b) → Below a
-below-first [] b h = tt
-below-first (n ∷ a) b h = (h .0, below-first a b (h .1))
-
-below-second : (a b : List ℕ) → Below (a ++ b) → Below b
-below-second [] b h = h
-below-second (n ∷ a) b h = below-second a b (h .1)
-
 -- ---- what is read is it
 
 -- the line is the form of what it is read as, with the setup that stands beside it; none stands beside a line that is none of the forms
@@ -106,7 +93,7 @@ setup-line s at k e plan faulty cs h heading b least most t end =
     let z : length zeros ≡ tableClocks - length cs = length-replicate (tableClocks - length cs) 0 in
     record {
       formed = or-neither (eqb (plan .n) 0) (ltb nMost (plan .n)) least most;
-      below = below-append (headingNumbers plan faulty) (lineClocks u) b (subst Below (sym l) (t .below));
+      below = every-append _ (headingNumbers plan faulty) (lineClocks u) b (subst Below (sym l) (t .below));
       table = length-append cs zeros ∙ omega arith;
       bytes =
           h
@@ -166,10 +153,10 @@ pub opening-there : (s : List ℕ) (at : ℕ) (u : Setup) → SetupLine s u → 
 unfolding openingAt headingAt tableAt trimmed
 opening-there s at u l h =
     parts-there P headingParts s at (λ x. endingHeading s (headingFields x)) heading (filled (tableParts (u .plan .n)) (lineClocks u) []) h refl
-    (below-first heading (lineClocks u) (l .below)) tt
+    (every-first _ heading (lineClocks u) (l .below)) tt
     (λ k m. rw (c .some, c .few)
     (parts-there P (tableParts (u .plan .n)) s k (λ x. endingTable s (u .plan) (u .faulty) (tableFields x)) (lineClocks u) [] m
-    (c .clocks-in ∙ sym (places-table (u .plan .n) (c .least))) (below-second heading (lineClocks u) (l .below))
+    (c .clocks-in ∙ sym (places-table (u .plan .n) (c .least))) (every-second _ heading (lineClocks u) (l .below))
     (apart-table (u .plan .n) []) (λ e end. rw (eq-eqb e (length s) (left-none s e end), c .clocks-in))))
   where
     P : Reading → Type 0

@@ -10,6 +10,12 @@ use types::Setup;
 ghost use Prim.Native.Nat.{_<_, _≤_};
 ghost use lib.ListN.{length};
 
+// The bytes of input that it takes.
+const INPUT_BYTES: usize = 131072;
+
+// Room for the longest form and its newline.
+const LINE_BYTES: usize = 1440;
+
 fn say(text: &[u8]) {
     io::write_all(STDOUT_FILENO, text);
 }
@@ -99,7 +105,7 @@ fn say_refused() {
 fn tell_line(line: &[u8]) {
     let reading = reader::read_line(line);
     let read = reading.read;
-    let mut out = [0u8; 1440];
+    let mut out = [0u8; LINE_BYTES];
     if let Read::Event(e) = read {
         say_event(e);
         let answer = writer::write_event(e, &mut out);
@@ -141,7 +147,11 @@ fn tell_all(input: &[u8]) {
 }
 
 fn main() {
-    let mut input = [0u8; 131072];
+    let mut input = [0u8; INPUT_BYTES];
     let n = io::read_full(STDIN_FILENO, &mut input);
+    if n == INPUT_BYTES {
+        say(b"too much input\n");
+        return;
+    }
     tell_all(&input[..n]);
 }

@@ -1,4 +1,4 @@
-// The types of the product, declared once, and the functions of the plan.
+// The types of the product, declared once, and their own functions.
 ghost use mathlib.Core.Path.{_≡_};
 ghost use Rattle.types.specs.Quantities.{tolerated, perLeader, initial, correct};
 ghost use Rattle.types.specs.Messages.{kindOf, viewIn, processorIn, stageOf, isSignature, lacksForm};

@@ -5,3 +5,4 @@ pub mod Splitting
 pub mod Schedules
 pub mod Readings
 pub mod Writings
+pub mod Printing

@@ -46,26 +46,46 @@ ends s h = (h, λ start more. cuts start s more h)
 started : (s : List ℕ) → length s ≤ beforeNewline s → Started s
 started s h = λ start more. starts start s more h
 
-pub next-line : TellsNext
-unfolding nextLine
-next-line s = first (ltb (beforeNewline s) (length s)) refl
-  where
-    whole : (t : Bool) → leb (beforeNewline s) lineMost ≡ t → beforeNewline s < length s → Tells s (cond t (Line (beforeNewline s)) (Long (beforeNewline s)))
-    whole true e h = (leb-true _ _ e, ends s h)
-    whole false e h = (leb-false _ _ e, ends s h)
+-- where the next line ends, or that it does not
+abbrev pub Found : List ℕ → Next → Type 0
+Found s (Line e) = (e ≡ beforeNewline s) × (e < length s) × (e ≤ lineMost)
+Found s (Long e) = (e ≡ beforeNewline s) × (e < length s) × (lineMost < e)
+Found s Unfinished = (length s ≤ beforeNewline s) × (length s ≤ lineMost)
+Found s Endless = (length s ≤ beforeNewline s) × (lineMost < length s)
 
-    part : (t : Bool) → leb (length s) lineMost ≡ t → length s ≤ beforeNewline s → Tells s (cond t Unfinished Endless)
-    part true e h = (leb-true _ _ e, started s h)
-    part false e h = (leb-false _ _ e, started s h)
+pub next-found : (s : List ℕ) → Found s (nextLine s)
+unfolding nextLine
+next-found s = first (ltb (beforeNewline s) (length s)) refl
+  where
+    whole : (t : Bool) → leb (beforeNewline s) lineMost ≡ t → beforeNewline s < length s → Found s (cond t (Line (beforeNewline s)) (Long (beforeNewline s)))
+    whole true e h = (refl, h, leb-true _ _ e)
+    whole false e h = (refl, h, leb-false _ _ e)
+
+    part : (t : Bool) → leb (length s) lineMost ≡ t → length s ≤ beforeNewline s → Found s (cond t Unfinished Endless)
+    part true e h = (h, leb-true _ _ e)
+    part false e h = (h, leb-false _ _ e)
 
     first : (t : Bool) → ltb (beforeNewline s) (length s) ≡ t
-        → Tells s (cond t (cond (leb (beforeNewline s) lineMost) (Line (beforeNewline s)) (Long (beforeNewline s))) (cond (leb (length s) lineMost) Unfinished Endless))
+        → Found s (cond t (cond (leb (beforeNewline s) lineMost) (Line (beforeNewline s)) (Long (beforeNewline s))) (cond (leb (length s) lineMost) Unfinished Endless))
     first true e = whole (leb (beforeNewline s) lineMost) refl (ltb-true _ _ e)
     first false e = part (leb (length s) lineMost) refl (ltb-false _ _ e)
 
+-- what a call answered is found
+pub found : (s : List ℕ) (r n : Next) → r ≡ nextLine s → r ≡ n → Found s n
+found s r n q p = subst (Found s) (sym q ∙ p) (next-found s)
+
+tells : (s : List ℕ) (r : Next) → Found s r → Tells s r
+tells s (Line e) f = (f .2, subst (Ended s) (sym (f .0)) (ends s (subst (λ (k : ℕ). k < length s) (f .0) (f .1))))
+tells s (Long e) f = (f .2, subst (Ended s) (sym (f .0)) (ends s (subst (λ (k : ℕ). k < length s) (f .0) (f .1))))
+tells s Unfinished f = (f .1, started s (f .0))
+tells s Endless f = (f .1, started s (f .0))
+
+pub next-line : TellsNext
+next-line s = tells s (nextLine s) (next-found s)
+
 -- a line that ends here ends before the last byte at hand
 pub line-inside : (s : List ℕ) (r : Next) (e : ℕ) → r ≡ nextLine s → r ≡ Line e → e < length s
-line-inside s r e q p = subst (Tells s) (sym q ∙ p) (next-line s) .1 .0
+line-inside s r e q p = found s r (Line e) q p .1
 
 pub long-inside : (s : List ℕ) (r : Next) (e : ℕ) → r ≡ nextLine s → r ≡ Long e → e < length s
-long-inside s r e q p = subst (Tells s) (sym q ∙ p) (next-line s) .1 .0
+long-inside s r e q p = found s r (Long e) q p .1

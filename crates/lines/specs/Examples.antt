@@ -4,6 +4,7 @@ use mathlib.Core.Bool.{Bool, true, false}
 use mathlib.Core.List.{List, [], _∷_, _++_, map}
 use Prim.Native.Nat.{ℕ}
 use lib.ListN.{replicate}
+use Rattle.types.specs.declared.Answer.the-variants as Answer
 use Rattle.types.specs.declared.Message.the-variants.{View, Vote, Vc, Qc}
 use Rattle.types.specs.declared.Event.the-variants.{Deliver, Sign, Show, Settle, Tick}
 use Rattle.model.specs.Rows.{planOf, standard, setupOf}
@@ -16,6 +17,7 @@ use Rattle.lines.specs.declared.Next.{Next}
 use Rattle.lines.specs.declared.Next.the-variants.{Line, Long, Unfinished, Endless}
 use Rattle.lines.specs.Decimal.{decimal}
 use Rattle.lines.specs.Forms.{newline, messageForm, eventForm, setupForm, lacksSetupForm, trimmed}
+use Rattle.lines.specs.Printout.{answerForm, processorForm}
 use Rattle.lines.specs.Contracts.{eventReading, noForm, readCheck, writtenAs, writtenIn, writtenCheck}
 use Rattle.lines.specs.Splitting.{beforeNewline, nextLine, Cut, ended, left, inputLines, cutRead}
 
@@ -71,6 +73,32 @@ formBytes =
 pub forms-hold : forms ≡ formBytes
 unfolding forms formBytes eventForm messageForm setupForm decimal
 forms-hold = refl
+
+-- ---- printed lines
+
+pub printed : List (List ℕ)
+printed =
+    answerForm (Answer.Done 0 8)
+    ∷ answerForm (Answer.Stopped 2 10 16)
+    ∷ answerForm (Answer.Refused 18)
+    ∷ processorForm 63 5 18446744073709551615
+    ∷ []
+
+pub printedBytes : List (List ℕ)
+printedBytes =
+    -- "(done 0 8)"
+    (40 ∷ 100 ∷ 111 ∷ 110 ∷ 101 ∷ 32 ∷ 48 ∷ 32 ∷ 56 ∷ 41 ∷ [])
+    -- "(stopped 2 10 16)"
+    ∷ (40 ∷ 115 ∷ 116 ∷ 111 ∷ 112 ∷ 112 ∷ 101 ∷ 100 ∷ 32 ∷ 50 ∷ 32 ∷ 49 ∷ 48 ∷ 32 ∷ 49 ∷ 54 ∷ 41 ∷ [])
+    -- "(refused 18)"
+    ∷ (40 ∷ 114 ∷ 101 ∷ 102 ∷ 117 ∷ 115 ∷ 101 ∷ 100 ∷ 32 ∷ 49 ∷ 56 ∷ 41 ∷ [])
+    -- "(cabinet 63 5 18446744073709551615)"
+    ∷ (40 ∷ 99 ∷ 97 ∷ 98 ∷ 105 ∷ 110 ∷ 101 ∷ 116 ∷ 32 ∷ 54 ∷ 51 ∷ 32 ∷ 53 ∷ 32 ∷ 49 ∷ 56 ∷ 52 ∷ 52 ∷ 54 ∷ 55 ∷ 52 ∷ 52 ∷ 48 ∷ 55 ∷ 51 ∷ 55 ∷ 48 ∷ 57 ∷ 53 ∷ 53 ∷ 49 ∷ 54 ∷ 49 ∷ 53 ∷ 41 ∷ [])
+    ∷ []
+
+pub printed-hold : printed ≡ printedBytes
+unfolding printed printedBytes answerForm processorForm decimal
+printed-hold = refl
 
 -- ---- the next line
 

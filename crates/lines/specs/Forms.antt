@@ -102,13 +102,17 @@ abbrev pub spaced : List ℕ → List (List ℕ)
 spaced [] = []
 spaced (n ∷ l) = blank ∷ decimal n ∷ spaced l
 
+-- a word and numbers behind it, in brackets
+abbrev pub numbersForm : List ℕ → List ℕ → List ℕ
+numbersForm w l = joined (openBracket ∷ w ∷ spaced l ++ (closeBracket ∷ []))
+
 -- its numbers: "w is a view, p a cabinet"
 abbrev pub messageFields : Message → List ℕ
 messageFields m = viewIn m ∷ processorIn m ∷ []
 
 -- "(view w p)", "and so for vote, vc, qc"
 unfoldable pub messageForm : Message → List ℕ
-messageForm m = joined (openBracket ∷ kindWord m ∷ spaced (messageFields m) ++ (closeBracket ∷ []))
+messageForm m = numbersForm (kindWord m) (messageFields m)
 
 -- "(deliver (view w p))" and the like
 abbrev pub carrying : List ℕ → Message → List ℕ
@@ -119,7 +123,7 @@ eventForm (Deliver m) = carrying deliverWord m
 eventForm (Sign m) = carrying signWord m
 eventForm (Show m) = carrying showWord m
 eventForm Settle = joined (openBracket ∷ settleWord ∷ closeBracket ∷ [])
-eventForm (Tick m) = joined (openBracket ∷ tickWord ∷ spaced (m ∷ []) ++ (closeBracket ∷ []))
+eventForm (Tick m) = numbersForm tickWord (m ∷ [])
 
 -- " c1 c2 .."
 abbrev pub furtherClocks : List ℕ → List ℕ

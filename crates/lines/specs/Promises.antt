@@ -6,12 +6,14 @@ use mathlib.Core.Logic.{_⊎_, inl, inr}
 use mathlib.Core.List.{List, [], _∷_, _++_, map}
 use lib.ListN.{length, take, drop}
 use Rattle.base.specs.Members.{Every}
+use Rattle.types.specs.declared.Answer.{Answer}
 use Rattle.types.specs.declared.Event.{Event}
 use Rattle.types.specs.declared.Setup.{Setup}
 use Rattle.lines.specs.declared.Reading.{Reading}
 use Rattle.lines.specs.declared.Next.{Next}
 use Rattle.lines.specs.declared.Next.the-variants.{Line, Long, Unfinished, Endless}
 use Rattle.lines.specs.Forms.{EventLine, SetupLine, trimmed}
+use Rattle.lines.specs.Printout.{answerForm, processorForm, printedMost}
 use Rattle.lines.specs.declared.Written.{Written}
 use Rattle.lines.specs.Contracts.{eventReading, openingReading, readCheck, Reads, line, Writes, writtenCheck}
 use Rattle.lines.specs.Splitting.{lineMost, nextLine, ended, linesAfter, inputLines, cutRead}
@@ -58,6 +60,13 @@ formMost = 1439
 
 abbrev pub ShortForms : Type 0
 ShortForms = (s : List ℕ) → Formed s → length s ≤ formMost
+
+-- so many bytes hold every printed line
+abbrev pub ShortAnswers : Type 0
+ShortAnswers = (a : Answer) → length (line (answerForm a)) ≤ printedMost
+
+abbrev pub ShortProcessors : Type 0
+ShortProcessors = (p view clock : ℕ) → length (line (processorForm p view clock)) ≤ printedMost
 
 -- ---- the next line within the bytes at hand
 

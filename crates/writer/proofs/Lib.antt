@@ -2,5 +2,6 @@
 pub mod Stamping
 pub mod Digits
 pub mod Lengths
-pub mod Answers
+pub mod Writing
+pub mod Spacing
 pub mod Clocks

@@ -1,9 +1,12 @@
-// Writing one line of a schedule into lent bytes: the form of an event or of a setup, and a newline.
+// Writing one line of a schedule or of its printout into lent bytes: a form and a newline.
+mod answers;
 mod events;
+mod numbers;
 mod pieces;
 mod setups;
 
 use lines::Written;
+use types::Answer;
 use types::Event;
 use types::Plan;
 use types::Setup;
@@ -14,6 +17,7 @@ ghost use lib.ListN.{length};
 ghost use Rattle.types.specs.Quantities.{nMost};
 ghost use Rattle.types.specs.Messages.{lacksForm};
 ghost use Rattle.lines.specs.Forms.{eventForm, setupForm, lacksSetupForm};
+ghost use Rattle.lines.specs.Printout.{answerForm, processorForm};
 ghost use Rattle.lines.specs.Contracts.{Writes};
 ghost use Rattle.writer.specs.Setups.{setupWith};
 
@@ -61,4 +65,23 @@ pub fn write_setup(setup: Setup, out: &mut [u8]) -> Written
     let table = setup.clocks;
     let n = plan.n as usize;
     write_formed(plan, setup.faulty, &table[..n], out)
+}
+
+// The line of an answer.
+pub fn write_answer(answer: Answer, out: &mut [u8]) -> Written
+    ensures { λ r. ⌜ Writes false (answerForm answer) (now (out .entry)) r (now (out .exit)) ⌝ }
+{
+    match answer {
+        Answer::Done(ticks, held) => answers::write_done(ticks, held, out),
+        Answer::Stopped(ticks, held, check) => answers::write_stopped(ticks, held, check, out),
+        Answer::Refused(check) => answers::write_refused(check, out),
+    }
+}
+
+// The line at the end of a printout for one processor.
+pub fn write_processor(number: u64, view: u64, clock: u64, out: &mut [u8]) -> Written
+    ensures { λ r. ⌜ Writes false (processorForm number view clock) (now (out .entry)) r (now (out .exit)) ⌝ }
+{
+    let numbers = [number, view, clock];
+    answers::write_numbers(b"cabinet", &numbers, out)
 }

@@ -1,42 +1,15 @@
 // The form of a setup: how many bytes it has, and its bytes written. The clocks that are lent are those of the line, one of each processor.
+use crate::numbers;
 use crate::pieces;
 use types::Plan;
 ghost use mathlib.Core.Path.{_≡_};
-ghost use Prim.Native.Nat.{_*_, _≤_, _<_};
+ghost use Prim.Native.Nat.{_≤_, _<_};
 ghost use lib.ListN.{length};
 ghost use Rattle.types.specs.Quantities.{nMost};
-ghost use Rattle.lines.specs.Forms.{setupForm, clocksForm, furtherClocks};
+ghost use Rattle.lines.specs.Forms.{setupForm, clocksForm};
 ghost use Rattle.lines.specs.Splitting.{lineMost};
 ghost use Rattle.writer.specs.Setups.{setupWith, startForm};
 ghost use Rattle.writer.specs.Stamps.{Room, Stamped};
-
-// The bytes of clocks with a blank before each.
-fn further_length(clocks: &[u64]) -> usize
-    requires { ⌜ length (now clocks) ≤ nMost ⌝ }
-    ensures { λ r. ⌜ (r ≡ length (furtherClocks (now (clocks .entry)))) × (r ≤ 21 * nMost) ⌝ }
-{
-    let mut bytes = 0;
-    let mut i = 0;
-    while i < clocks.len() {
-        bytes += 1 + pieces::width(clocks[i]);
-        i += 1;
-    }
-    bytes
-}
-
-// Clocks with a blank before each.
-fn put_further(out: &mut [u8], at: usize, clocks: &[u64]) -> usize
-    requires { ⌜ Room (now out) at (furtherClocks (now clocks)) ⌝ }
-    ensures { λ r. ⌜ Stamped (now (out .entry)) at (furtherClocks (now (clocks .entry))) r (now (out .exit)) ⌝ }
-{
-    let mut end = at;
-    let mut k = 0;
-    while k < clocks.len() {
-        end = pieces::put_spaced(out, end, clocks[k]);
-        k += 1;
-    }
-    end
-}
 
 // Clocks with a blank between them.
 fn put_clocks(out: &mut [u8], at: usize, clocks: &[u64]) -> usize
@@ -44,7 +17,7 @@ fn put_clocks(out: &mut [u8], at: usize, clocks: &[u64]) -> usize
     ensures { λ r. ⌜ Stamped (now (out .entry)) at (clocksForm (now (clocks .entry))) r (now (out .exit)) ⌝ }
 {
     let end = pieces::put_number(out, at, clocks[0]);
-    put_further(out, end, &clocks[1..])
+    numbers::put_numbers(out, end, &clocks[1..])
 }
 
 // The bytes of a setup's form: beside the numbers, and a blank or bracket before each clock, there are 13. These are the word and its bracket, a blank
@@ -53,7 +26,7 @@ pub(crate) fn setup_length(plan: Plan, faulty: u64, clocks: &[u64]) -> usize
     requires { ⌜ (0 < plan .n) × (plan .n ≤ nMost) × (length (now clocks) ≡ plan .n) ⌝ }
     ensures { λ r. ⌜ (r ≡ length (setupForm (setupWith plan faulty (now (clocks .entry))))) × (r ≤ lineMost) ⌝ }
 {
-    let mut bytes = 13 + further_length(clocks);
+    let mut bytes = 13 + numbers::numbers_length(clocks);
     bytes += pieces::width(plan.n);
     bytes += pieces::width(plan.delta);
     bytes += pieces::width(plan.gamma);

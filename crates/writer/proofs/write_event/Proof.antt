@@ -1,5 +1,5 @@
 use native.Mathlib.Omega.{arith}
-use Rattle.writer.proofs.Answers.{refused-form, refused-room, form-room, newline-room, written}
+use Rattle.writer.proofs.Writing.{refused-form, refused-room, form-room, newline-room, written}
 use mathlib.Core.Path.{sym, _∙_}
 use borrow.Author.Needs.{needs}
 use Rattle.writer.proofs.write_event.Statement.{statement}

@@ -1,6 +1,6 @@
 use native.Mathlib.Omega.{arith}
 use mathlib.Core.Path.{refl}
-use Rattle.writer.proofs.Answers.{refused-room, form-room, newline-room, written}
+use Rattle.writer.proofs.Writing.{refused-room, form-room, newline-room, written}
 use borrow.Author.Needs.{needs}
 use Rattle.writer.proofs.write_formed.Statement.{statement}
 use Rattle.writer.proofs.write_formed.Tie as tie

@@ -4,7 +4,7 @@ use Rattle.types.specs.Quantities.{tableClocks}
 use native.Mathlib.Omega.{arith}
 use mathlib.Core.Path.{_≡_, sym}
 use lib.ListN.{length}
-use Rattle.writer.proofs.Answers.{refused-none, refused-many, written-setup}
+use Rattle.writer.proofs.Writing.{refused-none, refused-many, written-setup}
 use borrow.Author.Needs.{needs}
 use Rattle.writer.proofs.write_setup.Statement.{statement}
 use Rattle.writer.proofs.write_setup.Tie as tie

@@ -6,10 +6,10 @@ use Rattle.writer.proofs.setups.setup_length.Tie as tie
 use Rattle.writer.proofs.setups.setup_length.Reads as reads
 use Rattle.writer.proofs.setups.setup_length.Lts as lts
 use Rattle.writer.proofs.pieces.width.Reads as width-reads
-use Rattle.writer.proofs.setups.further_length.Reads as further-length-reads
+use Rattle.writer.proofs.numbers.numbers_length.Reads as numbers-length-reads
 
-further-length-requires : tie.Need-further-length-requires
-further-length-requires c κs = search needs
+numbers-length-requires : tie.Need-numbers-length-requires
+numbers-length-requires c κs = search needs
 
 add-bytes : tie.Need-add-bytes
 add-bytes c = search needs
@@ -45,13 +45,13 @@ add-result : tie.Need-add-result
 add-result c = search needs
 
 returns : tie.Need-returns
-returns c = (setup-bytes _ _ _ _ _ _ _ _ _ (c .before .before .before .before .before .before .before .pre .0) (c .before .before .before .before .before .before .before .pre .2) (c .before .before .before .before .before .further-length .ensures .0) (c .before .before .before .before .width .ensures .0) (c .before .before .before .width2 .ensures .0) (c .before .before .width3 .ensures .0) (c .before .width4 .ensures .0) (c .width5 .ensures .0), omega arith)
+returns c = (setup-bytes _ _ _ _ _ _ _ _ _ (c .before .before .before .before .before .before .before .pre .0) (c .before .before .before .before .before .before .before .pre .2) (c .before .before .before .before .before .numbers-length .ensures .0) (c .before .before .before .before .width .ensures .0) (c .before .before .before .width2 .ensures .0) (c .before .before .width3 .ensures .0) (c .before .width4 .ensures .0) (c .width5 .ensures .0), omega arith)
 
 pub setup-length-spec : {M : Type 1} → statement M
 setup-length-spec =
     tie.close
     (tie.spec
-    further-length-requires
+    numbers-length-requires
     add-bytes
     width-requires
     add-bytes-2

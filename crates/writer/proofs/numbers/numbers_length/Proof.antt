@@ -1,21 +1,21 @@
 use borrow.Author.Needs.{needs}
 use Prim.Native.Nat.{_-_}
 use lib.ListN.{length}
-use Rattle.writer.proofs.Clocks.{Measured, measured-none, measured-more, measured-all}
-use Rattle.writer.proofs.setups.further_length.Statement.{statement}
-use Rattle.writer.proofs.setups.further_length.Tie as tie
-use Rattle.writer.proofs.setups.further_length.Reads as reads
-use Rattle.writer.proofs.setups.further_length.Lts as lts
+use Rattle.writer.proofs.Spacing.{Measured, measured-none, measured-more, measured-all}
+use Rattle.writer.proofs.numbers.numbers_length.Statement.{statement}
+use Rattle.writer.proofs.numbers.numbers_length.Tie as tie
+use Rattle.writer.proofs.numbers.numbers_length.Reads as reads
+use Rattle.writer.proofs.numbers.numbers_length.Lts as lts
 use Rattle.writer.proofs.pieces.width.Reads as width-reads
 
 abbrev Inv-loop : tie.InvT-loop
-Inv-loop clocks bytes₀ i₀ bytes i = Measured clocks bytes i
+Inv-loop numbers bytes₀ i₀ bytes i = Measured numbers bytes i
 
 abbrev μ-loop : tie.MeasureT-loop
-μ-loop clocks bytes₀ i₀ bytes i = length clocks - i
+μ-loop numbers bytes₀ i₀ bytes i = length numbers - i
 
 loop-holds : tie.Need-loop-holds Inv-loop μ-loop
-loop-holds c = measured-none (c .before .args .clocks .now)
+loop-holds c = measured-none (c .before .args .numbers .now)
 
 mul-width : tie.Need-mul-width Inv-loop μ-loop
 mul-width c = search needs
@@ -44,8 +44,8 @@ loop-again c = measured-more _ _ _ _ (c .before .before .before .loop .inv) (c .
 returns : tie.Need-returns Inv-loop μ-loop
 returns c = measured-all _ _ _ (c .before .loop .inv) (c .loop-test .left) (c .before .before .before .pre)
 
-pub further-length-spec : {M : Type 1} → statement M
-further-length-spec =
+pub numbers-length-spec : {M : Type 1} → statement M
+numbers-length-spec =
     tie.close
     (tie.spec
     Inv-loop

@@ -1,0 +1,51 @@
+-- What is replied to each kind of line. Assumes nothing.
+use mathlib.Core.Path.{_≡_, refl, ap, subst}
+use mathlib.Core.Bool.{Bool, true, false, _||_}
+use mathlib.Core.List.{List, [], _∷_}
+use Prim.Native.Nat.{ℕ}
+use types.Run.{OneOf, miss}
+use denote.Enum.Declared.{tagOf}
+use Rattle.lines.proofs.Read.{the-type}
+use Rattle.base.specs.Choice.{cond-yes, cond-no}
+use Rattle.types.specs.declared.Event.{Event}
+use Rattle.types.specs.declared.Setup.{Setup}
+use Rattle.types.specs.declared.Answer.{Answer}
+use Rattle.model.specs.State.{After, accepted}
+use Rattle.model.specs.Opening.{opening}
+use Rattle.model.specs.Events.{applied}
+use Rattle.lines.specs.declared.Read.{Read}
+use Rattle.lines.specs.declared.Read.the-variants as Read
+use Rattle.lines.specs.declared.Reading.{Reading}
+use Rattle.lines.specs.Contracts.{line}
+use Rattle.lines.specs.Printout.{answerForm}
+use Rattle.driver.specs.declared.Answered.{Answered}
+use Rattle.driver.specs.Inner.{answering, Put, PrintsReply}
+use Rattle.driver.specs.Printout.{Standing, Reply, reply, printedLine, stateIn, leaving, refusing, printedAnswer, eventReply, openingReply, readReply}
+
+-- a line that is neither an event nor an opening
+pub neither : (r : Read) (u : Setup) (x : Standing) → OneOf (0 ∷ 2 ∷ []) (tagOf the-type r) → OneOf (1 ∷ 2 ∷ []) (tagOf the-type r) → refusing 1 x ≡ readReply r u x
+neither (Read.Event e) u x h k = absurd (miss (1 ∷ 2 ∷ []) 0 tt k)
+neither Read.Opening u x h k = absurd (miss (0 ∷ 2 ∷ []) 1 tt h)
+neither Read.NoForm u x h k = refl
+
+-- an event in an open run
+pub event-applied : (e : Event) (x : Standing) (a : After) (r : Answer) → x .session .opened ≡ true → a ≡ applied e (stateIn x)
+    → r ≡ printedAnswer e (a .state .run .held) (a .answer) → record { standing = leaving true (a .state); answer = r } ≡ eventReply e x
+unfolding eventReply
+event-applied e x a r o h q = cond-yes _ _ _ _ o (rw (q, h) refl)
+
+-- and before one is
+pub event-early : (e : Event) (x : Standing) → x .session .opened ≡ false → refusing 9 x ≡ eventReply e x
+unfolding eventReply
+event-early e x o = cond-no _ _ _ _ o refl
+
+-- an opening
+pub opening-applied : (u : Setup) (x : Standing) (a : After) (o : Bool) → a ≡ opening u (stateIn x) → o ≡ (x .session .opened || accepted (a .answer))
+    → record { standing = leaving o (a .state); answer = a .answer } ≡ openingReply u x
+unfolding openingReply
+opening-applied u x a o h q = rw (q, h) refl
+
+-- a reply and its answer printed
+pub printed-reply : (x : Standing) (r : Reading) (out tally network : List ℕ) (a : Answered) (k : ℕ) (after : List ℕ) → answering a tally network ≡ reply r x
+    → Put (line (answerForm (a .answer))) out k after → PrintsReply x r out tally network (record { session = a .session; bytes = k }) after
+printed-reply x r out tally network a k after e p = record { state = ap (λ (z : Reply). z .standing) e; put = subst (λ (z : Reply). Put (printedLine z) out k after) e p }

@@ -1,0 +1,212 @@
+-- Lines answered one after the other. Assumes nothing.
+use mathlib.Core.Path.{_≡_, refl, sym, ap, ap₂, _∙_, subst}
+use mathlib.Core.Logic.{_⊎_}
+use mathlib.Core.Bool.{Bool, true, false}
+use Prim.Native.Nat.{ℕ, _+_, _-_, _≤_, _<_}
+use native.Mathlib.Omega.{arith}
+use native.Mathlib.Numerals.{add-one}
+use mathlib.Core.List.{List, [], _++_, append-assoc, append-nil}
+use lib.ListN.{length, take, drop, length-append, length-drop, drop-of-length-le}
+use borrow.Rule.Slice.PartMut.{midOf, putMid, post-is}
+use lib.Seq.{take-at, drop-at, drop-drop, length-take-le, take-all}
+use borrow.Author.Tests.{le-leb, lt-leb}
+use Rattle.base.specs.Choice.{cond-yes, cond-no}
+use Rattle.types.specs.declared.Answer.the-variants.{Refused}
+use Rattle.lines.specs.declared.Next.{Next}
+use Rattle.lines.specs.declared.Next.the-variants.{Line, Long, Unfinished, Endless}
+use Rattle.lines.specs.declared.Reading.{Reading}
+use Rattle.lines.specs.Contracts.{line}
+use Rattle.lines.specs.Printout.{answerForm, printedMost}
+use Rattle.lines.specs.Splitting.{lineMost, beforeNewline, nextLine}
+use Rattle.lines.proofs.Splitting.{found}
+use Rattle.lines.proofs.Printing.{answer-length}
+use Rattle.driver.specs.declared.Session.{Session}
+use Rattle.driver.specs.declared.Served.{Served}
+use Rattle.driver.specs.Printout.{Standing, standingOf, Reply, reply, refusing, lineReply, printedLine}
+use Rattle.driver.specs.Contracts.{Place, placeOf, lineEnded, Fed, behind, fed, Begun, Feeds}
+use Rattle.driver.specs.Inner.{Put, Passes, Refuses, Turns}
+use Rattle.driver.proofs.Feeding.{fed-append, within, fed-within, told, fed-line}
+
+-- ---- one text behind another
+
+pub put-none : (out : List ℕ) → Put [] out 0 out
+put-none out = record { bytes = refl; text = refl }
+
+pub put-then : {v w out e f : List ℕ} {k m : ℕ} → Put v out k e → Put w (drop k e) m f → Put (v ++ w) out (k + m) (take k e ++ f)
+put-then {v} {w} {out} {e} {f} {k} {m} a b =
+    let t : take k e ≡ v = ap (take k) (a .text) ∙ take-at v (drop k out) k (sym (a .bytes)) in
+    let d : drop k e ≡ drop k out = ap (drop k) (a .text) ∙ drop-at v (drop k out) k (sym (a .bytes)) in
+    record {
+      bytes = omega (arith, a .bytes, b .bytes, length-append v w);
+      text = ap₂ (λ (x y : List ℕ). x ++ y) t (b .text ∙ ap (λ (x : List ℕ). w ++ x) (ap (drop m) d ∙ drop-drop m k out)) ∙ sym (append-assoc v w (drop (k + m) out));
+    }
+
+pub put-inside : (words out : List ℕ) (k : ℕ) (after : List ℕ) → Put words out k after → length after ≡ length out → k ≤ length out
+put-inside words out k after p h = omega (arith, p .bytes, ap length (p .text), length-append words (drop k out))
+
+-- lent from k on, and put back
+pub rest-lent : (k : ℕ) (e : List ℕ) → midOf k (length e - k) e ≡ drop k e
+rest-lent k e = take-all (length e - k) (drop k e) (omega (arith, length-drop k e))
+
+-- how many are left
+pub left-over : (k : ℕ) (l : List ℕ) → length (midOf k (length l - k) l) ≡ length l - k
+left-over k l = ap length (rest-lent k l) ∙ length-drop k l
+
+pub rest-back : (k : ℕ) (e f : List ℕ) → k ≤ length e → putMid k (length e - k) e f ≡ take k e ++ f
+rest-back k e f h =
+    let l : length e ≤ length e = omega arith in
+    ap (λ (z : List ℕ). take k e ++ (f ++ z)) (post-is k (length e) e h ∙ drop-of-length-le e l) ∙ ap (λ (z : List ℕ). take k e ++ z) (append-nil f)
+
+pub put-part : {v w out e f : List ℕ} {k m : ℕ} → Put v out k e → k ≤ length e → Put w (midOf k (length e - k) e) m f → Put (v ++ w) out (k + m) (putMid k (length e - k) e f)
+put-part {v} {w} {out} {e} {f} {k} {m} a h b =
+    subst (Put (v ++ w) out (k + m)) (sym (rest-back k e f h)) (put-then a (subst (λ (d : List ℕ). Put w d m f) (rest-lent k e) b))
+
+-- ---- one piece behind another
+
+abbrev fedPut : {x : Standing} {begun s out : List ℕ} {y : Standing} {late : Bool} {k : ℕ} {after : List ℕ} → Feeds x begun s out y late k after → Put (fed (placeOf x begun) s .text) out k after
+fedPut h = record { bytes = h .bytes; text = h .text }
+
+pub feeds-none : (x : Standing) (begun out : List ℕ) (late : Bool) → Begun late begun → Feeds x begun [] out x late 0 out
+feeds-none x begun out late b = record { state = refl; begins = b; bytes = refl; text = refl }
+
+-- fed from where the first piece led
+feeds-at : (x : Standing) (begun s out : List ℕ) (y : Standing) (late : Bool) (k : ℕ) (after : List ℕ) (f : Fed) → fed (placeOf x begun) s ≡ f
+    → y ≡ f .place .standing → Begun late (f .place .begun) → Put (f .text) out k after → Feeds x begun s out y late k after
+feeds-at x begun s out y late k after f e q b p =
+    record {
+      state = q ∙ ap (λ (z : Fed). z .place .standing) (sym e);
+      begins = subst (λ (z : Fed). Begun late (z .place .begun)) (sym e) b;
+      bytes = p .bytes ∙ ap (λ (z : Fed). length (z .text)) (sym e);
+      text = p .text ∙ ap (λ (z : Fed). z .text ++ drop k out) (sym e);
+    }
+
+pub feeds-then : {x y z : Standing} {begun a b out e f : List ℕ} {late late' : Bool} {k m : ℕ} → Feeds x begun a out y late k e
+    → ((begun' : List ℕ) → Begun late begun' → Feeds y begun' b (drop k e) z late' m f) → Feeds x begun (a ++ b) out z late' (k + m) (take k e ++ f)
+feeds-then {x} {y} {z} {begun} {a} {b} {out} {e} {f} {late} {late'} {k} {m} h g =
+    let F : Fed = fed (placeOf x begun) a in
+    let u : Feeds (F .place .standing) (F .place .begun) b (drop k e) z late' m f =
+    subst (λ (s : Standing). Feeds s (F .place .begun) b (drop k e) z late' m f) (h .state) (g (F .place .begun) (h .begins)) in
+    feeds-at x begun (a ++ b) out z late' (k + m) (take k e ++ f) (behind (F .text) (fed (F .place) b)) (fed-append (placeOf x begun) a b)
+    (u .state) (u .begins) (put-then (fedPut h) (fedPut u))
+
+-- ---- one line
+
+-- the bytes up to its newline
+fed-ended : (p : Place) (s : List ℕ) (e : ℕ) → e ≡ beforeNewline s → e < length s → fed p (take (e + 1) s) ≡ told (within p (take e s))
+fed-ended p s e q h = rw (add-one, q) (fed-line p s (subst (λ (k : ℕ). k < length s) q h))
+
+-- a line that is not too long is read
+pub line-read : (x : Standing) (s : List ℕ) → length s ≤ lineMost → lineEnded (placeOf x s) ≡ lineReply s x
+line-read x s h = ap (λ (r : Reading). reply r x) (sym (cond-yes _ _ _ _ (le-leb _ _ h) refl))
+
+-- one that is too long fails check 1
+pub line-refused : (x : Standing) (s : List ℕ) → lineMost < length s → lineEnded (placeOf x s) ≡ refusing 1 x
+line-refused x s h = ap (λ (r : Reading). reply r x) (sym (cond-no _ _ _ _ (lt-leb _ _ h) refl))
+
+-- where a line ended, it was answered by r
+feeds-line : (x : Standing) (begun s out : List ℕ) (e : ℕ) (r : Reply) (y : Standing) (k : ℕ) (after : List ℕ) → e ≡ beforeNewline s → e < length s
+    → lineEnded (placeOf x (begun ++ take e s)) ≡ r → y ≡ r .standing → Put (printedLine r) out k after → Feeds x begun (take (e + 1) s) out y false k after
+feeds-line x begun s out e r y k after q h l u p =
+    feeds-at x begun (take (e + 1) s) out y false k after (told (placeOf x (begun ++ take e s))) (fed-ended (placeOf x begun) s e q h)
+    (u ∙ ap (λ (z : Reply). z .standing) (sym l)) refl (subst (λ (z : Reply). Put (printedLine z) out k after) (sym l) p)
+
+-- a line of which nothing was passed over
+pub feeds-read : (x : Standing) (s out : List ℕ) (n : Next) (e : ℕ) (y : Standing) (k : ℕ) (after : List ℕ) → n ≡ nextLine s → n ≡ Line e
+    → y ≡ lineReply (take e s) x .standing → Put (printedLine (lineReply (take e s) x)) out k after
+    → (begun : List ℕ) → Begun false begun → Feeds x begun (take (e + 1) s) out y false k after
+feeds-read x s out n e y k after q p u w begun b =
+    let f : (e ≡ beforeNewline s) × (e < length s) × (e ≤ lineMost) = found s n (Line e) q p in
+    let l : length (take e s) ≤ lineMost = omega (arith, length-take-le e s (omega (arith, f .1)), f .2) in
+    subst (λ (z : List ℕ). Feeds x z (take (e + 1) s) out y false k after) (sym b)
+    (feeds-line x [] s out e (lineReply (take e s) x) y k after (f .0) (f .1) (line-read x (take e s) l) u w)
+
+-- a line of which too much was passed over
+pub feeds-late : (x : Standing) (s out : List ℕ) (n : Next) (e k : ℕ) (after : List ℕ) → n ≡ nextLine s → n ≡ Line e
+    → Put (line (answerForm (Refused 1))) out k after → (begun : List ℕ) → Begun true begun → Feeds x begun (take (e + 1) s) out x false k after
+feeds-late x s out n e k after q p w begun b =
+    let f : (e ≡ beforeNewline s) × (e < length s) × (e ≤ lineMost) = found s n (Line e) q p in
+    let l : lineMost < length (begun ++ take e s) = omega (arith, length-append begun (take e s), b) in
+    feeds-line x begun s out e (refusing 1 x) x k after (f .0) (f .1) (line-refused x (begun ++ take e s) l) refl w
+
+-- a line that is too long by itself
+pub feeds-long : (x : Standing) (s out : List ℕ) (n : Next) (e k : ℕ) (after : List ℕ) (late : Bool) → n ≡ nextLine s → n ≡ Long e
+    → Put (line (answerForm (Refused 1))) out k after → (begun : List ℕ) → Begun late begun → Feeds x begun (take (e + 1) s) out x false k after
+feeds-long x s out n e k after late q p w begun b =
+    let f : (e ≡ beforeNewline s) × (e < length s) × (lineMost < e) = found s n (Long e) q p in
+    let l : lineMost < length (begun ++ take e s) = omega (arith, length-append begun (take e s), length-take-le e s (omega (arith, f .1)), f .2) in
+    feeds-line x begun s out e (refusing 1 x) x k after (f .0) (f .1) (line-refused x (begun ++ take e s) l) refl w
+
+-- bytes of a line that is too long and goes on
+pub feeds-endless : (x : Standing) (s out : List ℕ) (n : Next) (late : Bool) → n ≡ nextLine s → n ≡ Endless
+    → (begun : List ℕ) → Begun late begun → Feeds x begun (take (length s) s) out x true 0 out
+feeds-endless x s out n late q p begun b =
+    let f : (length s ≤ beforeNewline s) × (lineMost < length s) = found s n Endless q p in
+    let l : lineMost < length (begun ++ s) = omega (arith, length-append begun s, f .1) in
+    subst (λ (z : List ℕ). Feeds x begun z out x true 0 out) (sym (take-all (length s) s (omega arith)))
+    (feeds-at x begun s out x true 0 out (record { place = within (placeOf x begun) s; text = [] }) (fed-within (placeOf x begun) s (f .0)) refl l (put-none out))
+
+-- ---- turns
+
+-- nothing can be done with the bytes at hand
+pub turn-none : (x : Standing) (late : Bool) (bytes out tally network : List ℕ) (s : Session) → x ≡ standingOf s tally network
+    → (length out < 0 + printedMost) ⊎ (nextLine bytes ≡ Unfinished)
+    → Turns x late bytes out tally network (record { session = s; late = late; used = 0; printed = 0 }) out
+turn-none x late bytes out tally network s e h = record {
+  within = omega arith;
+  room = omega arith;
+  feeds = λ begun b. subst (λ (y : Standing). Feeds x begun [] out y late 0 out) e (feeds-none x begun out late b);
+  stops = λ z. h;
+}
+
+-- a line was used
+pub turn-passed : (x : Standing) (late : Bool) (bytes out tally network : List ℕ) (r : Served) (after : List ℕ) (e : ℕ) (y : Standing) (words : List ℕ)
+    → e < length bytes → Passes e y words out tally network r after → length words ≤ printedMost → printedMost ≤ length out
+    → ((begun : List ℕ) → Begun late begun → Feeds x begun (take (e + 1) bytes) out y false (r .printed) after)
+    → Turns x late bytes out tally network r after
+turn-passed x late bytes out tally network r after e y words h p short room f = record {
+  within = omega (arith, p .used);
+  room = omega (arith, p .put .bytes);
+  feeds = λ begun b.
+      subst (λ (k : ℕ). Feeds x begun (take k bytes) out (standingOf (r .session) tally network) (r .late) (r .printed) after) (sym (p .used))
+      (subst (λ (t : Bool). Feeds x begun (take (e + 1) bytes) out (standingOf (r .session) tally network) t (r .printed) after) (sym (p .late))
+      (subst (λ (z : Standing). Feeds x begun (take (e + 1) bytes) out z false (r .printed) after) (sym (p .state)) (f begun b)));
+  stops = λ z. absurd (omega (arith, p .used));
+}
+
+-- a line of which too much was passed over, or that is too long by itself, was refused
+pub turn-late : (s : Session) (late : Bool) (bytes out tally network : List ℕ) (n : Next) (e : ℕ) (r : Served) (after : List ℕ) → late ≡ true → n ≡ nextLine bytes → n ≡ Line e
+    → Refuses e s out r after → printedMost ≤ length out → Turns (standingOf s tally network) late bytes out tally network r after
+turn-late s late bytes out tally network n e r after l q p h room =
+    let x : Standing = standingOf s tally network in
+    turn-passed x late bytes out tally network r after e x (line (answerForm (Refused 1))) (found bytes n (Line e) q p .1) (h tally network) (answer-length (Refused 1)) room
+    (λ begun b. feeds-late x bytes out n e (r .printed) after q p (h tally network .put) begun (subst (λ (t : Bool). Begun t begun) l b))
+
+pub turn-long : (s : Session) (late : Bool) (bytes out tally network : List ℕ) (n : Next) (e : ℕ) (r : Served) (after : List ℕ) → n ≡ nextLine bytes → n ≡ Long e
+    → Refuses e s out r after → printedMost ≤ length out → Turns (standingOf s tally network) late bytes out tally network r after
+turn-long s late bytes out tally network n e r after q p h room =
+    let x : Standing = standingOf s tally network in
+    turn-passed x late bytes out tally network r after e x (line (answerForm (Refused 1))) (found bytes n (Long e) q p .1) (h tally network) (answer-length (Refused 1)) room
+    (λ begun b. feeds-long x bytes out n e (r .printed) after late q p (h tally network .put) begun b)
+
+-- a line was answered
+pub turn-line : (x : Standing) (late : Bool) (bytes out tally network : List ℕ) (n : Next) (e : ℕ) (r : Served) (after : List ℕ) → late ≡ false → n ≡ nextLine bytes → n ≡ Line e
+    → Passes (length (take e bytes)) (lineReply (take e bytes) x .standing) (printedLine (lineReply (take e bytes) x)) out tally network r after → printedMost ≤ length out
+    → Turns x late bytes out tally network r after
+turn-line x late bytes out tally network n e r after l q p h room =
+    let f : (e ≡ beforeNewline bytes) × (e < length bytes) × (e ≤ lineMost) = found bytes n (Line e) q p in
+    let k : length (take e bytes) ≡ e = length-take-le e bytes (omega (arith, f .1)) in
+    let y : Standing = lineReply (take e bytes) x .standing in
+    let w : List ℕ = printedLine (lineReply (take e bytes) x) in
+    let g : Passes e y w out tally network r after = subst (λ (i : ℕ). Passes i y w out tally network r after) k h in
+    turn-passed x late bytes out tally network r after e y w (f .1) g (answer-length (lineReply (take e bytes) x .answer)) room
+    (λ begun b. feeds-read x bytes out n e y (r .printed) after q p refl (g .put) begun (subst (λ (t : Bool). Begun t begun) l b))
+
+-- bytes of a line that is too long and goes on were passed over
+pub turn-endless : (s : Session) (late : Bool) (bytes out tally network : List ℕ) (n : Next) → n ≡ nextLine bytes → n ≡ Endless
+    → Turns (standingOf s tally network) late bytes out tally network (record { session = s; late = true; used = length bytes; printed = 0 }) out
+turn-endless s late bytes out tally network n q p = record {
+  within = omega arith;
+  room = omega arith;
+  feeds = feeds-endless (standingOf s tally network) bytes out n late q p;
+  stops = λ z. absurd (omega (arith, found bytes n Endless q p .1));
+}

@@ -1,0 +1,184 @@
+-- Texts printed into lent bytes. Assumes nothing.
+use mathlib.Core.Path.{_≡_, refl, sym, ap, _∙_, subst}
+use mathlib.Core.Bool.{Bool, true, false, _||_, cond}
+use Prim.Native.Nat.{ℕ, _+_, _-_, _*_, _≤_, _<_}
+use native.Mathlib.Omega.{arith}
+use native.Mathlib.Numerals.{add-one}
+use mathlib.Core.List.{List, [], _∷_, _++_}
+use lib.ListN.{length, drop}
+use borrow.Rule.Slice.PartMut.{midOf, putMid, same-len-mid}
+use lib.Dec.{ltb}
+use borrow.Author.Tests.{lt-ltb, le-ltb}
+use Rattle.base.specs.Choice.{cond-yes, cond-no}
+use Rattle.types.specs.declared.Answer.{Answer}
+use Rattle.types.specs.declared.Answer.the-variants as Answer
+use Rattle.types.specs.declared.Run.{Run}
+use Rattle.types.specs.Quantities.{tableClocks}
+use Rattle.model.specs.State.{isCorrect, viewOf, clockOf}
+use Rattle.lines.specs.declared.Written.{Written}
+use Rattle.lines.specs.declared.Written.the-variants.{Bytes, Refused}
+use Rattle.lines.specs.Contracts.{line, Writes, writtenAs, writtenIn}
+use Rattle.lines.specs.Printout.{answerForm, processorForm, printedMost}
+use Rattle.lines.specs.Splitting.{remainder}
+use Rattle.lines.proofs.Printing.{answer-length, processor-length}
+use Rattle.lines.specs.declared.Reading.{Reading}
+use Rattle.reader.specs.Lines.{reading}
+use Rattle.driver.specs.declared.Session.{Session}
+use Rattle.driver.specs.declared.Printed.{Printed}
+use Rattle.driver.specs.Printout.{Standing, standingOf, lineReply, printedLine, processorLines, closing, printed}
+use Rattle.driver.specs.Contracts.{Prints, AnswersLine, Begun, closingMost, Closes}
+use Rattle.driver.specs.Inner.{Put, PrintsReply, Passes}
+use Rattle.driver.proofs.Serving.{put-none, put-inside, left-over, put-part}
+
+-- ---- what the writer wrote, where it has room
+
+room-written : (form out after : List ℕ) (r : Written) → Writes false form out r after → length (line form) ≤ length out
+    → (r ≡ Bytes (length (line form))) × (after ≡ line form ++ drop (length (line form)) out)
+unfolding writtenAs writtenIn
+room-written form out after r w h =
+    let n : ltb (length out) (length (line form)) ≡ false = le-ltb _ _ h in (rw n at (w .0), rw n at (w .1))
+
+pub put-written : (form out after : List ℕ) (r : Written) (k : ℕ) → Writes false form out r after → length (line form) ≤ length out → r ≡ Bytes k → Put (line form) out k after
+put-written form out after r k w h e =
+    let u = room-written form out after r w h in
+    let q : Bytes k ≡ Bytes (length (line form)) = sym e ∙ u .0 in
+    let n : k ≡ length (line form) = cc in
+    record { bytes = n; text = u .1 ∙ ap (λ (i : ℕ). line form ++ drop i out) (sym n) }
+
+pub never-refused : (form out after : List ℕ) (r : Written) (c : ℕ) → Writes false form out r after → length (line form) ≤ length out → r ≡ Refused c → ⊥
+never-refused form out after r c w h e =
+    let q : Refused c ≡ Bytes (length (line form)) = sym e ∙ room-written form out after r w h .0 in
+    let z : _≡_ {A = ℕ} 0 1 = cc in
+    omega arith
+
+pub answer-room : (a : Answer) (out : List ℕ) → printedMost ≤ length out → length (line (answerForm a)) ≤ length out
+answer-room a out h = omega (arith, answer-length a)
+
+pub processor-room : (p view clock : ℕ) (out : List ℕ) → printedMost ≤ length out → length (line (processorForm p view clock)) ≤ length out
+processor-room p view clock out h = omega (arith, processor-length p view clock)
+
+-- ---- a text that is printed or not
+
+pub put-yes : (t : Bool) (words out : List ℕ) (k : ℕ) (after : List ℕ) → t ≡ true → Put words out k after → Put (cond t words []) out k after
+put-yes t words out k after e p = rw e p
+
+pub put-no : (t : Bool) (words out : List ℕ) → t ≡ false → Put (cond t words []) out 0 out
+put-no t words out e = rw e (put-none out)
+
+-- ---- printed, or refused for too few bytes
+
+pub too-few : (most : ℕ) (words out : List ℕ) → length out < most → Prints most words out (Refused 1) out
+too-few most words out h = (cond-yes _ _ _ _ (lt-ltb _ _ h) refl, cond-yes _ _ _ _ (lt-ltb _ _ h) refl)
+
+pub put-prints : (most : ℕ) (words out : List ℕ) (k : ℕ) (after : List ℕ) → most ≤ length out → Put words out k after → Prints most words out (Bytes k) after
+put-prints most words out k after h p =
+    (cond-no _ _ _ _ (le-ltb _ _ h) (ap Bytes (p .bytes)), cond-no _ _ _ _ (le-ltb _ _ h) (p .text ∙ ap (λ (i : ℕ). words ++ drop i out) (p .bytes)))
+
+-- ---- the processors
+
+-- those below p are printed
+pub record Told (run : Run) (out : List ℕ) (p at : ℕ) (after : List ℕ) : Type 0 where
+  pub put : Put (processorLines run p) out at after
+  pub few : at ≤ p * printedMost
+  pub same : length after ≡ length out
+
+pub told-none : (run : Run) (out : List ℕ) → Told run out 0 0 out
+told-none run out = record { put = put-none out; few = omega arith; same = refl }
+
+pub told-inside : (run : Run) (out : List ℕ) (p at : ℕ) (e : List ℕ) → tableClocks * printedMost ≤ length out → Told run out p at e → p < tableClocks → at ≤ length e
+told-inside run out p at e h t l = omega (arith, t .few, t .same)
+
+-- a processor's line, or none
+pub one-most : (t : Bool) (p view clock m : ℕ) (out after : List ℕ) → Put (cond t (line (processorForm p view clock)) []) out m after → m ≤ printedMost
+one-most true p view clock m out after w = omega (arith, w .bytes, processor-length p view clock)
+one-most false p view clock m out after w = omega (arith, w .bytes)
+
+pub told-room : (run : Run) (out : List ℕ) (p at : ℕ) (e : List ℕ) → tableClocks * printedMost ≤ length out → Told run out p at e → p < tableClocks
+    → printedMost ≤ length (midOf at (length e - at) e)
+told-room run out p at e h t l = omega (arith, left-over at e, t .few, t .same)
+
+pub told-fits : (run : Run) (out : List ℕ) (p at : ℕ) (e : List ℕ) (m : ℕ) (f : List ℕ) → Told run out p at e → p < tableClocks
+    → Put (cond (isCorrect run p) (line (processorForm p (viewOf run p) (clockOf run p))) []) (midOf at (length e - at) e) m f → at + m ≤ tableClocks * printedMost
+told-fits run out p at e m f t l w = omega (arith, t .few, one-most (isCorrect run p) p (viewOf run p) (clockOf run p) m (midOf at (length e - at) e) f w)
+
+pub told-more : (run : Run) (out : List ℕ) (p at : ℕ) (e : List ℕ) (m : ℕ) (f : List ℕ) → tableClocks * printedMost ≤ length out → Told run out p at e → p < tableClocks
+    → Put (cond (isCorrect run p) (line (processorForm p (viewOf run p) (clockOf run p))) []) (midOf at (length e - at) e) m f
+    → length f ≡ length (midOf at (length e - at) e) → Told run out (p + 1) (at + m) (putMid at (length e - at) e f)
+told-more run out p at e m f h t l w q =
+    record {
+      put = rw add-one (put-part (t .put) (told-inside run out p at e h t l) w);
+      few = omega (arith, t .few, one-most (isCorrect run p) p (viewOf run p) (clockOf run p) m (midOf at (length e - at) e) f w);
+      same = same-len-mid at (length e - at) e f q ∙ t .same;
+    }
+
+pub told-all : (run : Run) (out : List ℕ) (p at : ℕ) (e : List ℕ) → (p ≤ tableClocks) × Told run out p at e → tableClocks ≤ p → Put (processorLines run tableClocks) out at e
+told-all run out p at e t h = let q : p ≡ tableClocks = omega (arith, t .0) in subst (λ (k : ℕ). Put (processorLines run k) out at e) q (t .1 .put)
+
+-- ---- the end
+
+-- the line that is left, if there is one
+abbrev pub leftText : Bool → List ℕ
+leftText t = cond t (line (answerForm (Answer.Refused 1))) []
+
+pub closing-text : (s : Session) (tally network begun : List ℕ) (late : Bool) (rest : List ℕ) → Begun late begun
+    → printed (standingOf s tally network) (remainder (begun ++ rest)) ≡ leftText (late || ltb 0 (length rest)) ++ closing s
+closing-text s tally network [] true rest b = absurd (omega arith)
+closing-text s tally network (c ∷ begun) true rest b = refl
+closing-text s tally network begun false [] b = rw b refl
+closing-text s tally network begun false (c ∷ rest) b = let l : 0 < length (c ∷ rest) = omega arith in let h : ltb 0 (length (c ∷ rest)) ≡ true = lt-ltb _ _ l in rw (b, h) refl
+
+-- ---- one line
+
+pub line-few : (s : List ℕ) (x : Standing) (out : List ℕ) → length out < printedMost → AnswersLine s x out x (Refused 1) out
+line-few s x out h = (cond-yes _ _ _ _ (lt-ltb _ _ h) refl, too-few printedMost (printedLine (lineReply s x)) out h)
+
+pub line-answered : (s : List ℕ) (x : Standing) (out tally network : List ℕ) (r : Reading) (a : Printed) (after : List ℕ) → printedMost ≤ length out → r ≡ reading s
+    → PrintsReply x r out tally network a after → AnswersLine s x out (standingOf (a .session) tally network) (Bytes (a .bytes)) after
+line-answered s x out tally network r a after h e p =
+    let q : PrintsReply x (reading s) out tally network a after = subst (λ (z : Reading). PrintsReply x z out tally network a after) e p in
+    (cond-no _ _ _ _ (le-ltb _ _ h) (q .state), put-prints printedMost (printedLine (lineReply s x)) out (a .bytes) after h (q .put))
+
+pub line-passed : (s : List ℕ) (x : Standing) (out tally network : List ℕ) (r : Reading) (a : Printed) (after : List ℕ) → r ≡ reading s → PrintsReply x r out tally network a after
+    → Passes (length s) (lineReply s x .standing) (printedLine (lineReply s x)) out tally network
+    (record { session = a .session; late = false; used = length s + 1; printed = a .bytes }) after
+line-passed s x out tally network r a after e p =
+    let q : PrintsReply x (reading s) out tally network a after = subst (λ (z : Reading). PrintsReply x z out tally network a after) e p in
+    record { used = refl; late = refl; state = q .state; put = q .put }
+
+-- ---- all of the end
+
+pub put-closing : (s : Session) (out : List ℕ) (k : ℕ) (after : List ℕ) → s .opened ≡ true → Put (processorLines (s .run) tableClocks) out k after → Put (closing s) out k after
+unfolding closing
+put-closing s out k after e p = rw e p
+
+pub put-unopened : (s : Session) (out : List ℕ) → s .opened ≡ false → Put (closing s) out 0 out
+unfolding closing
+put-unopened s out e = rw e (put-none out)
+
+-- the line that is left has room
+pub left-most : (t : Bool) (out : List ℕ) (k : ℕ) (after : List ℕ) → Put (leftText t) out k after → k ≤ printedMost
+left-most true out k after p = omega (arith, p .bytes, answer-length (Answer.Refused 1))
+left-most false out k after p = omega (arith, p .bytes)
+
+-- and so have those of the processors
+pub left-inside : (t : Bool) (out : List ℕ) (k : ℕ) (e : List ℕ) → Put (leftText t) out k e → closingMost ≤ length out → length e ≡ length out → k ≤ length e
+left-inside t out k e p h l = omega (arith, left-most t out k e p)
+
+pub closing-room : (t : Bool) (out : List ℕ) (k : ℕ) (e : List ℕ) → Put (leftText t) out k e → closingMost ≤ length out → length e ≡ length out
+    → tableClocks * printedMost ≤ length (midOf k (length e - k) e)
+closing-room t out k e p h l = omega (arith, left-most t out k e p, left-over k e)
+
+pub closing-fits : (t : Bool) (out : List ℕ) (k : ℕ) (e words : List ℕ) (m : ℕ) (f : List ℕ) → Put (leftText t) out k e → closingMost ≤ length out → length e ≡ length out
+    → Put words (midOf k (length e - k) e) m f → length f ≡ length (midOf k (length e - k) e) → k + m ≤ length out
+closing-fits t out k e words m f p h l q n =
+    omega (arith, left-inside t out k e p h l, left-over k e, put-inside words (midOf k (length e - k) e) m f q n)
+
+pub closes-few : (s : Session) (late : Bool) (rest out : List ℕ) → length out < closingMost → Closes s late rest out (Refused 1) out
+closes-few s late rest out h tally network begun b = too-few closingMost (printed (standingOf s tally network) (remainder (begun ++ rest))) out h
+
+pub closes : (s : Session) (late : Bool) (rest out : List ℕ) (k : ℕ) (e : List ℕ) (m : ℕ) (f : List ℕ) → closingMost ≤ length out
+    → Put (leftText (late || ltb 0 (length rest))) out k e → k ≤ length e → Put (closing s) (midOf k (length e - k) e) m f
+    → Closes s late rest out (Bytes (k + m)) (putMid k (length e - k) e f)
+closes s late rest out k e m f h p l q tally network begun b =
+    put-prints closingMost (printed (standingOf s tally network) (remainder (begun ++ rest))) out (k + m) (putMid k (length e - k) e f) h
+    (subst (λ (w : List ℕ). Put w out (k + m) (putMid k (length e - k) e f)) (sym (closing-text s tally network begun late rest b)) (put-part p l q))

@@ -1,0 +1,2 @@
+-- Laws behind the proofs of the program's loop.
+pub mod Keeping

@@ -1,0 +1,63 @@
+use lib.Seq.{length-take-le}
+use mathlib.Core.Path.{sym}
+use borrow.Author.Needs.{needs}
+use Rattle.stream.proofs.run.Statement.{statement}
+use Rattle.stream.proofs.run.Tie as tie
+use Rattle.stream.proofs.run.Reads as reads
+use Rattle.stream.proofs.run.Lts as lts
+use Rattle.io.proofs.large_buffer.Reads as large-buffer-reads
+use Rattle.stream.proofs.answer_input.Reads as answer-input-reads
+use Rattle.stream.proofs.close_input.Reads as close-input-reads
+
+large-buffer-requires : tie.Need-large-buffer-requires
+large-buffer-requires c κs = search needs
+
+large-buffer-requires-2 : tie.Need-large-buffer-requires-2
+large-buffer-requires-2 c κs = search needs
+
+slice-aggregate-answer-input : tie.Need-slice-aggregate-answer-input
+slice-aggregate-answer-input c = search needs
+
+slice-aggregate-answer-input-2 : tie.Need-slice-aggregate-answer-input-2
+slice-aggregate-answer-input-2 c = search needs
+
+slice-aggregate-answer-input-3 : tie.Need-slice-aggregate-answer-input-3
+slice-aggregate-answer-input-3 c = search needs
+
+slice-aggregate-answer-input-4 : tie.Need-slice-aggregate-answer-input-4
+slice-aggregate-answer-input-4 c = search needs
+
+answer-input-requires : tie.Need-answer-input-requires
+answer-input-requires c κs = search needs
+
+array-share-prefix-window : tie.Need-array-share-prefix-window
+array-share-prefix-window c = search needs
+
+slice-aggregate-close-input : tie.Need-slice-aggregate-close-input
+slice-aggregate-close-input c = sym (length-take-le _ _ (c .before .before .before .before .before .before .answer-input .ensures))
+
+slice-aggregate-close-input-2 : tie.Need-slice-aggregate-close-input-2
+slice-aggregate-close-input-2 c = search needs
+
+close-input-requires : tie.Need-close-input-requires
+close-input-requires c κs = search needs
+
+returns : tie.Need-returns
+returns c = search needs
+
+pub run-spec : {M : Type 1} → statement M
+run-spec =
+    tie.close
+    (tie.spec
+    large-buffer-requires
+    large-buffer-requires-2
+    slice-aggregate-answer-input
+    slice-aggregate-answer-input-2
+    slice-aggregate-answer-input-3
+    slice-aggregate-answer-input-4
+    answer-input-requires
+    array-share-prefix-window
+    slice-aggregate-close-input
+    slice-aggregate-close-input-2
+    close-input-requires
+    returns)

@@ -1,0 +1,160 @@
+// The simulate program between two open files. What is read and what is printed are the driver's; here bytes are moved.
+use driver::NETWORK_WORDS;
+use driver::Session;
+use driver::TALLY_WORDS;
+use lines::Written;
+ghost use mathlib.Core.Path.{_≡_};
+ghost use Prim.Native.Nat.{_+_, _-_, _≤_};
+ghost use lib.ListN.{length, drop};
+ghost use lib.Seq.{paste};
+
+// The session, whether bytes of a line that is too long were passed over, and a number of bytes: used, or left unused at the start of the window.
+struct Progress {
+    session: Session,
+    late: bool,
+    bytes: usize,
+}
+
+// The bytes from `used` on, up to `filled`, go to the start.
+fn keep(window: &mut [u8], used: usize, filled: usize) -> usize
+    requires { ⌜ (used ≤ filled) × (filled ≤ length (now window)) ⌝ }
+    ensures { λ r. ⌜ (r ≡ filled - used) × (now (window .exit) ≡ paste (now (window .entry)) 0 (drop used (now (window .entry))) r) ⌝ }
+{
+    let unused = filled - used;
+    let mut i = 0;
+    while i < unused {
+        window[i] = window[used + i];
+        i += 1;
+    }
+    unused
+}
+
+// Every line that ends within the bytes is answered, and the answers written.
+fn answer_all(
+    session: Session,
+    late: bool,
+    bytes: &[u8],
+    tally: &mut [u64],
+    network: &mut [u64],
+    out: &mut [u8],
+    to: i32,
+) -> Progress
+    ensures { λ r. ⌜ r .bytes ≤ length (now (bytes .entry)) ⌝ }
+{
+    let mut state = session;
+    let mut passed = late;
+    let mut used = 0;
+    while used < bytes.len() {
+        let served = driver::answer_lines(state, passed, &bytes[used..], tally, network, out);
+        let printed = served.printed;
+        io::write_all(to, &out[..printed]);
+        state = served.session;
+        passed = served.late;
+        used += served.used;
+        if served.used == 0 {
+            return Progress {
+                session: state,
+                late: passed,
+                bytes: used,
+            };
+        }
+    }
+    Progress {
+        session: state,
+        late: passed,
+        bytes: used,
+    }
+}
+
+// The same with the first `filled` bytes of the window. Those that are left go to its start.
+fn answer_window(
+    session: Session,
+    late: bool,
+    window: &mut [u8],
+    filled: usize,
+    tally: &mut [u64],
+    network: &mut [u64],
+    out: &mut [u8],
+    to: i32,
+) -> Progress
+    requires { ⌜ filled ≤ length (now window) ⌝ }
+    ensures { λ r. ⌜ r .bytes ≤ length (now (window .exit)) ⌝ }
+{
+    let answered = answer_all(session, late, &window[..filled], tally, network, out, to);
+    let state = answered.session;
+    Progress {
+        session: state,
+        late: answered.late,
+        bytes: keep(window, answered.bytes, filled),
+    }
+}
+
+// One read, behind the unused bytes.
+fn read_behind(from: i32, window: &mut [u8], unused: usize) -> usize
+    requires { ⌜ unused ≤ length (now window) ⌝ }
+    ensures { λ r. ⌜ unused + r ≤ length (now (window .exit)) ⌝ }
+{
+    let free: &mut [u8] = &mut window[unused..];
+    let got = libc::read(from, free);
+    io::count(got, free)
+}
+
+// Reads to the end. No input uses up the turns.
+fn answer_input(
+    from: i32,
+    to: i32,
+    tally: &mut [u64],
+    network: &mut [u64],
+    window: &mut [u8],
+    out: &mut [u8],
+) -> Progress
+    ensures { λ r. ⌜ r .bytes ≤ length (now (window .exit)) ⌝ }
+{
+    let mut session = Session::unopened();
+    let mut late = false;
+    let mut unused = 0;
+    let mut turns = u64::MAX;
+    while 0 < turns {
+        turns -= 1;
+        let got = read_behind(from, window, unused);
+        if got == 0 {
+            return Progress {
+                session: session,
+                late: late,
+                bytes: unused,
+            };
+        }
+        let left = answer_window(session, late, window, unused + got, tally, network, out, to);
+        session = left.session;
+        late = left.late;
+        unused = left.bytes;
+    }
+    Progress {
+        session: session,
+        late: late,
+        bytes: unused,
+    }
+}
+
+// What comes at the end is written.
+fn close_input(session: Session, late: bool, rest: &[u8], out: &mut [u8], to: i32) {
+    let end = driver::finish(session, late, rest, out);
+    let Written::Bytes(printed) = end else {
+        return;
+    };
+    if printed <= out.len() {
+        io::write_all(to, &out[..printed]);
+    }
+}
+
+// Reads a schedule to its end and writes its printout.
+pub fn run(from: i32, to: i32) {
+    let mut tally = [0u64; TALLY_WORDS];
+    let mut network = [0u64; NETWORK_WORDS];
+    let mut window = io::large_buffer();
+    let mut out = io::large_buffer();
+    let answered = answer_input(from, to, &mut tally, &mut network, &mut window, &mut out);
+    let session = answered.session;
+    let unused = answered.bytes;
+    close_input(session, answered.late, &window[..unused], &mut out, to);
+}

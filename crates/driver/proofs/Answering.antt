@@ -1,6 +1,6 @@
 -- What is replied to each kind of line. Assumes nothing.
 use mathlib.Core.Path.{_≡_, refl, ap, subst}
-use mathlib.Core.Bool.{Bool, true, false, _||_}
+use mathlib.Core.Bool.{Bool, true, false}
 use mathlib.Core.List.{List, [], _∷_}
 use Prim.Native.Nat.{ℕ}
 use types.Run.{OneOf, miss}
@@ -10,7 +10,7 @@ use Rattle.base.specs.Choice.{cond-yes, cond-no}
 use Rattle.types.specs.declared.Event.{Event}
 use Rattle.types.specs.declared.Setup.{Setup}
 use Rattle.types.specs.declared.Answer.{Answer}
-use Rattle.model.specs.State.{After, accepted}
+use Rattle.model.specs.State.{After}
 use Rattle.model.specs.Opening.{opening}
 use Rattle.model.specs.Events.{applied}
 use Rattle.lines.specs.declared.Read.{Read}
@@ -20,7 +20,7 @@ use Rattle.lines.specs.Contracts.{line}
 use Rattle.lines.specs.Printout.{answerForm}
 use Rattle.driver.specs.declared.Answered.{Answered}
 use Rattle.driver.specs.Inner.{answering, Put, PrintsReply}
-use Rattle.driver.specs.Printout.{Standing, Reply, reply, printedLine, stateIn, leaving, refusing, printedAnswer, eventReply, openingReply, readReply}
+use Rattle.printout.specs.Printout.{Standing, Reply, reply, printedLine, stateIn, leaving, refusing, printedAnswer, staysOpen, eventReply, openingReply, readReply}
 
 -- a line that is neither an event nor an opening
 pub neither : (r : Read) (u : Setup) (x : Standing) → OneOf (0 ∷ 2 ∷ []) (tagOf the-type r) → OneOf (1 ∷ 2 ∷ []) (tagOf the-type r) → refusing 1 x ≡ readReply r u x
@@ -40,7 +40,7 @@ unfolding eventReply
 event-early e x o = cond-no _ _ _ _ o refl
 
 -- an opening
-pub opening-applied : (u : Setup) (x : Standing) (a : After) (o : Bool) → a ≡ opening u (stateIn x) → o ≡ (x .session .opened || accepted (a .answer))
+pub opening-applied : (u : Setup) (x : Standing) (a : After) (o : Bool) → a ≡ opening u (stateIn x) → o ≡ staysOpen (x .session .opened) (a .answer)
     → record { standing = leaving o (a .state); answer = a .answer } ≡ openingReply u x
 unfolding openingReply
 opening-applied u x a o h q = rw (q, h) refl

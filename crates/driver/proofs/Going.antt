@@ -11,10 +11,10 @@ use borrow.Rule.Slice.PartMut.{midOf, putMid, same-len-mid}
 use Rattle.lines.specs.declared.Next.the-variants.{Unfinished}
 use Rattle.lines.specs.Printout.{printedMost}
 use Rattle.lines.specs.Splitting.{beforeNewline, nextLine}
-use Rattle.driver.specs.declared.Session.{Session}
-use Rattle.driver.specs.declared.Served.{Served}
-use Rattle.driver.specs.Printout.{Standing, standingOf}
-use Rattle.driver.specs.Contracts.{Begun, Feeds, Serves}
+use Rattle.printout.specs.declared.Session.{Session}
+use Rattle.printout.specs.declared.Served.{Served}
+use Rattle.printout.specs.Printout.{Standing, standingOf}
+use Rattle.printout.specs.Contracts.{Begun, Feeds, Serves}
 use Rattle.driver.specs.Inner.{Turns}
 use Rattle.driver.proofs.Serving.{rest-lent, rest-back, left-over, feeds-none, feeds-then}
 

@@ -20,12 +20,12 @@ use Rattle.lines.specs.Printout.{answerForm, printedMost}
 use Rattle.lines.specs.Splitting.{lineMost, beforeNewline, nextLine}
 use Rattle.lines.proofs.Splitting.{found}
 use Rattle.lines.proofs.Printing.{answer-length}
-use Rattle.driver.specs.declared.Session.{Session}
-use Rattle.driver.specs.declared.Served.{Served}
-use Rattle.driver.specs.Printout.{Standing, standingOf, Reply, reply, refusing, lineReply, printedLine}
-use Rattle.driver.specs.Contracts.{Place, placeOf, lineEnded, Fed, behind, fed, Begun, Feeds}
+use Rattle.printout.specs.declared.Session.{Session}
+use Rattle.printout.specs.declared.Served.{Served}
+use Rattle.printout.specs.Printout.{Standing, standingOf, Reply, reply, refusing, lineReply, printedLine}
+use Rattle.printout.specs.Contracts.{Place, placeOf, lineEnded, Fed, behind, fed, Begun, Feeds}
 use Rattle.driver.specs.Inner.{Put, Passes, Refuses, Turns}
-use Rattle.driver.proofs.Feeding.{fed-append, within, fed-within, told, fed-line}
+use Rattle.printout.proofs.Feeding.{fed-append, within, fed-within, told, fed-line}
 
 -- ---- one text behind another
 

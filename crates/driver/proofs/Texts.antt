@@ -23,10 +23,10 @@ use Rattle.lines.specs.Splitting.{remainder}
 use Rattle.lines.proofs.Printing.{answer-length, processor-length}
 use Rattle.lines.specs.declared.Reading.{Reading}
 use Rattle.reader.specs.Lines.{reading}
-use Rattle.driver.specs.declared.Session.{Session}
+use Rattle.printout.specs.declared.Session.{Session}
 use Rattle.driver.specs.declared.Printed.{Printed}
-use Rattle.driver.specs.Printout.{Standing, standingOf, lineReply, printedLine, processorLines, closing, printed}
-use Rattle.driver.specs.Contracts.{Prints, AnswersLine, Begun, closingMost, Closes}
+use Rattle.printout.specs.Printout.{Standing, standingOf, lineReply, printedLine, processorLines, closing, printed}
+use Rattle.printout.specs.Contracts.{Prints, AnswersLine, Begun, closingMost, Closes}
 use Rattle.driver.specs.Inner.{Put, PrintsReply, Passes}
 use Rattle.driver.proofs.Serving.{put-none, put-inside, left-over, put-part}
 

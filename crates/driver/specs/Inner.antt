@@ -11,12 +11,12 @@ use Rattle.lines.specs.declared.Reading.{Reading}
 use Rattle.lines.specs.Contracts.{line}
 use Rattle.lines.specs.Printout.{answerForm, printedMost}
 use Rattle.lines.specs.Splitting.{nextLine}
-use Rattle.driver.specs.declared.Session.{Session}
+use Rattle.printout.specs.declared.Session.{Session}
 use Rattle.driver.specs.declared.Answered.{Answered}
 use Rattle.driver.specs.declared.Printed.{Printed}
-use Rattle.driver.specs.declared.Served.{Served}
-use Rattle.driver.specs.Printout.{Standing, Reply, standingOf, reply, printedLine}
-use Rattle.driver.specs.Contracts.{Begun, Feeds}
+use Rattle.printout.specs.declared.Served.{Served}
+use Rattle.printout.specs.Printout.{Standing, Reply, standingOf, reply, printedLine}
+use Rattle.printout.specs.Contracts.{Begun, Feeds}
 
 -- what was answered, with the buffers as they were left
 abbrev pub answering : Answered → List ℕ → List ℕ → Reply

@@ -1,4 +1,2 @@
--- What the simulate program prints, as definitions, and what its functions owe to them.
-pub mod Printout
-pub mod Contracts
+-- What the driver's clauses cite.
 pub mod Inner

@@ -4,11 +4,11 @@ mod replies;
 mod turns;
 
 use lines::Written;
-use types::Plan;
-use types::Run;
-ghost use mathlib.Core.Path.{_≡_};
-ghost use Rattle.driver.specs.Printout.{unopened, standingOf};
-ghost use Rattle.driver.specs.Contracts.{AnswersLine, Serves, Closes};
+use printout::Served;
+use printout::Session;
+use types::Answer;
+ghost use Rattle.printout.specs.Printout.{standingOf};
+ghost use Rattle.printout.specs.Contracts.{AnswersLine, Serves, Closes};
 
 // The words that the program lends.
 pub const TALLY_WORDS: usize = 3600;
@@ -21,57 +21,16 @@ pub const PRINTED_MOST: usize = 73;
 // The bytes that an answer and the lines of all processors have at most.
 pub const CLOSING_MOST: usize = 4745;
 
-// The state of the program but for the lent buffers: whether a run is open, and the run.
-pub struct Session {
-    pub opened: bool,
-    pub run: Run,
-}
-
-impl Session {
-    // Before the first opening.
-    pub fn unopened() -> Session
-        ensures { λ r. ⌜ r ≡ unopened ⌝ }
-    {
-        Session {
-            opened: false,
-            run: Run {
-                plan: Plan {
-                    n: 0,
-                    delta: 0,
-                    gamma: 0,
-                    views: 0,
-                },
-                faulty: 0,
-                time: 0,
-                settled: false,
-                gst: 0,
-                held: 0,
-                clocks: [0; 64],
-                views: [0; 64],
-            },
-        }
-    }
-}
-
 // What a line left of the session, and the answer in the lent bytes: how many of them, or check 1 where too few are lent.
 pub struct Replied {
     pub session: Session,
     pub written: Written,
 }
 
-// What bytes of an input left: the session, whether more bytes than a line may have were passed over since the last newline, how many bytes were
-// used, and how many printed.
-pub struct Served {
-    pub session: Session,
-    pub late: bool,
-    pub used: usize,
-    pub printed: usize,
-}
-
 // What a line left of the session, and the answer to print.
 pub(crate) struct Answered {
     pub(crate) session: Session,
-    pub(crate) answer: types::Answer,
+    pub(crate) answer: Answer,
 }
 
 // The same with the answer printed: how many bytes it has.

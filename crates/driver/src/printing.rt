@@ -1,9 +1,9 @@
 // Answers and the closing lines, printed into lent bytes that have room for them. Each function answers how many bytes it printed.
 use crate::Printed;
-use crate::Session;
 use crate::replies;
 use lines::Reading;
 use lines::Written;
+use printout::Session;
 use types::Answer;
 use types::Plan;
 use types::Run;
@@ -15,7 +15,7 @@ ghost use lib.Dec.{ltb};
 ghost use Rattle.types.specs.Quantities.{tableClocks, correct};
 ghost use Rattle.lines.specs.Contracts.{line};
 ghost use Rattle.lines.specs.Printout.{answerForm, processorForm, printedMost};
-ghost use Rattle.driver.specs.Printout.{standingOf, processorLines, closing};
+ghost use Rattle.printout.specs.Printout.{standingOf, processorLines, closing};
 ghost use Rattle.driver.specs.Inner.{Put, PrintsReply};
 
 // An answer.

@@ -1,15 +1,13 @@
 // What is answered to an event, to an opening, and to a line that is neither.
 use crate::Answered;
-use crate::Session;
 use lines::Read;
 use lines::Reading;
+use printout::Session;
 use types::Answer;
 use types::Event;
 use types::Setup;
 ghost use mathlib.Core.Path.{_≡_};
-ghost use mathlib.Core.Bool.{_||_};
-ghost use Rattle.model.specs.State.{accepted};
-ghost use Rattle.driver.specs.Printout.{standingOf, endsTicks, ticksPrinted, printedAnswer, eventReply, openingReply, reply};
+ghost use Rattle.printout.specs.Printout.{standingOf, endsTicks, ticksPrinted, printedAnswer, staysOpen, eventReply, openingReply, reply};
 ghost use Rattle.driver.specs.Inner.{answering};
 
 // Whether the check ends ticks.
@@ -56,7 +54,7 @@ fn print_event(event: Event, held: usize, answer: Answer) -> Answer
 
 // Whether a run is open after an opening.
 fn stays_open(opened: bool, answer: Answer) -> bool
-    ensures { λ r. ⌜ r ≡ (opened || accepted answer) ⌝ }
+    ensures { λ r. ⌜ r ≡ staysOpen opened answer ⌝ }
 {
     if opened {
         return true;

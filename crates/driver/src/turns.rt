@@ -1,14 +1,14 @@
 // The next line of the bytes at hand.
 use crate::PRINTED_MOST;
-use crate::Served;
-use crate::Session;
 use crate::printing;
 use lines::Next;
+use printout::Served;
+use printout::Session;
 use types::Answer;
 ghost use Prim.Native.Nat.{_^_, _≤_, _<_};
 ghost use lib.ListN.{length};
 ghost use Rattle.lines.specs.Printout.{printedMost};
-ghost use Rattle.driver.specs.Printout.{standingOf, lineReply, printedLine};
+ghost use Rattle.printout.specs.Printout.{standingOf, lineReply, printedLine};
 ghost use Rattle.driver.specs.Inner.{Passes, Refuses, Turns};
 
 // A line that is too long; `end` of its bytes are at hand.

@@ -60,8 +60,6 @@ openings =
     ∷ schedule (lent 24 32) (setupOf standard 0 zeroes) [] (Done 0 8 ∷ [])
     -- 7 before 8
     ∷ schedule buffers (setupOf standard 0 (12 ∷ 0 ∷ 0 ∷ 0 ∷ [])) [] (Refused 7 ∷ [])
-    -- "Clocks all 12: check 7."
-    ∷ schedule buffers (setupOf standard 0 (replicate 4 12)) [] (Refused 7 ∷ [])
     -- 11 passes 7
     ∷ schedule buffers (setupOf standard 0 (11 ∷ 0 ∷ 0 ∷ 0 ∷ [])) [] (Refused 8 ∷ [])
     -- a faulty clock is not read by 7 or 8

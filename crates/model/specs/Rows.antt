@@ -1,4 +1,4 @@
--- Rows of tables: what the definitions give, as numbers, beside what document 01 says. Settings, Vectors, Refusals and Live are built of these.
+-- Rows of tables: what the definitions give, as numbers, beside what document 01 says. The tables here, in liveness and in lines are built of these.
 use mathlib.Core.Bool.{Bool, true, false, _&&_, cond}
 use mathlib.Core.List.{List, [], _∷_, _++_, map}
 use Prim.Native.Nat.{ℕ, zero, suc, _+_, _-_}

@@ -1,8 +1,8 @@
 // The simulate program between two open files. What is read and what is printed are the driver's; here bytes are moved.
 use driver::NETWORK_WORDS;
-use driver::Session;
 use driver::TALLY_WORDS;
 use lines::Written;
+use printout::Session;
 ghost use mathlib.Core.Path.{_≡_};
 ghost use Prim.Native.Nat.{_+_, _-_, _≤_};
 ghost use lib.ListN.{length, drop};

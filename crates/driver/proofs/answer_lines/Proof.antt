@@ -1,6 +1,6 @@
 use borrow.Author.Needs.{needs}
 use Rattle.driver.proofs.Going.{Going, going-none, turn-within, turn-room, going-more, going-stops, stops-all, going-serves}
-use Rattle.driver.specs.Printout.{standingOf}
+use Rattle.printout.specs.Printout.{standingOf}
 use lib.ListN.{length}
 use Prim.Native.Nat.{_-_}
 use native.Mathlib.Omega.{arith}

@@ -7,7 +7,7 @@ use Rattle.stream.proofs.answer_input.Statement.{statement}
 use Rattle.stream.proofs.answer_input.Tie as tie
 use Rattle.stream.proofs.answer_input.Reads as reads
 use Rattle.stream.proofs.answer_input.Lts as lts
-use Rattle.driver.proofs.Session.unopened.Reads as unopened-reads
+use Rattle.printout.proofs.Session.unopened.Reads as unopened-reads
 use Rattle.stream.proofs.answer_window.Reads as answer-window-reads
 use Rattle.stream.proofs.read_behind.Reads as read-behind-reads
 

@@ -1,4 +1,4 @@
-use Rattle.driver.specs.Printout.{printedAnswer}
+use Rattle.printout.specs.Printout.{printedAnswer}
 use mathlib.Core.Path.{refl}
 use borrow.Author.Needs.{needs}
 use Rattle.driver.proofs.replies.print_event.Statement.{statement}

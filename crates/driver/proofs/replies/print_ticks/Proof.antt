@@ -1,4 +1,4 @@
-use Rattle.driver.specs.Printout.{ticksPrinted}
+use Rattle.printout.specs.Printout.{ticksPrinted}
 use mathlib.Core.Path.{refl, sym, _∙_}
 use Rattle.base.specs.Choice.{cond-yes, cond-no}
 use borrow.Author.Needs.{needs}

@@ -21,7 +21,7 @@ use Rattle.lines.specs.Contracts.{noSetup, line}
 use Rattle.lines.specs.Splitting.{Cut, inputLines, cutRead}
 use Rattle.lines.specs.Printout.{answerForm, processorForm}
 use Rattle.reader.specs.Lines.{reading}
-use Rattle.driver.specs.declared.Session.{Session}
+use Rattle.printout.specs.declared.Session.{Session}
 
 -- ---- the state of the program
 
@@ -90,10 +90,14 @@ eventReply e x =
     let a = applied e (stateIn x) in
     cond (x .session .opened) (record { standing = leaving true (a .state); answer = printedAnswer e (a .state .run .held) (a .answer) }) (refusing 9 x)
 
+-- whether a run is open after an opening with such an answer
+abbrev pub staysOpen : Bool → Answer → Bool
+staysOpen opened a = opened || accepted a
+
 -- "A later accepted opening begins a new run in place of the old; a refused one leaves the old run going."
 unfoldable pub openingReply : Setup → Standing → Reply
 openingReply u x =
-    let a = opening u (stateIn x) in record { standing = leaving (x .session .opened || accepted (a .answer)) (a .state); answer = a .answer }
+    let a = opening u (stateIn x) in record { standing = leaving (staysOpen (x .session .opened) (a .answer)) (a .state); answer = a .answer }
 
 -- an event, an opening, or none of the forms
 abbrev pub readReply : Read → Setup → Standing → Reply

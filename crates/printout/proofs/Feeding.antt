@@ -8,8 +8,8 @@ use lib.ListN.{length, take}
 use lib.Dec.{eqb}
 use Rattle.lines.specs.Forms.{newline}
 use Rattle.lines.specs.Splitting.{beforeNewline, ended, linesAfter}
-use Rattle.driver.specs.Printout.{printedLine, printed}
-use Rattle.driver.specs.Contracts.{Place, placeOf, lineEnded, fresh, longer, Fed, behind, fed}
+use Rattle.printout.specs.Printout.{printedLine, printed}
+use Rattle.printout.specs.Contracts.{Place, placeOf, lineEnded, fresh, longer, Fed, behind, fed}
 
 -- one piece and then another
 pub fed-append : (p : Place) (a b : List ℕ) → fed p (a ++ b) ≡ behind (fed p a .text) (fed (fed p a .place) b)

@@ -14,9 +14,9 @@ use Rattle.lines.specs.Forms.{newline}
 use Rattle.lines.specs.Printout.{printedMost}
 use Rattle.lines.specs.Splitting.{ended, remainder, cutRead, lineMost, nextLine}
 use Rattle.reader.specs.Lines.{reading}
-use Rattle.driver.specs.declared.Session.{Session}
-use Rattle.driver.specs.declared.Served.{Served}
-use Rattle.driver.specs.Printout.{Standing, standingOf, Reply, reply, lineReply, printedLine, printed}
+use Rattle.printout.specs.declared.Session.{Session}
+use Rattle.printout.specs.declared.Served.{Served}
+use Rattle.printout.specs.Printout.{Standing, standingOf, Reply, reply, lineReply, printedLine, printed}
 
 -- ---- a text printed into lent bytes
 

@@ -1,0 +1,3 @@
+-- Laws of the printout.
+pub mod Feeding
+pub mod Promises

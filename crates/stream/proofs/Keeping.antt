@@ -6,7 +6,7 @@ use native.Mathlib.Numerals.{add-one}
 use native.Mathlib.Omega.{arith}
 use mathlib.Core.List.{List, _++_}
 use lib.ListN.{length, getD, set, take, drop, length-drop, length-set}
-use lib.Seq.{length-take-le, paste, paste-zero, paste-suc, length-paste-head, getD-append-add, getD-drop}
+use lib.Seq.{take-at, drop-at, take-add, take-paste, length-take-le, paste, paste-zero, paste-suc, length-paste-head, getD-append-add, getD-drop}
 
 -- the first i of those from `used` on are moved
 pub record Moved (w : List ℕ) (used filled i : ℕ) (after : List ℕ) : Type 0 where
@@ -49,3 +49,19 @@ pub used-most : (w : List ℕ) (used k : ℕ) → used ≤ length w → k ≤ le
 used-most w used k a h =
     let l : length (take (length w - used) (drop used w)) ≡ length w - used = length-take-le (length w - used) (drop used w) (omega (arith, length-drop used w)) in
     omega arith
+
+-- a read behind the first k bytes leaves these
+pub first-kept : (k : ℕ) (w f : List ℕ) → k ≤ length w → take k (take k w ++ f) ≡ take k w
+first-kept k w f h = take-at (take k w) f k (length-take-le k w h)
+
+-- those that were moved
+pub kept-bytes : (w : List ℕ) (used filled : ℕ) → used ≤ filled → filled ≤ length w → take (filled - used) (paste w 0 (drop used w) (filled - used)) ≡ drop used (take filled w)
+kept-bytes w used filled a b =
+    let n : ℕ = filled - used in
+    let s : List ℕ = drop used w in
+    let l : n ≤ length s = omega (arith, length-drop used w) in
+    let t : take (0 + n) (paste w 0 s n) ≡ take n s = take-paste w 0 s n (omega arith) l in
+    let e : used + n ≡ filled = omega arith in
+    let u : length (take used w) ≡ used = length-take-le used w (omega arith) in
+    ap (λ (k : ℕ). take k (paste w 0 s n)) (sym (zero-add n)) ∙ t
+    ∙ sym (ap (λ (k : ℕ). drop used (take k w)) (sym e) ∙ ap (drop used) (take-add used n w) ∙ drop-at (take used w) (take n s) used u)

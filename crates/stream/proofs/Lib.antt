@@ -1,2 +1,3 @@
 -- Laws behind the proofs of the program's loop.
 pub mod Keeping
+pub mod Threading

@@ -5,8 +5,10 @@ use lines::Written;
 use printout::Session;
 ghost use mathlib.Core.Path.{_≡_};
 ghost use Prim.Native.Nat.{_+_, _-_, _≤_};
-ghost use lib.ListN.{length, drop};
+ghost use lib.ListN.{length, take, drop};
 ghost use lib.Seq.{paste};
+ghost use Rattle.printout.specs.Printout.{unopened, standingOf};
+ghost use Rattle.stream.specs.Threads.{Threads, Reaches};
 
 // The session, whether bytes of a line that is too long were passed over, and a number of bytes: used, or left unused at the start of the window.
 struct Progress {
@@ -39,7 +41,8 @@ fn answer_all(
     out: &mut [u8],
     to: i32,
 ) -> Progress
-    ensures { λ r. ⌜ r .bytes ≤ length (now (bytes .entry)) ⌝ }
+    ensures { λ r. ⌜ Threads (standingOf session (now (tally .entry)) (now (network .entry))) late (now (bytes .entry)) (now (out .entry))
+        (now (tally .exit)) (now (network .exit)) r ⌝ }
 {
     let mut state = session;
     let mut passed = late;
@@ -66,33 +69,10 @@ fn answer_all(
     }
 }
 
-// The same with the first `filled` bytes of the window. Those that are left go to its start.
-fn answer_window(
-    session: Session,
-    late: bool,
-    window: &mut [u8],
-    filled: usize,
-    tally: &mut [u64],
-    network: &mut [u64],
-    out: &mut [u8],
-    to: i32,
-) -> Progress
-    requires { ⌜ filled ≤ length (now window) ⌝ }
-    ensures { λ r. ⌜ r .bytes ≤ length (now (window .exit)) ⌝ }
-{
-    let answered = answer_all(session, late, &window[..filled], tally, network, out, to);
-    let state = answered.session;
-    Progress {
-        session: state,
-        late: answered.late,
-        bytes: keep(window, answered.bytes, filled),
-    }
-}
-
 // One read, behind the unused bytes.
 fn read_behind(from: i32, window: &mut [u8], unused: usize) -> usize
     requires { ⌜ unused ≤ length (now window) ⌝ }
-    ensures { λ r. ⌜ unused + r ≤ length (now (window .exit)) ⌝ }
+    ensures { λ r. ⌜ (unused + r ≤ length (now (window .exit))) × (take unused (now (window .exit)) ≡ take unused (now (window .entry))) ⌝ }
 {
     let free: &mut [u8] = &mut window[unused..];
     let got = libc::read(from, free);
@@ -108,7 +88,8 @@ fn answer_input(
     window: &mut [u8],
     out: &mut [u8],
 ) -> Progress
-    ensures { λ r. ⌜ r .bytes ≤ length (now (window .exit)) ⌝ }
+    ensures { λ r. ⌜ Reaches (standingOf unopened (now (tally .entry)) (now (network .entry))) (now (out .entry))
+        (now (tally .exit)) (now (network .exit)) (now (window .exit)) r ⌝ }
 {
     let mut session = Session::unopened();
     let mut late = false;
@@ -124,10 +105,11 @@ fn answer_input(
                 bytes: unused,
             };
         }
-        let left = answer_window(session, late, window, unused + got, tally, network, out, to);
-        session = left.session;
-        late = left.late;
-        unused = left.bytes;
+        let filled = unused + got;
+        let answered = answer_all(session, late, &window[..filled], tally, network, out, to);
+        session = answered.session;
+        late = answered.late;
+        unused = keep(window, answered.bytes, filled);
     }
     Progress {
         session: session,

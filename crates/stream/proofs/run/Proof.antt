@@ -34,7 +34,7 @@ array-share-prefix-window : tie.Need-array-share-prefix-window
 array-share-prefix-window c = search needs
 
 slice-aggregate-close-input : tie.Need-slice-aggregate-close-input
-slice-aggregate-close-input c = sym (length-take-le _ _ (c .before .before .before .before .before .before .answer-input .ensures))
+slice-aggregate-close-input c = sym (length-take-le _ _ (c .before .before .before .before .before .before .answer-input .ensures .within))
 
 slice-aggregate-close-input-2 : tie.Need-slice-aggregate-close-input-2
 slice-aggregate-close-input-2 c = search needs

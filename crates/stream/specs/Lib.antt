@@ -1,0 +1,2 @@
+-- What the clauses of the program's loop cite.
+pub mod Threads

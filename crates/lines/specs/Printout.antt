@@ -18,8 +18,8 @@ abbrev pub refusedWord : List ℕ
 refusedWord = 114 ∷ 101 ∷ 102 ∷ 117 ∷ 115 ∷ 101 ∷ 100 ∷ []
 
 -- "cabinet"
-abbrev pub cabinetWord : List ℕ
-cabinetWord = 99 ∷ 97 ∷ 98 ∷ 105 ∷ 110 ∷ 101 ∷ 116 ∷ []
+abbrev pub processorWord : List ℕ
+processorWord = 99 ∷ 97 ∷ 98 ∷ 105 ∷ 110 ∷ 101 ∷ 116 ∷ []
 
 -- "(done a h), a ticks done (0 for other forms), h messages held; (stopped a h r) for ticks ended by check 16, 17 or 18 ..; or (refused r)"
 unfoldable pub answerForm : Answer → List ℕ
@@ -29,7 +29,7 @@ answerForm (Refused r) = numbersForm refusedWord (r ∷ [])
 
 -- "(cabinet p view clock)"
 unfoldable pub processorForm : ℕ → ℕ → ℕ → List ℕ
-processorForm p view clock = numbersForm cabinetWord (p ∷ view ∷ clock ∷ [])
+processorForm p view clock = numbersForm processorWord (p ∷ view ∷ clock ∷ [])
 
 -- the most bytes of such a line and its newline: "(stopped", three numbers of twenty digits, a blank before each, a bracket
 abbrev pub printedMost : ℕ

@@ -6,7 +6,7 @@ pub use Rattle.liveness.proofs.Marks.{marks-are-formed}
 use mathlib.Core.Path.{_≡_, refl, sym, ap, _∙_, subst}
 use mathlib.Core.Bool.{Bool, true, false, _&&_, cond}
 use mathlib.Core.Logic.{_⊎_, inl, inr, _≢_}
-use mathlib.Core.List.{List, [], _∷_}
+use mathlib.Core.List.{List, [], _∷_, _++_}
 use Prim.Native.Nat.{ℕ, _+_, _*_, _≤_, _<_}
 use native.Mathlib.Omega.{arith}
 use native.Mathlib.Nat.{lt-of-mul-lt-mul-right}
@@ -33,7 +33,7 @@ use Rattle.model.specs.Checks.{supporting, tooFarAhead, unsound}
 use Rattle.model.specs.Opening.{opened, openingChecks, opening}
 use Rattle.model.specs.Events.{nowSettled, ticks, tickRun, checks, effect, applied}
 use Rattle.model.specs.Lists.{after, ClockCondition, Since, since, sinceSettling, ticksDone, ticksSince, formedSince}
-use Rattle.liveness.specs.Promises.{settlingBound, Certified, DemandThree, StaysSound, StaysSame, NeverBack}
+use Rattle.liveness.specs.Promises.{settlingBound, Certified, DemandThree, StaysSound, Reachable, OpeningReaches, EventReaches, ReachableSound, StaysSame, NeverBack}
 use Rattle.liveness.specs.Live.{setup, unopened, events, past-bound, opening-accepted}
 use Rattle.liveness.proofs.Link.{Planned, params, correct-count, third}
 use Rattle.liveness.proofs.Tracks.{Tracked, Leads, stays, leads-on}
@@ -311,6 +311,24 @@ pub stays-sound : StaysSound
 stays-sound u before t es e =
     not-nine e (after (opening u before .state) es)
     (λ x. subst T (tracked-sound (u .plan) (u .faulty) (planned u before (c₀ u before t)) (after (opening u before .state) es) (tracked-after u before t es)) x)
+
+pub opening-reaches : OpeningReaches
+unfolding after
+opening-reaches u before t = record { setup = u; before = before; opens = t; events = []; is = refl }
+
+pub event-reaches : EventReaches
+unfolding after
+event-reaches s x e = record {
+  setup = x .setup;
+  before = x .before;
+  opens = x .opens;
+  events = x .events ++ (e ∷ []);
+  is = ap (λ (y : State). applied e y .state) (x .is) ∙ sym (list-law (opening (x .setup) (x .before) .state) (x .events) (e ∷ []));
+}
+
+pub reachable-sound : ReachableSound
+reachable-sound s x = ap unsound (x .is) ∙ tracked-sound (x .setup .plan) (x .setup .faulty) (planned (x .setup) (x .before) (c₀ (x .setup) (x .before) (x .opens)))
+    (after (opening (x .setup) (x .before) .state) (x .events)) (tracked-after (x .setup) (x .before) (x .opens) (x .events))
 
 -- ---- a run to which the settling half applies: f is t, and the first leader is faulty
 

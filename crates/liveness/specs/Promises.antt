@@ -53,6 +53,24 @@ StaysSound =
     (u : Setup) (before : State) → T (accepted (opening u before .answer)) → (es : List Event) (e : Event)
     → checkOf (applied e (after (opening u before .state) es) .answer) ≢ 9
 
+-- a state that some accepted opening and the events after it have left
+pub record Reachable (s : State) : Type 0 where
+  pub setup : Setup
+  pub before : State
+  pub opens : T (accepted (opening setup before .answer))
+  pub events : List Event
+  pub is : s ≡ after (opening setup before .state) events
+
+abbrev pub OpeningReaches : Type 0
+OpeningReaches = (u : Setup) (before : State) → T (accepted (opening u before .answer)) → Reachable (opening u before .state)
+
+abbrev pub EventReaches : Type 0
+EventReaches = (s : State) → Reachable s → (e : Event) → Reachable (applied e s .state)
+
+-- check 9 does not refuse it: whoever has such a state need not make that check
+abbrev pub ReachableSound : Type 0
+ReachableSound = (s : State) → Reachable s → unsound s ≡ false
+
 -- the plan, the faulty set and the lengths of what is lent stay
 pub record Same (u : Setup) (before s : State) : Type 0 where
   pub plan : s .run .plan ≡ u .plan

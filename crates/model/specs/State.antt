@@ -8,8 +8,10 @@ use Rattle.base.specs.Sets.{insert}
 use Rattle.types.specs.declared.Plan.{Plan}
 use Rattle.types.specs.declared.Message.{Message}
 use Rattle.types.specs.declared.Run.{Run}
+use Rattle.types.specs.declared.Head.{Head}
 use Rattle.types.specs.declared.Answer.{Answer}
 use Rattle.types.specs.declared.Applied.{Applied}
+use Rattle.types.specs.declared.Outcome.{Outcome}
 use Rattle.types.specs.declared.Answer.the-variants.{Done, Stopped, Refused}
 use Rattle.types.specs.Quantities.{correct, rowWords, messageWords}
 use Rattle.types.specs.Messages.{kindOf, viewIn, processorIn}
@@ -36,6 +38,13 @@ runOf plan faulty time settled gst held clocks views = record {
   clocks = clocks;
   views = views;
 }
+
+-- the run whose tables are lent beside its head
+abbrev pub runFrom : Head → List ℕ → List ℕ → Run
+runFrom h clocks views = runOf (h .plan) (h .faulty) (h .time) (h .settled) (h .gst) (h .held) clocks views
+
+abbrev pub headOf : Run → Head
+headOf r = record { plan = r .plan; faulty = r .faulty; time = r .time; settled = r .settled; gst = r .gst; held = r .held }
 
 abbrev pub withHeld : ℕ → Run → Run
 withHeld h r = runOf (r .plan) (r .faulty) (r .time) (r .settled) (r .gst) h (r .clocks) (r .views)
@@ -152,6 +161,10 @@ pub record After : Type 0 where
 -- what a function handed back, with the buffers as it left them
 abbrev pub handedBack : Applied → List ℕ → List ℕ → After
 handedBack a tally network = record { state = stateOf (a .run) tally network; answer = a .answer }
+
+-- the same where the run's tables are lent too
+abbrev pub leftBehind : Outcome → List ℕ → List ℕ → List ℕ → List ℕ → After
+leftBehind o clocks views tally network = record { state = stateOf (runFrom (o .head) clocks views) tally network; answer = o .answer }
 
 -- "A refusal answers its number alone and changes nothing"
 abbrev pub refused : State → ℕ → After

@@ -8,12 +8,16 @@ mod ticks;
 use types::Answer;
 use types::Applied;
 use types::Event;
+use types::Head;
+use types::Outcome;
 use types::Processor;
 use types::Run;
 use types::Sends;
 use types::Setup;
-ghost use Rattle.model.specs.State.{stateOf, handedBack};
-ghost use Rattle.simulator.specs.Contracts.{Opens, Applies};
+ghost use mathlib.Core.Path.{_≡_};
+ghost use Rattle.model.specs.State.{stateOf, runFrom, headOf, handedBack, leftBehind};
+ghost use Rattle.model.specs.Checks.{unsound};
+ghost use Rattle.simulator.specs.Contracts.{Opens, Applies, KnownSound};
 
 // What a message or a tick makes of the processor that it reaches. Of a signature it says whether the leader forms the certificate; of a
 // certificate or a tick, the processor's next state and what it sends, or that its clock would reach the end.
@@ -30,33 +34,95 @@ pub(crate) struct Due {
     pub(crate) sent: usize,
 }
 
-// A setup is opened: the run, in place of the one handed in, and the lent buffers.
-pub fn open(run: Run, setup: Setup, tally: &mut [u64], network: &mut [u64]) -> Applied
-    ensures { λ r. ⌜ Opens setup (stateOf run (now (tally .entry)) (now (network .entry))) (handedBack r (now (tally .exit)) (now (network .exit))) ⌝ }
+// The run whose tables are lent beside its head.
+fn gather(head: Head, clocks: &[u64; 64], views: &[u64; 64]) -> Run
+    ensures { λ r. ⌜ r ≡ runFrom head (now (clocks .entry)) (now (views .entry)) ⌝ }
+{
+    let own_clocks = *clocks;
+    let own_views = *views;
+    let plan = head.plan;
+    Run {
+        plan: plan,
+        faulty: head.faulty,
+        time: head.time,
+        settled: head.settled,
+        gst: head.gst,
+        held: head.held,
+        clocks: own_clocks,
+        views: own_views,
+    }
+}
+
+// The head of a run.
+fn head_of(run: Run) -> Head
+    ensures { λ r. ⌜ r ≡ headOf run ⌝ }
+{
+    let plan = run.plan;
+    Head {
+        plan: plan,
+        faulty: run.faulty,
+        time: run.time,
+        settled: run.settled,
+        gst: run.gst,
+        held: run.held,
+    }
+}
+
+// A setup is opened in place of the run at hand: the run's tables are lent beside its head.
+pub fn open_lent(
+    head: Head,
+    setup: Setup,
+    clocks: &mut [u64; 64],
+    views: &mut [u64; 64],
+    tally: &mut [u64],
+    network: &mut [u64],
+) -> Outcome
+    ensures { λ r. ⌜ Opens setup (stateOf (runFrom head (now (clocks .entry)) (now (views .entry))) (now (tally .entry)) (now (network .entry)))
+        (leftBehind r (now (clocks .exit)) (now (views .exit)) (now (tally .exit)) (now (network .exit))) ⌝ }
 {
     let check = checks::setup_check(setup, tally.len(), network.len());
     if check == 0 {
         let next = opening::start(setup, tally, network);
-        let held = next.held;
-        return Applied {
-            run: next,
-            answer: Answer::Done(0, held),
+        let first_clocks = next.clocks;
+        let first_views = next.views;
+        *clocks = first_clocks;
+        *views = first_views;
+        return Outcome {
+            head: head_of(next),
+            answer: Answer::Done(0, next.held),
         };
     }
-    Applied {
-        run: run,
+    Outcome {
+        head: head,
         answer: Answer::Refused(check),
     }
 }
+// Check 9, where the run is not known to be sound.
+fn is_unsound(run: Run, known: bool, tally: &[u64], network: &[u64]) -> bool
+    requires { ⌜ KnownSound known (stateOf run (now tally) (now network)) ⌝ }
+    ensures { λ r. ⌜ r ≡ unsound (stateOf run (now (tally .entry)) (now (network .entry))) ⌝ }
+{
+    if known {
+        return false;
+    }
+    checks::unsound(run, tally, network)
+}
 
-// An event is applied to the run and the lent buffers.
-pub fn apply(run: Run, event: Event, tally: &mut [u64], network: &mut [u64]) -> Applied
+// An event is applied to a run by value.
+fn apply_known(
+    run: Run,
+    known: bool,
+    event: Event,
+    tally: &mut [u64],
+    network: &mut [u64],
+) -> Applied
+    requires { ⌜ KnownSound known (stateOf run (now tally) (now network)) ⌝ }
     ensures { λ r. ⌜ Applies event (stateOf run (now (tally .entry)) (now (network .entry))) (handedBack r (now (tally .exit)) (now (network .exit))) ⌝ }
 {
     if event.lacks_form() {
         return events::refuse(run, 1);
     }
-    if checks::unsound(run, tally, network) {
+    if is_unsound(run, known, tally, network) {
         return events::refuse(run, 9);
     }
     match event {
@@ -65,5 +131,70 @@ pub fn apply(run: Run, event: Event, tally: &mut [u64], network: &mut [u64]) -> 
         Event::Show(m) => events::show(run, m, tally, network),
         Event::Settle => events::settle(run),
         Event::Tick(m) => ticks::run_ticks(run, m, tally, network),
+    }
+}
+
+// An event is applied to a run whose tables are lent beside its head. A caller that knows the run to be sound says so, and check 9 is not made.
+pub fn apply_lent(
+    head: Head,
+    known: bool,
+    event: Event,
+    clocks: &mut [u64; 64],
+    views: &mut [u64; 64],
+    tally: &mut [u64],
+    network: &mut [u64],
+) -> Outcome
+    requires { ⌜ KnownSound known (stateOf (runFrom head (now clocks) (now views)) (now tally) (now network)) ⌝ }
+    ensures { λ r. ⌜ Applies event (stateOf (runFrom head (now (clocks .entry)) (now (views .entry))) (now (tally .entry)) (now (network .entry)))
+        (leftBehind r (now (clocks .exit)) (now (views .exit)) (now (tally .exit)) (now (network .exit))) ⌝ }
+{
+    let applied = apply_known(gather(head, clocks, views), known, event, tally, network);
+    let next = applied.run;
+    let answer = applied.answer;
+    let next_clocks = next.clocks;
+    let next_views = next.views;
+    *clocks = next_clocks;
+    *views = next_views;
+    Outcome {
+        head: head_of(next),
+        answer: answer,
+    }
+}
+
+// A setup is opened: the run, in place of the one handed in, and the lent buffers.
+pub fn open(run: Run, setup: Setup, tally: &mut [u64], network: &mut [u64]) -> Applied
+    ensures { λ r. ⌜ Opens setup (stateOf run (now (tally .entry)) (now (network .entry))) (handedBack r (now (tally .exit)) (now (network .exit))) ⌝ }
+{
+    let mut clocks = run.clocks;
+    let mut views = run.views;
+    let outcome = open_lent(head_of(run), setup, &mut clocks, &mut views, tally, network);
+    let head = outcome.head;
+    let answer = outcome.answer;
+    Applied {
+        run: gather(head, &clocks, &views),
+        answer: answer,
+    }
+}
+
+// An event is applied to the run and the lent buffers, whatever they hold.
+pub fn apply(run: Run, event: Event, tally: &mut [u64], network: &mut [u64]) -> Applied
+    ensures { λ r. ⌜ Applies event (stateOf run (now (tally .entry)) (now (network .entry))) (handedBack r (now (tally .exit)) (now (network .exit))) ⌝ }
+{
+    let mut clocks = run.clocks;
+    let mut views = run.views;
+    let outcome = apply_lent(
+        head_of(run),
+        false,
+        event,
+        &mut clocks,
+        &mut views,
+        tally,
+        network,
+    );
+    let head = outcome.head;
+    let answer = outcome.answer;
+    Applied {
+        run: gather(head, &clocks, &views),
+        answer: answer,
     }
 }

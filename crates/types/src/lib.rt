@@ -243,6 +243,16 @@ pub struct Run {
     pub views: [u64; 64],
 }
 
+// The execution so far but for its two tables, which are lent beside it: so nothing large is handed from function to function.
+pub struct Head {
+    pub plan: Plan,
+    pub faulty: u64,
+    pub time: u64,
+    pub settled: bool,
+    pub gst: u64,
+    pub held: usize,
+}
+
 // The answer to an opening or an event. Done: ticks done, messages held. Stopped: the same, and the check that ended the ticks.
 // Refused: the first check whose sentence holds.
 pub enum Answer {
@@ -254,6 +264,12 @@ pub enum Answer {
 // What a call leaves of the run, and its answer.
 pub struct Applied {
     pub run: Run,
+    pub answer: Answer,
+}
+
+// The same, the run's tables being lent.
+pub struct Outcome {
+    pub head: Head,
     pub answer: Answer,
 }
 

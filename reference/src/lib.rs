@@ -1,0 +1,50 @@
+//! The Fever pacemaker step of one processor, and a simulator that moves n
+//! such processors through a schedule of events.
+//!
+//! Everything here renders document 01; comments quote the sentence a piece
+//! stands for. The words of the code for the words of that page: a processor
+//! is one of the n numbered parties, the tally holds what was entered, heard
+//! and formed per view, the network holds the messages sent and not yet
+//! delivered, `faulty` is the 64-bit number marking the faulty processors,
+//! and `gst` is the settling time.
+//!
+//! Every function is total: it answers for any words handed in, and a refusal
+//! changes nothing.
+
+#![deny(missing_docs)]
+#![forbid(unsafe_code)]
+
+mod apply;
+pub mod check;
+mod effect;
+mod limits;
+mod message;
+mod network;
+mod opening;
+mod plan;
+mod print;
+mod processor;
+mod reader;
+mod run;
+mod session;
+mod set;
+mod soundness;
+mod state;
+mod stream;
+mod tally;
+mod tick;
+mod watch;
+mod writer;
+
+pub use apply::{apply, apply_sound};
+pub use message::{Event, Message};
+pub use opening::open;
+pub use plan::Plan;
+pub use processor::{step, Input, Processor, Stepped};
+pub use reader::{read_line, Reading, LONGEST_LINE};
+pub use run::{Answer, Run, Setup};
+pub use session::{Session, NETWORK_WORDS, TALLY_WORDS};
+pub use soundness::is_sound;
+pub use stream::{simulate, Stream};
+pub use watch::Watch;
+pub use writer::{write_event, write_setup};

@@ -1,0 +1,42 @@
+//! Checks 2 to 6: the limits that an opening and every later run keep.
+
+use crate::check;
+use crate::plan::Plan;
+use crate::set;
+
+/// The longest network: check 6.
+pub(crate) const MOST_NETWORK_WORDS: u64 = 524_288;
+
+/// The first of checks 2 to 4 that the plan fails.
+pub(crate) const fn plan(plan: Plan) -> Result<(), u64> {
+    if plan.n < 4 || plan.n > 64 {
+        return Err(check::PROCESSORS);
+    }
+    if plan.delta < 1 || plan.delta > 1_000 {
+        return Err(check::DELAY_OR_SLOT);
+    }
+    if plan.gamma < 2 * plan.delta || plan.gamma > 10_000 {
+        return Err(check::DELAY_OR_SLOT);
+    }
+    if plan.views < 3 || plan.views > 6_000 || !plan.views.is_multiple_of(3) {
+        return Err(check::VIEW_LIMIT);
+    }
+    Ok(())
+}
+
+/// The first of checks 2 to 6 that a plan, its faulty processors and the lent
+/// words fail.
+pub(crate) fn all(fixed: Plan, faulty: u64, tally: &[u64], network: &[u64]) -> Result<(), u64> {
+    plan(fixed)?;
+    if faulty & !set::below(fixed.n) != 0 || set::size(faulty) > fixed.tolerance() {
+        return Err(check::TOO_FAULTY);
+    }
+    let (tally_words, network_words) = (tally.len() as u64, network.len() as u64);
+    if tally_words < 4 * fixed.views
+        || network_words < 8 * fixed.n
+        || network_words > MOST_NETWORK_WORDS
+    {
+        return Err(check::BUFFERS);
+    }
+    Ok(())
+}

@@ -1,0 +1,68 @@
+//! Cutting an input into lines, in bounded memory.
+
+use crate::reader::LONGEST_LINE;
+use crate::session::Session;
+
+/// A session fed with bytes in pieces of any size.
+#[derive(Clone, Default, Debug)]
+pub struct Stream {
+    session: Session,
+    /// The front of a line whose newline has not come yet: one byte more than
+    /// a line may have says as much as all that follow.
+    pending: Vec<u8>,
+}
+
+impl Stream {
+    /// A new session, nothing fed to it yet.
+    pub fn new() -> Self {
+        Self::default()
+    }
+
+    /// Answers each line that ends within these bytes.
+    pub fn feed(&mut self, mut bytes: &[u8], out: &mut Vec<u8>) {
+        while let Some(end) = bytes.iter().position(|&byte| byte == b'\n') {
+            let line = &bytes[..end];
+            if self.pending.is_empty() {
+                self.session.answer_line(line, out);
+            } else {
+                self.keep(line);
+                self.session.answer_line(&self.pending, out);
+                self.pending.clear();
+            }
+            bytes = &bytes[end + 1..];
+        }
+        self.keep(bytes);
+    }
+
+    /// Ends the input: "bytes left after the last newline count as a line that
+    /// fails check 1". Then come the processors.
+    pub fn finish(&mut self, out: &mut Vec<u8>) {
+        if !self.pending.is_empty() {
+            self.session.answer_no_form(out);
+            self.pending.clear();
+        }
+        self.session.finish(out);
+    }
+
+    /// The session fed.
+    pub const fn session(&self) -> &Session {
+        &self.session
+    }
+
+    /// Keeps bytes of a line whose newline has not come yet, as far as they
+    /// tell whether the line is too long.
+    fn keep(&mut self, bytes: &[u8]) {
+        let room = LONGEST_LINE + 1 - self.pending.len();
+        self.pending
+            .extend_from_slice(&bytes[..bytes.len().min(room)]);
+    }
+}
+
+/// The whole printout of a whole input.
+pub fn simulate(input: &[u8]) -> Vec<u8> {
+    let mut out = Vec::new();
+    let mut stream = Stream::new();
+    stream.feed(input, &mut out);
+    stream.finish(&mut out);
+    out
+}

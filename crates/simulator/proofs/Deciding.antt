@@ -16,8 +16,9 @@ use Rattle.types.specs.Quantities.{initial}
 use Rattle.types.specs.Messages.{viewStage, voteStage, viewIn, processorIn, stageOf}
 use Rattle.model.specs.State.{State, stateOf, withHeld, withClocks, withViews, viewOf, isCorrect}
 use Rattle.model.specs.Moves.{Change, byView, byQuorum, forms, hearing, handling, made, heardTally, formedMessages}
-use Rattle.model.specs.Checks.{noProcessor, noView, namedOutside, notInitial, reachesEnd}
+use Rattle.model.specs.Checks.{planOutside, noProcessor, noView, namedOutside, notInitial, reachesEnd}
 use Rattle.pacemaker.specs.Steps.{movingBy}
+use Rattle.pacemaker.proofs.LimitLaws.{within as limits}
 use Rattle.simulator.specs.declared.Reaction.{Reaction}
 use Rattle.simulator.specs.Inner.{Posts, Reacts, signedChange, changeBy, sentFor, Fit, seat, namedCheck, Decides}
 use Rattle.simulator.proofs.Moving.{moved-taking, stays-below, taking-reaches}
@@ -69,6 +70,10 @@ module _ (plan : Plan) (m : Message) where
 -- the same of a message that is known
 pub named-at : (plan : Plan) (m m' : Message) → m ≡ m' → namedCheck plan m ≡ 0 → (processorIn m' < plan .n) × (viewIn m' < plan .views)
 named-at plan m m' e h = named-low plan m' (ap (namedCheck plan) (sym e) ∙ h)
+
+-- its processor has a place in a table of the run
+pub named-place : (plan : Plan) (m m' : Message) (k : ℕ) → planOutside plan ≡ false → m ≡ m' → namedCheck plan m ≡ 0 → k ≡ 64 → processorIn m' < k
+named-place plan m m' k o e h long = omega (arith, limits plan o .n-most, named-at plan m m' e h .0)
 
 -- a view certificate that passes them names an initial view
 pub named-vc : (plan : Plan) (w p : ℕ) → namedCheck plan (Vc w p) ≡ 0 → (w < plan .views) × (initial plan w ≡ true)

@@ -17,10 +17,11 @@ use Rattle.types.specs.declared.Event.{Event}
 use Rattle.types.specs.declared.Event.the-variants.{Deliver, Sign, Show, Settle, Tick}
 use Rattle.types.specs.declared.Run.{Run}
 use Rattle.types.specs.declared.Answer.the-variants.{Done, Refused}
-use Rattle.types.specs.declared.Applied.{Applied}
+use Rattle.types.specs.declared.Head.{Head}
+use Rattle.types.specs.declared.Outcome.{Outcome}
 use Rattle.types.specs.Quantities.{lead}
 use Rattle.types.specs.Messages.{viewIn, processorIn, stageOf, lacksForm}
-use Rattle.model.specs.State.{State, After, stateOf, withHeld, handedBack, isCorrect, capacity, refused, done}
+use Rattle.model.specs.State.{State, After, stateOf, runFrom, headOf, withHeld, leftBehind, isCorrect, capacity, refused, done}
 use Rattle.model.specs.Moves.{Change, still, handling, made}
 use Rattle.model.specs.Checks.{unsound, namedOutside, notInitial, exists, notHeld, reachesEnd, overfull}
 use Rattle.model.specs.Events.{without, delivering, signing, nowSettled, tickRun, checks, effect, applied}
@@ -33,12 +34,14 @@ use Rattle.simulator.proofs.Moving.{stays-below}
 use Rattle.simulator.proofs.Ticking.{state-by}
 use Rattle.simulator.proofs.Deciding.{named-passed, named-refused, change-sent}
 
--- what was handed back, by its parts
-pub refused-is : (s : State) (x : Applied) (k : ℕ) → (x .run ≡ s .run) × (x .answer ≡ Refused k) → handedBack x (s .tally) (s .network) ≡ refused s k
-refused-is s x k e = λ i. record { state = stateOf (e .0 i) (s .tally) (s .network); answer = e .1 i }
+-- what was left behind, by its parts
+pub refused-is : (s : State) (x : Outcome) (k : ℕ) → (x .head ≡ headOf (s .run)) × (x .answer ≡ Refused k)
+    → leftBehind x (s .run .clocks) (s .run .views) (s .tally) (s .network) ≡ refused s k
+refused-is s x k e = λ i. record { state = stateOf (runFrom (e .0 i) (s .run .clocks) (s .run .views)) (s .tally) (s .network); answer = e .1 i }
 
-pub done-is : (s : State) (r : Run) (t ws : List ℕ) (x : Applied) → (x .run ≡ r) × (x .answer ≡ Done 0 (r .held)) → stateOf r t ws ≡ s → handedBack x t ws ≡ done s
-done-is s r t ws x e q = (λ i. record { state = stateOf (e .0 i) t ws; answer = e .1 i }) ∙ ap done q
+pub done-is : (s : State) (h : Head) (c v t ws : List ℕ) (x : Outcome) → (x .head ≡ h) × (x .answer ≡ Done 0 (h .held)) → stateOf (runFrom h c v) t ws ≡ s
+    → leftBehind x c v t ws ≡ done s
+done-is s h c v t ws x e q = (λ i. record { state = stateOf (runFrom (e .0 i) c v) t ws; answer = e .1 i }) ∙ ap done q
 
 -- ---- checks 17 and 18 of a change, and the change made
 

@@ -10,9 +10,10 @@ pub mod Reactions
 pub mod Ticking
 pub mod TickKeeps
 pub mod Once
-pub mod Runs
 pub mod Deciding
 pub mod Happening
 pub mod Delivery
 pub mod Starting
 pub mod Demands
+pub mod Waiting
+pub mod Leaping

@@ -1,7 +1,8 @@
 -- A single tick in each of its cases, and a run of them one tick further. Assumes nothing.
 use mathlib.Core.Path.{_≡_, refl, sym, ap, _∙_, subst}
-use mathlib.Core.Bool.{Bool, true, false, _&&_}
+use mathlib.Core.Bool.{Bool, true, false}
 use mathlib.Core.Logic.{_≢_}
+use mathlib.Core.List.{List}
 use Prim.Native.Nat.{ℕ, zero, suc, _+_, _-_, _≤_, _<_}
 use native.Mathlib.Omega.{arith}
 use lib.Dec.{ltb, eqb}
@@ -11,14 +12,15 @@ use Rattle.base.specs.Scan.{some}
 use Rattle.base.specs.Choice.{cond-yes, cond-no}
 use Rattle.types.specs.declared.Run.{Run}
 use Rattle.types.specs.declared.Answer.the-variants.{Done, Stopped, Refused}
-use Rattle.types.specs.declared.Applied.{Applied}
-use Rattle.model.specs.State.{State, After, stateOf, handedBack, checkOf, capacity, refused}
+use Rattle.types.specs.declared.Head.{Head}
+use Rattle.types.specs.declared.Outcome.{Outcome}
+use Rattle.model.specs.State.{State, After, stateOf, runFrom, leftBehind, checkOf, capacity, refused}
 use Rattle.model.specs.Moves.{advanced, arrivals, made}
 use Rattle.model.specs.Checks.{overdue, reachesEnd, overfull}
 use Rattle.model.specs.Events.{tickChecks, tickOnce, Ticks, continued, ticks, ticksAnswer, tickRun}
 use Rattle.liveness.specs.Promises.{countedFrom}
 use Rattle.liveness.proofs.Judging.{by-judged}
-use Rattle.simulator.specs.Inner.{lateAt, arrivedBelow, endsAt, TickedTo, Went, ranTo}
+use Rattle.simulator.specs.Inner.{someLate, arrivedBelow, endsAt, TickedTo, Went, ranTo}
 use Rattle.simulator.proofs.Arrivals.{tick-reaches}
 
 module _ (s : State) (long : s .run .plan .n ≤ length (s .run .clocks)) where
@@ -26,7 +28,7 @@ module _ (s : State) (long : s .run .plan .n ≤ length (s .run .clocks)) where
   ticked = record { state = made (advanced s) (arrivals (advanced s)); answer = Done 1 (made (advanced s) (arrivals (advanced s)) .run .held) }
 
   abbrev late : Bool
-  late = s .run .settled && some (lateAt (s .run .gst) (s .run .plan .delta) (s .run .time) (s .network)) (s .run .held)
+  late = someLate s
 
   abbrev ends : Bool
   ends = some (endsAt (s .run)) (s .run .plan .n)
@@ -75,19 +77,7 @@ once-stays : (s : State) (c : ℕ) → checkOf (tickOnce s .answer) ≡ suc c �
 unfolding tickOnce
 once-stays s c = by-judged (λ (a : After). checkOf (a .answer) ≡ suc c → a .state ≡ s) (refused s) (tickChecks s) _ (λ r e. refl) (λ p e. absurd (omega arith))
 
--- one tick further
-pub ticks-went : (m count : ℕ) (s₀ s s' : State) → count < m → ticks m s₀ ≡ countedFrom count (ticks (m - count) s) → TickedTo s s' 0
-    → ticks m s₀ ≡ countedFrom (count + 1) (ticks (m - (count + 1)) s')
-unfolding ticks
-ticks-went m count s₀ s s' l e t =
-    let n : m - count ≡ suc (m - (count + 1)) = omega arith in
-    let x : Ticks = ticks (m - (count + 1)) s' in
-    e ∙ ap (λ (k : ℕ). countedFrom count (ticks k s)) n
-    ∙ ap (λ (c : ℕ). countedFrom count (continued s c (ticks (m - (count + 1)) (tickOnce s .state)))) (sym (t .number))
-    ∙ ap (λ (y : State). countedFrom count (continued s 0 (ticks (m - (count + 1)) y))) (sym (t .state))
-    ∙ ap (λ (c : ℕ). record { state = x .state; count = c; check = x .check }) (omega arith)
-
--- or ended
+-- a run of ticks that a check ended
 pub ticks-ended : (m count check : ℕ) (s₀ s s' : State) → count < m → ticks m s₀ ≡ countedFrom count (ticks (m - count) s) → TickedTo s s' check → 0 < check
     → (ticks m s₀ ≡ ranTo s' count check)
 unfolding ticks
@@ -112,23 +102,20 @@ ticks-ended m count check s₀ s s' l e t positive = go check (t .number) positi
 after-by : (a b : After) → a .state ≡ b .state → a .answer ≡ b .answer → a ≡ b
 after-by a b e f = λ i. record { state = e i; answer = f i }
 
-pub run-ended : (m count check : ℕ) (s₀ s' : State) (x : Applied) → ticks m s₀ ≡ ranTo s' count check → x .run ≡ s' .run → x .answer ≡ ticksAnswer (ranTo s' count check)
-    → handedBack x (s' .tally) (s' .network) ≡ tickRun m s₀
+pub run-ended : (m count check : ℕ) (s₀ s' : State) (o : Outcome) (clocks views : List ℕ) → ticks m s₀ ≡ ranTo s' count check → runFrom (o .head) clocks views ≡ s' .run
+    → o .answer ≡ ticksAnswer (ranTo s' count check) → leftBehind o clocks views (s' .tally) (s' .network) ≡ tickRun m s₀
 unfolding tickRun
-run-ended m count check s₀ s' x e r a = after-by _ _
+run-ended m count check s₀ s' o clocks views e r a = after-by _ _
     (ap (λ (y : Run). stateOf y (s' .tally) (s' .network)) r ∙ sym (ap (λ (y : Ticks). y .state) e))
     (a ∙ sym (ap ticksAnswer e))
 
-pub run-done : (m count : ℕ) (s₀ s' : State) → 0 < m → count ≡ m → ticks m s₀ ≡ countedFrom count (ticks (m - count) s')
-    → handedBack (record { run = s' .run; answer = Done count (s' .run .held) }) (s' .tally) (s' .network) ≡ tickRun m s₀
-unfolding ticks
-run-done m count s₀ s' positive all e =
-    let z : m - count ≡ 0 = omega arith in
-    let c : count + 0 ≡ count = omega arith in
-    let x : ticks m s₀ ≡ ranTo s' count 0 = e ∙ ap (λ (k : ℕ). countedFrom count (ticks k s')) z ∙ ap (λ (k : ℕ). ranTo s' k 0) c in
+pub run-done : (m count : ℕ) (s₀ : State) (head : Head) (clocks views tally network : List ℕ) → 0 < m → count ≡ m
+    → ticks m s₀ ≡ ranTo (stateOf (runFrom head clocks views) tally network) count 0
+    → leftBehind (record { head = head; answer = Done count (head .held) }) clocks views tally network ≡ tickRun m s₀
+run-done m count s₀ head clocks views tally network positive all e =
     let n : count ≢ 0 = λ y. absurd (omega (arith, y)) in
-    run-ended m count 0 s₀ s' (record { run = s' .run; answer = Done count (s' .run .held) }) x refl
-    (cond-no (eqb count 0) (Done count (s' .run .held)) (Refused 0) (Done count (s' .run .held)) (ne-eqb count 0 n) refl)
+    run-ended m count 0 s₀ (stateOf (runFrom head clocks views) tally network) (record { head = head; answer = Done count (head .held) }) clocks views e refl
+    (cond-no (eqb count 0) (Done count (head .held)) (Refused 0) (Done count (head .held)) (ne-eqb count 0 n) refl)
 
 -- the answer to ticks that a check ended
 pub stopped-none : (s : State) (count check : ℕ) → count ≡ 0 → Refused check ≡ ticksAnswer (ranTo s count check)

@@ -6,14 +6,14 @@ use Prim.Native.Nat.{ℕ, _+_, _-_, _≤_, _<_}
 use native.Mathlib.Omega.{arith}
 use lib.ListN.{length, set}
 use Rattle.types.specs.declared.Run.{Run}
-use Rattle.model.specs.State.{State, stateOf, runOf, withHeld, withTime, withClocks, withViews, capacity}
+use Rattle.model.specs.State.{State, stateOf, runOf, withHeld, withTime, withClocks, withViews, clockOf, viewOf, capacity}
 use Rattle.model.specs.Moves.{Entry, clocksOn, advanced, arrival, arrivals, made}
 use Rattle.model.specs.Processors.{messagesOf}
 use Rattle.simulator.specs.declared.Reaction.{Reaction}
 use Rattle.simulator.specs.Inner.{Posts, sentBy, enteredBy, Arrives, seat, arrivedBelow}
 use Rattle.simulator.proofs.Entries as entered
-use Rattle.simulator.proofs.Entries.{turn}
-use Rattle.simulator.proofs.Arrivals.{arrived-clocks, same-processor, same-sent, clocks-more}
+use Rattle.simulator.proofs.Entries.{turn, entries-views}
+use Rattle.simulator.proofs.Arrivals.{clocks-ahead, arrived-clocks, same-processor, same-sent, clocks-more}
 
 -- two states with equal parts are equal
 pub state-by : (s s' : State) → s .run ≡ s' .run → s .tally ≡ s' .tally → s .network ≡ s' .network → s ≡ s'
@@ -22,6 +22,12 @@ state-by s s' a b c = λ i. record { run = a i; tally = b i; network = c i }
 module _ (s : State) where
   abbrev entry : ℕ → Entry
   entry = arrival (advanced s .run)
+
+  -- a processor whose turn has not come stands as before the tick
+  pub seat-kept : (k : ℕ) (next : Run) → next ≡ withViews (arrivedBelow s k .views) (withClocks (clocksOn (s .run) k) (s .run)) → seat next k ≡ seat (s .run) k
+  seat-kept k next e = ap₂ (λ (c v : ℕ). record { number = k; clock = c; view = v })
+      (ap (λ (y : Run). clockOf y k) e ∙ clocks-ahead (s .run) k k (omega arith))
+      (ap (λ (y : Run). viewOf y k) e ∙ entries-views entry (advanced s .run) (s .tally) k k (omega arith))
 
   -- one processor more, in either pass
   module _ (long : s .run .plan .n ≤ length (s .run .clocks)) (k : ℕ) (low : k < s .run .plan .n) (x : Reaction)

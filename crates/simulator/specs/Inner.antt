@@ -16,7 +16,7 @@ use Rattle.types.specs.Quantities.{correct}
 use Rattle.base.specs.Scan.{some}
 use Rattle.types.specs.Messages.{viewStage, voteStage, viewIn, processorIn, stageOf}
 use Rattle.model.specs.State.{State, After, stateOf, clockOf, viewOf, isCorrect, enteredWord, added, sentAt, posted, capacity, checkOf, refused, done}
-use Rattle.model.specs.Moves.{Change, toCorrect, heardTally, formedMessages, stay, entries, handling, advanced, arrival, made}
+use Rattle.model.specs.Moves.{Change, toCorrect, heardTally, formedMessages, stay, entries, handling, advanced, arrival, arrivals, made}
 use Rattle.model.specs.Checks.{judged, planOutside, faultyOutside, clockOutside, atEnd, late, namedOutside, notInitial, reachesEnd, overfull}
 use Rattle.model.specs.Events.{tickOnce, Ticks}
 use Rattle.model.specs.Processors.{Moved, messagesOf, moving}
@@ -88,11 +88,19 @@ pub record Fit (r : Run) : Type 0 where
   pub faulty : faultyOutside (r .plan) (r .faulty) ≡ false
   pub clocks : (p : ℕ) → isCorrect r p ≡ true → clockOutside (r .plan) (clockOf r p) (viewOf r p) ≡ false
 
+-- the tables have an entry for each processor
+pub record Whole (r : Run) : Type 0 where
+  pub clocks : r .plan .n ≤ length (r .clocks)
+  pub views : r .plan .n ≤ length (r .views)
+
 -- ---- a single tick
 
 -- a held message is late, once the network has settled
 abbrev pub lateAt : ℕ → ℕ → ℕ → List ℕ → ℕ → Bool
 lateAt gst delta time ws i = late gst delta time (sentAt ws i)
+
+abbrev pub someLate : State → Bool
+someLate s = s .run .settled && some (lateAt (s .run .gst) (s .run .plan .delta) (s .run .time) (s .network)) (s .run .held)
 
 -- the processor as it stands in the run
 abbrev pub seat : Run → ℕ → Processor
@@ -115,13 +123,19 @@ pub record Foretells (r : Run) (x : Due) : Type 0 where
 -- what a tick needs that no check refuses: clocks that go on, room for what is sent, and a time that fits
 pub record CanTick (r : Run) (t ws : List ℕ) : Type 0 where
   pub fit : Fit r
+  pub whole : Whole r
   pub goes-on : some (endsAt r) (r .plan .n) ≡ false
   pub room : r .held + length (arrivedBelow (stateOf r t ws) (r .plan .n) .sent) ≤ capacity ws
   pub time : r .time + 1 < 2 ^ 64
 
+-- that the tick was done: time and clocks, then the entries
+abbrev pub TickMade : State → State → Type 0
+TickMade s s' = s' ≡ made (advanced s) (arrivals (advanced s))
+
 -- what a tick that was done has left
 pub record Went (s s' : State) : Type 0 where
   pub fit : Fit (s' .run)
+  pub whole : Whole (s' .run)
   pub room : s' .run .held ≤ capacity (s' .network)
   pub time : s' .run .time ≡ s .run .time + 1
   pub clock : (p : ℕ) → isCorrect (s .run) p ≡ true → (isCorrect (s' .run) p ≡ true) × (clockOf (s' .run) p ≡ clockOf (s .run) p + 1)

@@ -1,6 +1,7 @@
 // The simulator: a setup is opened, and each event moves the run and the lent buffers exactly as the definitions say. Whatever is handed in gets
 // either the step or a refusal by the first check that fails, and a refused call has changed nothing.
 mod events;
+mod leaps;
 mod moves;
 mod opening;
 mod ticks;
@@ -97,41 +98,23 @@ pub fn open_lent(
         answer: Answer::Refused(check),
     }
 }
+
 // Check 9, where the run is not known to be sound.
-fn is_unsound(run: Run, known: bool, tally: &[u64], network: &[u64]) -> bool
-    requires { ⌜ KnownSound known (stateOf run (now tally) (now network)) ⌝ }
-    ensures { λ r. ⌜ r ≡ unsound (stateOf run (now (tally .entry)) (now (network .entry))) ⌝ }
+fn is_unsound(
+    head: Head,
+    known: bool,
+    clocks: &[u64; 64],
+    views: &[u64; 64],
+    tally: &[u64],
+    network: &[u64],
+) -> bool
+    requires { ⌜ KnownSound known (stateOf (runFrom head (now clocks) (now views)) (now tally) (now network)) ⌝ }
+    ensures { λ r. ⌜ r ≡ unsound (stateOf (runFrom head (now (clocks .entry)) (now (views .entry))) (now (tally .entry)) (now (network .entry))) ⌝ }
 {
     if known {
         return false;
     }
-    checks::unsound(run, tally, network)
-}
-
-// An event is applied to a run by value.
-fn apply_known(
-    run: Run,
-    known: bool,
-    event: Event,
-    tally: &mut [u64],
-    network: &mut [u64],
-) -> Applied
-    requires { ⌜ KnownSound known (stateOf run (now tally) (now network)) ⌝ }
-    ensures { λ r. ⌜ Applies event (stateOf run (now (tally .entry)) (now (network .entry))) (handedBack r (now (tally .exit)) (now (network .exit))) ⌝ }
-{
-    if event.lacks_form() {
-        return events::refuse(run, 1);
-    }
-    if is_unsound(run, known, tally, network) {
-        return events::refuse(run, 9);
-    }
-    match event {
-        Event::Deliver(m) => events::deliver(run, m, tally, network),
-        Event::Sign(m) => events::sign(run, m, tally, network),
-        Event::Show(m) => events::show(run, m, tally, network),
-        Event::Settle => events::settle(run),
-        Event::Tick(m) => ticks::run_ticks(run, m, tally, network),
-    }
+    checks::unsound(gather(head, clocks, views), tally, network)
 }
 
 // An event is applied to a run whose tables are lent beside its head. A caller that knows the run to be sound says so, and check 9 is not made.
@@ -148,16 +131,18 @@ pub fn apply_lent(
     ensures { λ r. ⌜ Applies event (stateOf (runFrom head (now (clocks .entry)) (now (views .entry))) (now (tally .entry)) (now (network .entry)))
         (leftBehind r (now (clocks .exit)) (now (views .exit)) (now (tally .exit)) (now (network .exit))) ⌝ }
 {
-    let applied = apply_known(gather(head, clocks, views), known, event, tally, network);
-    let next = applied.run;
-    let answer = applied.answer;
-    let next_clocks = next.clocks;
-    let next_views = next.views;
-    *clocks = next_clocks;
-    *views = next_views;
-    Outcome {
-        head: head_of(next),
-        answer: answer,
+    if event.lacks_form() {
+        return events::refuse(head, 1);
+    }
+    if is_unsound(head, known, clocks, views, tally, network) {
+        return events::refuse(head, 9);
+    }
+    match event {
+        Event::Deliver(m) => events::deliver(head, m, clocks, views, tally, network),
+        Event::Sign(m) => events::sign(head, m, clocks, views, tally, network),
+        Event::Show(m) => events::show(head, m, clocks, views, tally, network),
+        Event::Settle => events::settle(head),
+        Event::Tick(m) => ticks::run_ticks(head, m, clocks, views, tally, network),
     }
 }
 

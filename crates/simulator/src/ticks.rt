@@ -1,65 +1,29 @@
-// Time: whether a message is overdue, one tick, and the run of up to m ticks.
+// Time: one tick, and the run of up to m ticks, which leaps over quiet ones.
 use crate::Due;
 use crate::Reaction;
+use crate::leaps;
 use crate::moves;
 use types::Answer;
-use types::Applied;
+use types::Head;
 use types::Input;
+use types::Outcome;
 use types::Plan;
 use types::Processor;
-use types::Run;
 use types::Sends;
 use types::Stepped;
 ghost use mathlib.Core.Path.{_≡_};
-ghost use mathlib.Core.Bool.{true, false, _&&_};
+ghost use mathlib.Core.Bool.{true, false};
 ghost use mathlib.Core.List.{List};
 ghost use Prim.Native.Nat.{_+_, _^_, _<_, _≤_, ℕ};
-ghost use Rattle.base.specs.Scan.{some};
+ghost use lib.ListN.{length};
 ghost use Rattle.types.specs.Quantities.{correct};
-ghost use Rattle.model.specs.State.{stateOf, handedBack, capacity};
-ghost use Rattle.model.specs.Moves.{made, advanced, arrivals};
-ghost use Rattle.model.specs.Checks.{late, unsound};
+ghost use Rattle.model.specs.State.{stateOf, runFrom, leftBehind, capacity};
+ghost use Rattle.model.specs.Checks.{unsound};
 ghost use Rattle.model.specs.Events.{ticksAnswer, tickRun};
 ghost use Rattle.model.specs.Processors.{processorUnsound};
 ghost use Rattle.pacemaker.specs.Steps.{movingBy, Named};
-ghost use Rattle.simulator.specs.Inner.{Reacts, Arrives, Fit, Foretells, CanTick, TickedTo, ranTo, lateAt};
-
-// Whether a message that was sent then is late, once the network has settled.
-fn is_late(gst: u64, delta: u64, time: u64, sent: u64) -> bool
-    ensures { λ r. ⌜ r ≡ late gst delta time sent ⌝ }
-{
-    if time < delta {
-        return false;
-    }
-    if time - delta < sent {
-        return false;
-    }
-    gst <= time - delta
-}
-
-// Whether one of the held messages is late.
-fn some_late(gst: u64, delta: u64, time: u64, held: usize, network: &[u64]) -> bool
-    ensures { λ r. ⌜ r ≡ some (lateAt gst delta time (now (network .entry))) held ⌝ }
-{
-    let mut i = 0;
-    while i < held {
-        if is_late(gst, delta, time, buffers::sent(network, i)) {
-            return true;
-        }
-        i += 1;
-    }
-    false
-}
-
-// Check 16.
-fn is_overdue(settled: bool, gst: u64, delta: u64, time: u64, held: usize, network: &[u64]) -> bool
-    ensures { λ r. ⌜ r ≡ (settled && some (lateAt gst delta time (now (network .entry))) held) ⌝ }
-{
-    if settled {
-        return some_late(gst, delta, time, held, network);
-    }
-    false
-}
+ghost use Rattle.simulator.specs.Inner.{Reacts, Arrives, Fit, Whole, Foretells, CanTick, TickMade, TickedTo, ranTo, someLate};
+ghost use Rattle.simulator.specs.Leaps.{Ready, Advances};
 
 // What an input makes of a processor, by the pacemaker's own step.
 pub(crate) fn react(plan: Plan, processor: Processor, input: Input) -> Reaction
@@ -102,22 +66,22 @@ fn arrive(plan: Plan, faulty: u64, processor: Processor) -> Reaction
 }
 
 // What a tick would do, with nothing written: checks 17 and 18 need it.
-fn foretell(run: Run) -> Due
-    requires { ⌜ Fit run ⌝ }
-    ensures { λ r. ⌜ Foretells run r ⌝ }
+fn foretell(head: Head, clocks: &[u64; 64], views: &[u64; 64]) -> Due
+    requires { ⌜ Fit (runFrom head (now clocks) (now views)) × Whole (runFrom head (now clocks) (now views)) ⌝ }
+    ensures { λ r. ⌜ Foretells (runFrom head (now (clocks .entry)) (now (views .entry))) r ⌝ }
 {
-    let n = run.plan.n;
+    let n = head.plan.n;
     let mut sent = 0;
     let mut q = 0;
     while q < n {
         let i = q as usize;
         let x = arrive(
-            run.plan,
-            run.faulty,
+            head.plan,
+            head.faulty,
             Processor {
                 number: q,
-                clock: run.clocks[i],
-                view: run.views[i],
+                clock: clocks[i],
+                view: views[i],
             },
         );
         if x.ends {
@@ -127,7 +91,7 @@ fn foretell(run: Run) -> Due
             };
         }
         let sends = x.sends;
-        sent += moves::count_entry(run.plan, run.faulty, q, sends);
+        sent += moves::count_entry(head.plan, head.faulty, q, sends);
         q += 1;
     }
     Due {
@@ -137,119 +101,171 @@ fn foretell(run: Run) -> Due
 }
 
 // Time and every correct clock go on by one, and the processors that arrive at an initial view enter it, by rising number.
-fn arrive_all(run: Run, tally: &mut [u64], network: &mut [u64]) -> Run
-    requires { ⌜ CanTick run (now tally) (now network) ⌝ }
-    ensures { λ r. ⌜ stateOf r (now (tally .exit)) (now (network .exit)) ≡ made (advanced (stateOf run (now (tally .entry)) (now (network .entry)))) (arrivals (advanced (stateOf run (now (tally .entry)) (now (network .entry))))) ⌝ }
+fn arrive_all(
+    head: Head,
+    clocks: &mut [u64; 64],
+    views: &mut [u64; 64],
+    tally: &mut [u64],
+    network: &mut [u64],
+) -> Head
+    requires { ⌜ CanTick (runFrom head (now clocks) (now views)) (now tally) (now network) ⌝ }
+    ensures { λ r. ⌜ TickMade (stateOf (runFrom head (now (clocks .entry)) (now (views .entry))) (now (tally .entry)) (now (network .entry)))
+        (stateOf (runFrom r (now (clocks .exit)) (now (views .exit))) (now (tally .exit)) (now (network .exit))) ⌝ }
 {
-    let n = run.plan.n;
-    let time = run.time + 1;
-    let mut next = run;
-    let mut held = run.held;
+    let n = head.plan.n;
+    let time = head.time + 1;
+    let mut held = head.held;
     let mut q = 0;
     while q < n {
         let i = q as usize;
         let x = arrive(
-            run.plan,
-            run.faulty,
+            head.plan,
+            head.faulty,
             Processor {
                 number: q,
-                clock: run.clocks[i],
-                view: run.views[i],
+                clock: clocks[i],
+                view: views[i],
             },
         );
-        let clock = x.processor.clock;
-        let view = x.processor.view;
         let sends = x.sends;
-        next.clocks[i] = clock;
-        next.views[i] = view;
-        held = moves::enter(tally, network, held, run.plan, run.faulty, q, sends, time);
+        clocks[i] = x.processor.clock;
+        views[i] = x.processor.view;
+        held = moves::enter(tally, network, held, head.plan, head.faulty, q, sends, time);
         q += 1;
     }
+    let mut next = head;
     next.time = time;
     next.held = held;
     next
 }
 
-// What a single tick leaves of the run, and the check that refuses it, or 0.
+// What ticks leave of the run, how many were done, and the check that refuses the next one, or 0.
 struct Ticked {
-    run: Run,
+    head: Head,
+    count: u64,
     check: u64,
 }
 
-// One tick, or nothing and the check that refuses it.
-fn tick_once(run: Run, tally: &mut [u64], network: &mut [u64]) -> Ticked
-    requires { ⌜ Fit run × (run .held ≤ capacity (now network)) × (run .time + 1 < 2 ^ 64) ⌝ }
-    ensures { λ r. ⌜ TickedTo (stateOf run (now (tally .entry)) (now (network .entry))) (stateOf (r .run) (now (tally .exit)) (now (network .exit))) (r .check) ⌝ }
+// The tick that brings a clock to an initial view, no message being overdue; or nothing and the check that refuses it.
+fn tick_once(
+    head: Head,
+    clocks: &mut [u64; 64],
+    views: &mut [u64; 64],
+    tally: &mut [u64],
+    network: &mut [u64],
+) -> Ticked
+    requires { ⌜ Fit (runFrom head (now clocks) (now views)) × Whole (runFrom head (now clocks) (now views)) × (head .held ≤ capacity (now network)) × (head .time + 1 < 2 ^ 64)
+        × (someLate (stateOf (runFrom head (now clocks) (now views)) (now tally) (now network)) ≡ false) ⌝ }
+    ensures { λ r. ⌜ TickedTo (stateOf (runFrom head (now (clocks .entry)) (now (views .entry))) (now (tally .entry)) (now (network .entry)))
+        (stateOf (runFrom (r .head) (now (clocks .exit)) (now (views .exit))) (now (tally .exit)) (now (network .exit))) (r .check) × (r .count ≡ 1) ⌝ }
 {
-    if is_overdue(
-        run.settled,
-        run.gst,
-        run.plan.delta,
-        run.time,
-        run.held,
-        network,
-    ) {
-        return Ticked {
-            run: run,
-            check: 16,
-        };
-    }
-    let due = foretell(run);
+    let due = foretell(head, clocks, views);
     if due.ends {
         return Ticked {
-            run: run,
+            head: head,
+            count: 1,
             check: 17,
         };
     }
-    if buffers::capacity(network) < run.held + due.sent {
+    if buffers::capacity(network) < head.held + due.sent {
         return Ticked {
-            run: run,
+            head: head,
+            count: 1,
             check: 18,
         };
     }
-    let next = arrive_all(run, tally, network);
+    let next = arrive_all(head, clocks, views, tally, network);
     Ticked {
-        run: next,
+        head: next,
+        count: 1,
         check: 0,
     }
 }
 
-// The answer to ticks that a check ended: none done is a refusal.
-fn stop(run: Run, count: u64, check: u64) -> Applied
-    requires { ⌜ 0 < check ⌝ }
-    ensures { λ r. ⌜ (r .run ≡ run) × ((t ws : List ℕ) → r .answer ≡ ticksAnswer (ranTo (stateOf run t ws) count check)) ⌝ }
+// At least one tick and at most so many: as many as are quiet, or one that is not. Or none, and the check that refuses it.
+fn advance(
+    head: Head,
+    most: u64,
+    clocks: &mut [u64; 64],
+    views: &mut [u64; 64],
+    tally: &mut [u64],
+    network: &mut [u64],
+) -> Ticked
+    requires { ⌜ Ready (stateOf (runFrom head (now clocks) (now views)) (now tally) (now network)) × (0 < most) ⌝ }
+    ensures { λ r. ⌜ Advances (stateOf (runFrom head (now (clocks .entry)) (now (views .entry))) (now (tally .entry)) (now (network .entry))) most
+        (stateOf (runFrom (r .head) (now (clocks .exit)) (now (views .exit))) (now (tally .exit)) (now (network .exit))) (r .count) (r .check) ⌝ }
 {
-    let held = run.held;
+    let waiting = leaps::wait(head, network, most);
+    if waiting == 0 {
+        return Ticked {
+            head: head,
+            count: 1,
+            check: 16,
+        };
+    }
+    let quiet = leaps::rest(head, clocks, views, waiting);
+    if 0 < quiet {
+        let next = leaps::leap(head, quiet, clocks);
+        return Ticked {
+            head: next,
+            count: quiet,
+            check: 0,
+        };
+    }
+    tick_once(head, clocks, views, tally, network)
+}
+
+// The answer to ticks that a check ended: none done is a refusal.
+fn stop(head: Head, count: u64, check: u64) -> Outcome
+    requires { ⌜ 0 < check ⌝ }
+    ensures { λ r. ⌜ (r .head ≡ head) × ((c v t ws : List ℕ) → r .answer ≡ ticksAnswer (ranTo (stateOf (runFrom head c v) t ws) count check)) ⌝ }
+{
+    let held = head.held;
     if count == 0 {
-        return Applied {
-            run: run,
+        return Outcome {
+            head: head,
             answer: Answer::Refused(check),
         };
     }
-    Applied {
-        run: run,
+    Outcome {
+        head: head,
         answer: Answer::Stopped(count, held, check),
     }
 }
 
+// A table has its 64 entries. The compiler makes nothing of this; the proofs hear it.
+fn sized(table: [u64; 64])
+    ensures { λ r. ⌜ length table ≡ 64 ⌝ }
+{}
+
 // Up to m ticks: they end before the first that a check refuses. A sound run's clocks end it, whatever m is.
-pub(crate) fn run_ticks(run: Run, m: u64, tally: &mut [u64], network: &mut [u64]) -> Applied
-    requires { ⌜ (0 < m) × (unsound (stateOf run (now tally) (now network)) ≡ false) ⌝ }
-    ensures { λ r. ⌜ handedBack r (now (tally .exit)) (now (network .exit)) ≡ tickRun m (stateOf run (now (tally .entry)) (now (network .entry))) ⌝ }
+pub(crate) fn run_ticks(
+    head: Head,
+    m: u64,
+    clocks: &mut [u64; 64],
+    views: &mut [u64; 64],
+    tally: &mut [u64],
+    network: &mut [u64],
+) -> Outcome
+    requires { ⌜ (0 < m) × (unsound (stateOf (runFrom head (now clocks) (now views)) (now tally) (now network)) ≡ false) ⌝ }
+    ensures { λ r. ⌜ leftBehind r (now (clocks .exit)) (now (views .exit)) (now (tally .exit)) (now (network .exit))
+        ≡ tickRun m (stateOf (runFrom head (now (clocks .entry)) (now (views .entry))) (now (tally .entry)) (now (network .entry))) ⌝ }
 {
-    let mut at = run;
+    sized(*clocks);
+    sized(*views);
+    let mut at = head;
     let mut count = 0;
     while count < m {
-        let t = tick_once(at, tally, network);
-        at = t.run;
+        let t = advance(at, m - count, clocks, views, tally, network);
+        at = t.head;
         if 0 < t.check {
             return stop(at, count, t.check);
         }
-        count += 1;
+        count += t.count;
     }
     let held = at.held;
-    Applied {
-        run: at,
+    Outcome {
+        head: at,
         answer: Answer::Done(count, held),
     }
 }

@@ -26,7 +26,7 @@ is-marked-requires c κs = search needs
 
 returns : tie.Need-returns
 unfolding exists
-returns c = cond-yes _ _ _ _ (sym (c .before .before .led .ensures) ∙ c .before .if1 .taken) (c .is-marked .ensures)
+returns c = λ cs vs. cond-yes _ _ _ _ (sym (c .before .before .led .ensures) ∙ c .before .if1 .taken) (c .is-marked .ensures)
 
 signers-needed-requires : tie.Need-signers-needed-requires
 signers-needed-requires c κs = search needs
@@ -41,11 +41,11 @@ size-requires-2 : tie.Need-size-requires-2
 size-requires-2 c κs = search needs
 
 add-result : tie.Need-add-result
-add-result c = omega (arith, c .before .before .size .ensures, c .size2 .ensures, ones-le 64 (c .before .before .before .before .before .before .before .args .run .faulty) (search (needs, c .before .before .before .before .before .before .before .good)), ones-le 64 (c .before .entered .result) (search (needs, c .before .entered .ok)))
+add-result c = omega (arith, c .before .before .size .ensures, c .size2 .ensures, ones-le 64 (c .before .before .before .before .before .before .before .args .head .faulty) (search (needs, c .before .before .before .before .before .before .before .good)), ones-le 64 (c .before .entered .result) (search (needs, c .before .entered .ok)))
 
 returns-2 : tie.Need-returns-2
 unfolding exists
-returns-2 c = cond-no _ _ _ _ (sym (c .before .before .before .before .before .led .ensures) ∙ c .before .before .before .before .if1 .left) (ap (λ (x : ℕ). leb x (c .before .before .size .result + c .size2 .result)) (c .before .before .before .signers-needed .ensures) ∙ ap₂ (λ (x y : ℕ). leb (needed (c .before .before .before .before .before .before .before .args .stage) (c .before .before .before .before .before .before .before .args .run .plan)) (x + y)) (c .before .before .size .ensures) (c .size2 .ensures ∙ ap size (c .before .entered .ensures)))
+returns-2 c = λ cs vs. cond-no _ _ _ _ (sym (c .before .before .before .before .before .led .ensures) ∙ c .before .before .before .before .if1 .left) (ap (λ (x : ℕ). leb x (c .before .before .size .result + c .size2 .result)) (c .before .before .before .signers-needed .ensures) ∙ ap₂ (λ (x y : ℕ). leb (needed (c .before .before .before .before .before .before .before .args .stage) (c .before .before .before .before .before .before .before .args .head .plan)) (x + y)) (c .before .before .size .ensures) (c .size2 .ensures ∙ ap size (c .before .entered .ensures)))
 
 pub has-certificate-spec : {M : Type 1} → statement M
 has-certificate-spec =

@@ -16,13 +16,13 @@ lead-requires : tie.Need-lead-requires
 lead-requires c κs = search needs
 
 mul-result : tie.Need-mul-result
-mul-result c = omega (arith, c .lead .ensures ∙ lead-fits (c .before .before .args .t1 .plan) (c .before .before .args .w) (c .before .before .pre .0), lead-low (c .before .before .args .t1 .plan) (c .before .before .args .w) (c .before .before .pre .0), c .before .before .pre .1)
+mul-result c = omega (arith, c .lead .ensures ∙ lead-fits (c .before .args .plan) (c .before .args .w) (c .before .pre .0), lead-low (c .before .args .plan) (c .before .args .w) (c .before .pre .0), c .before .pre .1)
 
 element-copy-out-result : tie.Need-element-copy-out-result
-element-copy-out-result c = omega (arith, c .lead .ensures ∙ lead-fits (c .before .before .args .t1 .plan) (c .before .before .args .w) (c .before .before .pre .0), lead-low (c .before .before .args .t1 .plan) (c .before .before .args .w) (c .before .before .pre .0), c .before .before .pre .1)
+element-copy-out-result c = omega (arith, c .lead .ensures ∙ lead-fits (c .before .args .plan) (c .before .args .w) (c .before .pre .0), lead-low (c .before .args .plan) (c .before .args .w) (c .before .pre .0), c .before .pre .1)
 
 returns : tie.Need-returns
-returns c = ap (λ (q : ℕ). getD (c .before .before .before .args .t1 .views) q 0) (c .before .lead .ensures ∙ lead-fits (c .before .before .before .args .t1 .plan) (c .before .before .before .args .w) (c .before .before .before .pre .0))
+returns c = ap (λ (q : ℕ). getD (c .before .before .args .views .now) q 0) (c .before .lead .ensures ∙ lead-fits (c .before .before .args .plan) (c .before .before .args .w) (c .before .before .pre .0))
 
 pub leader-view-spec : {M : Type 1} → statement M
 leader-view-spec = tie.close (tie.spec lead-requires mul-result element-copy-out-result returns)

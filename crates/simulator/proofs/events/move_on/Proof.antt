@@ -1,6 +1,6 @@
 use Rattle.simulator.proofs.Deciding.{made-by}
 use Rattle.simulator.specs.Inner.{movedChange}
-use Rattle.model.specs.State.{stateOf}
+use Rattle.model.specs.State.{stateOf, runFrom}
 use borrow.Author.Needs.{needs}
 use Rattle.simulator.proofs.events.move_on.Statement.{statement}
 use Rattle.simulator.proofs.events.move_on.Tie as tie
@@ -11,17 +11,17 @@ use Rattle.simulator.proofs.moves.enter.Reads as enter-reads
 enter-requires : tie.Need-enter-requires
 enter-requires c κs = search needs
 
-mul-next : tie.Need-mul-next
-mul-next c = search needs
+mul-clocks : tie.Need-mul-clocks
+mul-clocks c = search needs
 
-element-write-next : tie.Need-element-write-next
-element-write-next c = search needs
+element-write-clocks : tie.Need-element-write-clocks
+element-write-clocks c = search needs
 
-mul-next-2 : tie.Need-mul-next-2
-mul-next-2 c = search needs
+mul-views : tie.Need-mul-views
+mul-views c = search needs
 
-element-write-next-2 : tie.Need-element-write-next-2
-element-write-next-2 c = search needs
+element-write-views : tie.Need-element-write-views
+element-write-views c = search needs
 
 same-length : tie.Need-same-length
 same-length c = search needs
@@ -30,17 +30,17 @@ same-length-2 : tie.Need-same-length-2
 same-length-2 c = search needs
 
 returns : tie.Need-returns
-returns c = made-by (stateOf (c .before .before .before .before .before .before .before .before .before .args .run) (c .before .before .before .before .before .before .before .before .before .args .tally .now) (c .before .before .before .before .before .before .before .before .before .args .network .now)) (movedChange (c .before .before .before .before .before .before .before .before .before .args .run) (c .before .before .before .before .before .before .before .before .before .args .tally .now) (c .before .before .before .before .before .before .before .before .before .args .p) (c .before .before .before .before .before .before .before .before .before .args .x)) _ _ _ (c .before .before .before .before .enter .ensures .0) (c .before .before .before .before .enter .ensures .1)
+returns c = made-by (stateOf (runFrom (c .before .before .before .before .before .before .before .before .before .args .head) (c .before .before .before .before .before .before .before .before .before .args .clocks .now) (c .before .before .before .before .before .before .before .before .before .args .views .now)) (c .before .before .before .before .before .before .before .before .before .args .tally .now) (c .before .before .before .before .before .before .before .before .before .args .network .now)) (movedChange (runFrom (c .before .before .before .before .before .before .before .before .before .args .head) (c .before .before .before .before .before .before .before .before .before .args .clocks .now) (c .before .before .before .before .before .before .before .before .before .args .views .now)) (c .before .before .before .before .before .before .before .before .before .args .tally .now) (c .before .before .before .before .before .before .before .before .before .args .p) (c .before .before .before .before .before .before .before .before .before .args .x)) _ _ _ (c .before .before .before .before .enter .ensures .0) (c .before .before .before .before .enter .ensures .1)
 
 pub move-on-spec : {M : Type 1} → statement M
 move-on-spec =
     tie.close
     (tie.spec
     enter-requires
-    mul-next
-    element-write-next
-    mul-next-2
-    element-write-next-2
+    mul-clocks
+    element-write-clocks
+    mul-views
+    element-write-views
     same-length
     same-length-2
     returns)

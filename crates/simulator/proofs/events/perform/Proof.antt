@@ -22,13 +22,13 @@ enum-known-message-3 : tie.Need-enum-known-message-3
 enum-known-message-3 c = search needs
 
 move-on-requires : tie.Need-move-on-requires
-move-on-requires c κs = rw (c .before .before .before .message3 .given .1) at (c .before .before .before .before .before .before .before .pre)
+move-on-requires c κs = rw (c .before .before .before .before .before .message3 .given .1) at (c .before .before .before .before .before .before .before .before .before .pre)
 
 enum-known-message-4 : tie.Need-enum-known-message-4
 enum-known-message-4 c = search needs
 
 move-on-requires-2 : tie.Need-move-on-requires-2
-move-on-requires-2 c κs = rw (c .before .before .before .message4 .given .1) at (c .before .before .before .before .before .before .before .pre)
+move-on-requires-2 c κs = rw (c .before .before .before .before .before .message4 .given .1) at (c .before .before .before .before .before .before .before .before .before .pre)
 
 same-length : tie.Need-same-length
 same-length c = search needs
@@ -37,7 +37,7 @@ same-length-2 : tie.Need-same-length-2
 same-length-2 c = search needs
 
 returns : tie.Need-returns
-returns c = rw (c .before .before .before .before .before .before .before .before .message .given .1) (c .before .before .before .before .listen .ensures)
+returns c = rw (c .before .before .before .before .before .before .before .before .message .given .1) (c .before .before .before .before .listen .ensures (c .before .before .before .before .before .before .before .before .before .before .before .before .args .clocks .now) (c .before .before .before .before .before .before .before .before .before .before .before .before .args .views .now))
 
 same-length-3 : tie.Need-same-length-3
 same-length-3 c = search needs
@@ -46,7 +46,7 @@ same-length-4 : tie.Need-same-length-4
 same-length-4 c = search needs
 
 returns-2 : tie.Need-returns-2
-returns-2 c = rw (c .before .before .before .before .before .before .before .before .message2 .given .1) (c .before .before .before .before .listen2 .ensures)
+returns-2 c = rw (c .before .before .before .before .before .before .before .before .message2 .given .1) (c .before .before .before .before .listen2 .ensures (c .before .before .before .before .before .before .before .before .before .before .before .before .args .clocks .now) (c .before .before .before .before .before .before .before .before .before .before .before .before .args .views .now))
 
 same-length-5 : tie.Need-same-length-5
 same-length-5 c = search needs
@@ -55,7 +55,7 @@ same-length-6 : tie.Need-same-length-6
 same-length-6 c = search needs
 
 returns-3 : tie.Need-returns-3
-returns-3 c = rw (c .before .before .before .before .before .before .before .before .message3 .given .1) (c .before .before .before .before .move-on .ensures)
+returns-3 c = rw (c .before .before .before .before .before .before .before .before .before .before .message3 .given .1) (c .before .before .before .before .move-on .ensures)
 
 same-length-7 : tie.Need-same-length-7
 same-length-7 c = search needs
@@ -64,7 +64,7 @@ same-length-8 : tie.Need-same-length-8
 same-length-8 c = search needs
 
 returns-4 : tie.Need-returns-4
-returns-4 c = rw (c .before .before .before .before .before .before .before .before .message4 .given .1) (c .before .before .before .before .move-on2 .ensures)
+returns-4 c = rw (c .before .before .before .before .before .before .before .before .before .before .message4 .given .1) (c .before .before .before .before .move-on2 .ensures)
 
 pub perform-spec : {M : Type 1} → statement M
 perform-spec =

@@ -2,7 +2,7 @@ use Rattle.simulator.specs.Inner.{namedCheck}
 use Rattle.simulator.proofs.Happening.{refused-is, done-is, sign-named, sign-correct, sign-heard, sign-unheard, finish-still, signature-reaches}
 use Rattle.simulator.proofs.Fitness.{fit-of}
 use Rattle.pacemaker.proofs.LimitLaws.{within}
-use Rattle.model.specs.State.{State, stateOf}
+use Rattle.model.specs.State.{State, stateOf, runFrom}
 use Rattle.types.specs.Quantities.{lead, correct}
 use native.Mathlib.Omega.{arith}
 use Prim.Native.Nat.{ℕ}
@@ -28,7 +28,7 @@ refuse-requires : tie.Need-refuse-requires
 refuse-requires c κs = search needs
 
 returns : tie.Need-returns
-returns c = let s : State = stateOf (c .before .before .before .before .before .args .run) (c .before .before .before .before .before .args .tally .now) (c .before .before .before .before .before .args .network .now) in refused-is s _ _ (c .refuse .ensures) ∙ sign-named s (c .before .before .before .before .before .args .message) (c .before .before .before .before .before .pre .0) (c .before .before .before .before .before .pre .1) _ (c .before .before .check-named .ensures) (c .before .if1 .taken)
+returns c = let s : State = stateOf (runFrom (c .before .before .before .before .before .args .head) (c .before .before .before .before .before .args .clocks .now) (c .before .before .before .before .before .args .views .now)) (c .before .before .before .before .before .args .tally .now) (c .before .before .before .before .before .args .network .now) in refused-is s _ _ (c .refuse .ensures) ∙ sign-named s (c .before .before .before .before .before .args .message) (c .before .before .before .before .before .pre .0) (c .before .before .before .before .before .pre .1) _ (c .before .before .check-named .ensures) (c .before .if1 .taken)
 
 processor-requires : tie.Need-processor-requires
 processor-requires c κs = search needs
@@ -40,16 +40,16 @@ refuse-requires-2 : tie.Need-refuse-requires-2
 refuse-requires-2 c κs = search needs
 
 returns-2 : tie.Need-returns-2
-returns-2 c = let s : State = stateOf (c .before .before .before .before .before .before .before .before .args .run) (c .before .before .before .before .before .before .before .before .args .tally .now) (c .before .before .before .before .before .before .before .before .args .network .now) in let named : namedCheck (c .before .before .before .before .before .before .before .before .args .run .plan) (c .before .before .before .before .before .before .before .before .args .message) ≡ 0 = omega (arith, c .before .before .before .before .before .check-named .ensures, c .before .before .before .before .if1 .left) in refused-is s _ 12 (c .refuse2 .ensures) ∙ sign-correct s (c .before .before .before .before .before .before .before .before .args .message) (c .before .before .before .before .before .before .before .before .pre .0) (c .before .before .before .before .before .before .before .before .pre .1) named (ap (correct (c .before .before .before .before .before .before .before .before .args .run .plan) (c .before .before .before .before .before .before .before .before .args .run .faulty)) (sym (c .before .before .before .processor .ensures)) ∙ sym (c .before .before .correct .ensures) ∙ c .before .if2 .taken)
+returns-2 c = let s : State = stateOf (runFrom (c .before .before .before .before .before .before .before .before .args .head) (c .before .before .before .before .before .before .before .before .args .clocks .now) (c .before .before .before .before .before .before .before .before .args .views .now)) (c .before .before .before .before .before .before .before .before .args .tally .now) (c .before .before .before .before .before .before .before .before .args .network .now) in let named : namedCheck (c .before .before .before .before .before .before .before .before .args .head .plan) (c .before .before .before .before .before .before .before .before .args .message) ≡ 0 = omega (arith, c .before .before .before .before .before .check-named .ensures, c .before .before .before .before .if1 .left) in refused-is s _ 12 (c .refuse2 .ensures) ∙ sign-correct s (c .before .before .before .before .before .before .before .before .args .message) (c .before .before .before .before .before .before .before .before .pre .0) (c .before .before .before .before .before .before .before .before .pre .1) named (ap (correct (c .before .before .before .before .before .before .before .before .args .head .plan) (c .before .before .before .before .before .before .before .before .args .head .faulty)) (sym (c .before .before .before .processor .ensures)) ∙ sym (c .before .before .correct .ensures) ∙ c .before .if2 .taken)
 
 view-requires : tie.Need-view-requires
 view-requires c κs = search needs
 
 led-requires : tie.Need-led-requires
-led-requires c κs = omega (arith, within (c .before .before .before .before .before .before .before .before .args .run .plan) (fit-of (stateOf (c .before .before .before .before .before .before .before .before .args .run) (c .before .before .before .before .before .before .before .before .args .tally .now) (c .before .before .before .before .before .before .before .before .args .network .now)) (c .before .before .before .before .before .before .before .before .pre .1) .plan) .n-least)
+led-requires c κs = omega (arith, within (c .before .before .before .before .before .before .before .before .args .head .plan) (fit-of (stateOf (runFrom (c .before .before .before .before .before .before .before .before .args .head) (c .before .before .before .before .before .before .before .before .args .clocks .now) (c .before .before .before .before .before .before .before .before .args .views .now)) (c .before .before .before .before .before .before .before .before .args .tally .now) (c .before .before .before .before .before .before .before .before .args .network .now)) (c .before .before .before .before .before .before .before .before .pre .1) .plan) .n-least)
 
 finish-requires : tie.Need-finish-requires
-finish-requires c κs = (c .before .before .before .before .before .before .before .before .before .before .before .before .pre .1, omega (arith, c .before .before .before .before .before .before .before .before .before .check-named .ensures, c .before .before .before .before .before .before .before .before .if1 .left), signature-reaches (c .before .before .before .before .before .before .before .before .before .before .before .before .args .run) (c .before .before .before .before .before .before .before .before .before .before .before .before .args .message) (c .before .before .before .before .before .before .before .before .before .before .before .before .pre .0))
+finish-requires c κs = (c .before .before .before .before .before .before .before .before .before .before .before .before .before .before .pre .1, omega (arith, c .before .before .before .before .before .before .before .before .before .before .before .check-named .ensures, c .before .before .before .before .before .before .before .before .before .before .if1 .left), signature-reaches (runFrom (c .before .before .before .before .before .before .before .before .before .before .before .before .before .before .args .head) (c .before .before .before .before .before .before .before .before .before .before .before .before .before .before .args .clocks .now) (c .before .before .before .before .before .before .before .before .before .before .before .before .before .before .args .views .now)) (c .before .before .before .before .before .before .before .before .before .before .before .before .before .before .args .message) (c .before .before .before .before .before .before .before .before .before .before .before .before .before .before .pre .0))
 
 same-length : tie.Need-same-length
 same-length c = search needs
@@ -58,13 +58,13 @@ same-length-2 : tie.Need-same-length-2
 same-length-2 c = search needs
 
 returns-3 : tie.Need-returns-3
-returns-3 c = let s : State = stateOf (c .before .before .before .before .before .before .before .before .before .before .before .before .before .before .before .before .before .args .run) (c .before .before .before .before .before .before .before .before .before .before .before .before .before .before .before .before .before .args .tally .now) (c .before .before .before .before .before .before .before .before .before .before .before .before .before .before .before .before .before .args .network .now) in let named : namedCheck (c .before .before .before .before .before .before .before .before .before .before .before .before .before .before .before .before .before .args .run .plan) (c .before .before .before .before .before .before .before .before .before .before .before .before .before .before .before .before .before .args .message) ≡ 0 = omega (arith, c .before .before .before .before .before .before .before .before .before .before .before .before .before .before .check-named .ensures, c .before .before .before .before .before .before .before .before .before .before .before .before .before .if1 .left) in sign-heard s (c .before .before .before .before .before .before .before .before .before .before .before .before .before .before .before .before .before .args .message) (c .before .before .before .before .before .before .before .before .before .before .before .before .before .before .before .before .before .pre .0) (c .before .before .before .before .before .before .before .before .before .before .before .before .before .before .before .before .before .pre .1) named (ap (correct (c .before .before .before .before .before .before .before .before .before .before .before .before .before .before .before .before .before .args .run .plan) (c .before .before .before .before .before .before .before .before .before .before .before .before .before .before .before .before .before .args .run .faulty)) (sym (c .before .before .before .before .before .before .before .before .before .before .before .before .processor .ensures)) ∙ sym (c .before .before .before .before .before .before .before .before .before .before .before .correct .ensures) ∙ c .before .before .before .before .before .before .before .before .before .before .if2 .left) (ap (λ (w : ℕ). correct (c .before .before .before .before .before .before .before .before .before .before .before .before .before .before .before .before .before .args .run .plan) (c .before .before .before .before .before .before .before .before .before .before .before .before .before .before .before .before .before .args .run .faulty) (lead (c .before .before .before .before .before .before .before .before .before .before .before .before .before .before .before .before .before .args .run .plan) w)) (sym (c .before .before .before .before .before .before .before .before .before .view .ensures)) ∙ sym (c .before .before .before .before .before .before .before .before .led .ensures) ∙ c .before .before .before .before .before .before .before .if3 .taken) _ (c .before .before .before .before .finish .ensures)
+returns-3 c = let s : State = stateOf (runFrom (c .before .before .before .before .before .before .before .before .before .before .before .before .before .before .before .before .before .before .before .args .head) (c .before .before .before .before .before .before .before .before .before .before .before .before .before .before .before .before .before .before .before .args .clocks .now) (c .before .before .before .before .before .before .before .before .before .before .before .before .before .before .before .before .before .before .before .args .views .now)) (c .before .before .before .before .before .before .before .before .before .before .before .before .before .before .before .before .before .before .before .args .tally .now) (c .before .before .before .before .before .before .before .before .before .before .before .before .before .before .before .before .before .before .before .args .network .now) in let named : namedCheck (c .before .before .before .before .before .before .before .before .before .before .before .before .before .before .before .before .before .before .before .args .head .plan) (c .before .before .before .before .before .before .before .before .before .before .before .before .before .before .before .before .before .before .before .args .message) ≡ 0 = omega (arith, c .before .before .before .before .before .before .before .before .before .before .before .before .before .before .before .before .check-named .ensures, c .before .before .before .before .before .before .before .before .before .before .before .before .before .before .before .if1 .left) in sign-heard s (c .before .before .before .before .before .before .before .before .before .before .before .before .before .before .before .before .before .before .before .args .message) (c .before .before .before .before .before .before .before .before .before .before .before .before .before .before .before .before .before .before .before .pre .0) (c .before .before .before .before .before .before .before .before .before .before .before .before .before .before .before .before .before .before .before .pre .1) named (ap (correct (c .before .before .before .before .before .before .before .before .before .before .before .before .before .before .before .before .before .before .before .args .head .plan) (c .before .before .before .before .before .before .before .before .before .before .before .before .before .before .before .before .before .before .before .args .head .faulty)) (sym (c .before .before .before .before .before .before .before .before .before .before .before .before .before .before .processor .ensures)) ∙ sym (c .before .before .before .before .before .before .before .before .before .before .before .before .before .correct .ensures) ∙ c .before .before .before .before .before .before .before .before .before .before .before .before .if2 .left) (ap (λ (w : ℕ). correct (c .before .before .before .before .before .before .before .before .before .before .before .before .before .before .before .before .before .before .before .args .head .plan) (c .before .before .before .before .before .before .before .before .before .before .before .before .before .before .before .before .before .before .before .args .head .faulty) (lead (c .before .before .before .before .before .before .before .before .before .before .before .before .before .before .before .before .before .before .before .args .head .plan) w)) (sym (c .before .before .before .before .before .before .before .before .before .before .before .view .ensures)) ∙ sym (c .before .before .before .before .before .before .before .before .before .before .led .ensures) ∙ c .before .before .before .before .before .before .before .before .before .if3 .taken) _ (c .before .before .before .before .finish .ensures)
 
 done-requires : tie.Need-done-requires
 done-requires c κs = search needs
 
 returns-4 : tie.Need-returns-4
-returns-4 c = let s : State = stateOf (c .before .before .before .before .before .before .before .before .before .before .before .args .run) (c .before .before .before .before .before .before .before .before .before .before .before .args .tally .now) (c .before .before .before .before .before .before .before .before .before .before .before .args .network .now) in let named : namedCheck (c .before .before .before .before .before .before .before .before .before .before .before .args .run .plan) (c .before .before .before .before .before .before .before .before .before .before .before .args .message) ≡ 0 = omega (arith, c .before .before .before .before .before .before .before .before .check-named .ensures, c .before .before .before .before .before .before .before .if1 .left) in sign-unheard s (c .before .before .before .before .before .before .before .before .before .before .before .args .message) (c .before .before .before .before .before .before .before .before .before .before .before .pre .0) (c .before .before .before .before .before .before .before .before .before .before .before .pre .1) named (ap (correct (c .before .before .before .before .before .before .before .before .before .before .before .args .run .plan) (c .before .before .before .before .before .before .before .before .before .before .before .args .run .faulty)) (sym (c .before .before .before .before .before .before .processor .ensures)) ∙ sym (c .before .before .before .before .before .correct .ensures) ∙ c .before .before .before .before .if2 .left) (ap (λ (w : ℕ). correct (c .before .before .before .before .before .before .before .before .before .before .before .args .run .plan) (c .before .before .before .before .before .before .before .before .before .before .before .args .run .faulty) (lead (c .before .before .before .before .before .before .before .before .before .before .before .args .run .plan) w)) (sym (c .before .before .before .view .ensures)) ∙ sym (c .before .before .led .ensures) ∙ c .before .if3 .left) _ (done-is s _ _ _ _ (c .done .ensures) refl ∙ finish-still s (c .before .before .before .before .before .before .before .before .before .before .before .pre .1))
+returns-4 c = let s : State = stateOf (runFrom (c .before .before .before .before .before .before .before .before .before .before .before .args .head) (c .before .before .before .before .before .before .before .before .before .before .before .args .clocks .now) (c .before .before .before .before .before .before .before .before .before .before .before .args .views .now)) (c .before .before .before .before .before .before .before .before .before .before .before .args .tally .now) (c .before .before .before .before .before .before .before .before .before .before .before .args .network .now) in let named : namedCheck (c .before .before .before .before .before .before .before .before .before .before .before .args .head .plan) (c .before .before .before .before .before .before .before .before .before .before .before .args .message) ≡ 0 = omega (arith, c .before .before .before .before .before .before .before .before .check-named .ensures, c .before .before .before .before .before .before .before .if1 .left) in sign-unheard s (c .before .before .before .before .before .before .before .before .before .before .before .args .message) (c .before .before .before .before .before .before .before .before .before .before .before .pre .0) (c .before .before .before .before .before .before .before .before .before .before .before .pre .1) named (ap (correct (c .before .before .before .before .before .before .before .before .before .before .before .args .head .plan) (c .before .before .before .before .before .before .before .before .before .before .before .args .head .faulty)) (sym (c .before .before .before .before .before .before .processor .ensures)) ∙ sym (c .before .before .before .before .before .correct .ensures) ∙ c .before .before .before .before .if2 .left) (ap (λ (w : ℕ). correct (c .before .before .before .before .before .before .before .before .before .before .before .args .head .plan) (c .before .before .before .before .before .before .before .before .before .before .before .args .head .faulty) (lead (c .before .before .before .before .before .before .before .before .before .before .before .args .head .plan) w)) (sym (c .before .before .before .view .ensures)) ∙ sym (c .before .before .led .ensures) ∙ c .before .if3 .left) _ (done-is s _ _ _ _ _ _ (c .done .ensures) refl ∙ finish-still s (c .before .before .before .before .before .before .before .before .before .before .before .pre .1))
 
 pub sign-spec : {M : Type 1} → statement M
 sign-spec =

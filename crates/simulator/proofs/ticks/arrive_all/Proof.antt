@@ -1,17 +1,20 @@
-use Rattle.simulator.proofs.Ticking.{next-turn, tally-turn, arrival-fits, posts-turn, tick-made}
-use Rattle.simulator.proofs.Posting.{posts-none}
-use Rattle.simulator.proofs.Fitness.{seat-sound}
-use Rattle.simulator.specs.Inner.{Posts, arrivedBelow, endsAt}
-use Rattle.pacemaker.proofs.LimitLaws.{within}
-use Rattle.model.specs.Moves.{entries, clocksOn}
-use Rattle.model.specs.State.{stateOf, withClocks, withViews}
-use Rattle.base.specs.ScanLaws.{some-not}
-use borrow.Author.Needs.{needs, zero≤}
-use lib.ListN.{length}
-use native.Mathlib.Omega.{arith}
-use Prim.Native.Nat.{ℕ, _+_, _-_, _≤_}
+use mathlib.Core.Path.{_≡_, refl, sym, ap, _∙_, subst}
 use mathlib.Core.Bool.{false}
-use mathlib.Core.Path.{_≡_, refl, ap, _∙_, subst}
+use Prim.Native.Nat.{ℕ, _+_, _-_, _≤_}
+use native.Mathlib.Omega.{arith}
+use lib.ListN.{length}
+use borrow.Author.Needs.{needs, zero≤}
+use Rattle.base.specs.ScanLaws.{some-not}
+use Rattle.model.specs.Processors.{processorUnsound}
+use Rattle.model.specs.State.{State, stateOf, runFrom, withClocks, withViews}
+use Rattle.model.specs.Moves.{entries, clocksOn}
+use Rattle.types.specs.declared.Processor.{Processor}
+use Rattle.types.specs.declared.Run.{Run}
+use Rattle.pacemaker.proofs.LimitLaws.{within}
+use Rattle.simulator.specs.Inner.{Posts, Arrives, arrivedBelow, endsAt, seat}
+use Rattle.simulator.proofs.Fitness.{seat-sound}
+use Rattle.simulator.proofs.Posting.{posts-none}
+use Rattle.simulator.proofs.Ticking.{seat-kept, next-turn, tally-turn, arrival-fits, posts-turn, tick-made}
 use Rattle.simulator.proofs.ticks.arrive_all.Statement.{statement}
 use Rattle.simulator.proofs.ticks.arrive_all.Tie as tie
 use Rattle.simulator.proofs.ticks.arrive_all.Reads as reads
@@ -20,47 +23,54 @@ use Rattle.simulator.proofs.moves.enter.Reads as enter-reads
 use Rattle.simulator.proofs.ticks.arrive.Reads as arrive-reads
 
 abbrev Inv-loop : tie.InvT-loop
-Inv-loop tally₀ network₀ run n time next₀ held₀ q₀ tally network next held q = (q ≤ run .plan .n) × (next ≡ withViews (arrivedBelow (stateOf run tally₀ network₀) q .views) (withClocks (clocksOn run q) run)) × (tally ≡ arrivedBelow (stateOf run tally₀ network₀) q .tally) × Posts (arrivedBelow (stateOf run tally₀ network₀) q .sent) (run .held) time network₀ held network × (length tally ≡ length tally₀) × (length network ≡ length network₀)
+Inv-loop head clocks₀ views₀ tally₀ network₀ n time held₀ q₀ clocks views tally network held q = (q ≤ head .plan .n) × (runFrom head clocks views ≡ withViews (arrivedBelow (stateOf (runFrom head clocks₀ views₀) tally₀ network₀) q .views) (withClocks (clocksOn (runFrom head clocks₀ views₀) q) (runFrom head clocks₀ views₀))) × (tally ≡ arrivedBelow (stateOf (runFrom head clocks₀ views₀) tally₀ network₀) q .tally) × Posts (arrivedBelow (stateOf (runFrom head clocks₀ views₀) tally₀ network₀) q .sent) (head .held) time network₀ held network × (length tally ≡ length tally₀) × (length network ≡ length network₀)
 
 abbrev μ-loop : tie.MeasureT-loop
-μ-loop tally₀ network₀ run n time next₀ held₀ q₀ tally network next held q = run .plan .n - q
+μ-loop head clocks₀ views₀ tally₀ network₀ n time held₀ q₀ clocks views tally network held q = head .plan .n - q
 
 add-time : tie.Need-add-time Inv-loop μ-loop
-add-time c = omega (arith, c .before .before .pre .time)
+add-time c = omega (arith, c .before .before .before .pre .time)
 
 loop-holds : tie.Need-loop-holds Inv-loop μ-loop
 unfolding entries clocksOn
 loop-holds c = (zero≤, refl, refl, posts-none _ _ _, refl, refl)
 
-mul-t20 : tie.Need-mul-t20 Inv-loop μ-loop
-mul-t20 c = omega (arith, c .before .loop-test .taken, within (c .before .before .before .before .before .args .t1 .plan) (c .before .before .before .before .before .pre .fit .plan) .n-most)
+mul-t15 : tie.Need-mul-t15 Inv-loop μ-loop
+mul-t15 c = omega (arith, c .loop-test .taken, within (c .before .before .before .before .before .args .head .plan) (c .before .before .before .before .before .pre .fit .plan) .n-most)
 
-element-copy-out-t23 : tie.Need-element-copy-out-t23 Inv-loop μ-loop
-element-copy-out-t23 c = omega (arith, c .before .loop-test .taken, within (c .before .before .before .before .before .args .t1 .plan) (c .before .before .before .before .before .pre .fit .plan) .n-most)
+element-copy-out-t18 : tie.Need-element-copy-out-t18 Inv-loop μ-loop
+element-copy-out-t18 c = omega (arith, c .loop-test .taken, within (c .before .before .before .before .before .args .head .plan) (c .before .before .before .before .before .pre .fit .plan) .n-most)
 
-mul-t24 : tie.Need-mul-t24 Inv-loop μ-loop
-mul-t24 c = omega (arith, c .before .before .loop-test .taken, within (c .before .before .before .before .before .before .args .t1 .plan) (c .before .before .before .before .before .before .pre .fit .plan) .n-most)
+mul-t19 : tie.Need-mul-t19 Inv-loop μ-loop
+mul-t19 c = omega (arith, c .before .loop-test .taken, within (c .before .before .before .before .before .before .args .head .plan) (c .before .before .before .before .before .before .pre .fit .plan) .n-most)
 
-element-copy-out-t27 : tie.Need-element-copy-out-t27 Inv-loop μ-loop
-element-copy-out-t27 c = omega (arith, c .before .before .loop-test .taken, within (c .before .before .before .before .before .before .args .t1 .plan) (c .before .before .before .before .before .before .pre .fit .plan) .n-most)
+element-copy-out-t22 : tie.Need-element-copy-out-t22 Inv-loop μ-loop
+element-copy-out-t22 c = omega (arith, c .before .loop-test .taken, within (c .before .before .before .before .before .before .args .head .plan) (c .before .before .before .before .before .before .pre .fit .plan) .n-most)
 
 arrive-requires : tie.Need-arrive-requires Inv-loop μ-loop
-arrive-requires c κs = (c .before .before .before .loop-test .taken, λ e. seat-sound (c .before .before .before .before .before .before .before .args .t1) _ (c .before .before .before .before .before .before .before .pre .fit) e)
+arrive-requires c κs =
+    let s : State = stateOf (runFrom (c .before .before .before .before .before .before .before .args .head) (c .before .before .before .before .before .before .before .args .clocks .now) (c .before .before .before .before .before .before .before .args .views .now)) (c .before .before .before .before .before .before .before .args .tally .now) (c .before .before .before .before .before .before .before .args .network .now) in
+    (c .before .before .loop-test .taken, λ e. ap (processorUnsound (s .run .plan)) (seat-kept s (c .before .before .before .loop .q) (runFrom (c .before .before .before .before .before .before .before .args .head) (c .before .before .before .loop .clocks) (c .before .before .before .loop .views)) (c .before .before .before .loop .inv .1)) ∙ seat-sound (s .run) (c .before .before .before .loop .q) (c .before .before .before .before .before .before .before .pre .fit) e)
 
-mul-next : tie.Need-mul-next Inv-loop μ-loop
-mul-next c = omega (arith, c .before .before .before .before .loop-test .taken, within (c .before .before .before .before .before .before .before .before .args .t1 .plan) (c .before .before .before .before .before .before .before .before .pre .fit .plan) .n-most)
+mul-clocks : tie.Need-mul-clocks Inv-loop μ-loop
+mul-clocks c = omega (arith, c .before .before .before .loop-test .taken, within (c .before .before .before .before .before .before .before .before .args .head .plan) (c .before .before .before .before .before .before .before .before .pre .fit .plan) .n-most)
 
-element-write-next : tie.Need-element-write-next Inv-loop μ-loop
-element-write-next c = omega (arith, c .before .before .before .before .loop-test .taken, within (c .before .before .before .before .before .before .before .before .args .t1 .plan) (c .before .before .before .before .before .before .before .before .pre .fit .plan) .n-most)
+element-write-clocks : tie.Need-element-write-clocks Inv-loop μ-loop
+element-write-clocks c = omega (arith, c .before .before .before .loop-test .taken, within (c .before .before .before .before .before .before .before .before .args .head .plan) (c .before .before .before .before .before .before .before .before .pre .fit .plan) .n-most)
 
-mul-next-2 : tie.Need-mul-next-2 Inv-loop μ-loop
-mul-next-2 c = omega (arith, c .before .before .before .before .loop-test .taken, within (c .before .before .before .before .before .before .before .before .args .t1 .plan) (c .before .before .before .before .before .before .before .before .pre .fit .plan) .n-most)
+mul-views : tie.Need-mul-views Inv-loop μ-loop
+mul-views c = omega (arith, c .before .before .before .loop-test .taken, within (c .before .before .before .before .before .before .before .before .args .head .plan) (c .before .before .before .before .before .before .before .before .pre .fit .plan) .n-most)
 
-element-write-next-2 : tie.Need-element-write-next-2 Inv-loop μ-loop
-element-write-next-2 c = omega (arith, c .before .before .before .before .loop-test .taken, within (c .before .before .before .before .before .before .before .before .args .t1 .plan) (c .before .before .before .before .before .before .before .before .pre .fit .plan) .n-most)
+element-write-views : tie.Need-element-write-views Inv-loop μ-loop
+element-write-views c = omega (arith, c .before .before .before .loop-test .taken, within (c .before .before .before .before .before .before .before .before .args .head .plan) (c .before .before .before .before .before .before .before .before .pre .fit .plan) .n-most)
 
 enter-requires : tie.Need-enter-requires Inv-loop μ-loop
-enter-requires c κs = let long : length (c .before .before .before .before .before .before .before .before .before .before .before .args .t1 .clocks) ≡ 64 = search needs in let most : c .before .before .before .before .before .before .before .before .before .before .before .args .t1 .plan .n ≤ length (c .before .before .before .before .before .before .before .before .before .before .before .args .t1 .clocks) = omega (arith, within (c .before .before .before .before .before .before .before .before .before .before .before .args .t1 .plan) (c .before .before .before .before .before .before .before .before .before .before .before .pre .fit .plan) .n-most) in (omega (arith, within (c .before .before .before .before .before .before .before .before .before .before .before .args .t1 .plan) (c .before .before .before .before .before .before .before .before .before .before .before .pre .fit .plan) .n-least), omega (arith, c .before .before .before .before .before .before .before .loop-test .taken, within (c .before .before .before .before .before .before .before .before .before .before .before .args .t1 .plan) (c .before .before .before .before .before .before .before .before .before .before .before .pre .fit .plan) .n-most), arrival-fits (stateOf (c .before .before .before .before .before .before .before .before .before .before .before .args .t1) (c .before .before .before .before .before .before .before .before .before .before .before .args .tally .now) (c .before .before .before .before .before .before .before .before .before .before .before .args .network .now)) most (c .before .before .before .before .before .before .before .before .loop .q) (c .before .before .before .before .before .before .before .loop-test .taken) (c .before .before .before .arrive .result) (c .before .before .before .arrive .ensures) (c .before .before .before .arrive .ensures .ends ∙ some-not (endsAt (c .before .before .before .before .before .before .before .before .before .before .before .args .t1)) _ (c .before .before .before .before .before .before .before .before .loop .q) (c .before .before .before .before .before .before .before .before .before .before .before .pre .goes-on) (c .before .before .before .before .before .before .before .loop-test .taken)) (c .before .before .before .before .before .before .before .before .before .before .before .pre .room) _ _ _ (c .before .before .before .before .before .before .before .before .loop .inv .3))
+enter-requires c κs =
+    let s : State = stateOf (runFrom (c .before .before .before .before .before .before .before .before .before .before .args .head) (c .before .before .before .before .before .before .before .before .before .before .args .clocks .now) (c .before .before .before .before .before .before .before .before .before .before .args .views .now)) (c .before .before .before .before .before .before .before .before .before .before .args .tally .now) (c .before .before .before .before .before .before .before .before .before .before .args .network .now) in
+    let most : s .run .plan .n ≤ length (s .run .clocks) = c .before .before .before .before .before .before .before .before .before .before .pre .whole .clocks in
+    let a : Arrives (s .run .plan) (s .run .faulty) (seat (s .run) (c .before .before .before .before .before .before .loop .q)) (c .before .before .arrive .result) = subst (λ (p : Processor). Arrives (s .run .plan) (s .run .faulty) p (c .before .before .arrive .result)) (seat-kept s (c .before .before .before .before .before .before .loop .q) (runFrom (c .before .before .before .before .before .before .before .before .before .before .args .head) (c .before .before .before .before .before .before .loop .clocks) (c .before .before .before .before .before .before .loop .views)) (c .before .before .before .before .before .before .loop .inv .1)) (c .before .before .arrive .ensures) in
+    let on : c .before .before .arrive .result .ends ≡ false = a .ends ∙ some-not (endsAt (s .run)) _ (c .before .before .before .before .before .before .loop .q) (c .before .before .before .before .before .before .before .before .before .before .pre .goes-on) (c .before .before .before .before .before .loop-test .taken) in
+    (omega (arith, within (s .run .plan) (c .before .before .before .before .before .before .before .before .before .before .pre .fit .plan) .n-least), omega (arith, c .before .before .before .before .before .loop-test .taken, within (s .run .plan) (c .before .before .before .before .before .before .before .before .before .before .pre .fit .plan) .n-most), arrival-fits s most (c .before .before .before .before .before .before .loop .q) (c .before .before .before .before .before .loop-test .taken) (c .before .before .arrive .result) a on (c .before .before .before .before .before .before .before .before .before .before .pre .room) _ _ _ (c .before .before .before .before .before .before .loop .inv .3))
 
 add-q : tie.Need-add-q Inv-loop μ-loop
 add-q c = search needs
@@ -69,7 +79,18 @@ loop-less : tie.Need-loop-less Inv-loop μ-loop
 loop-less c = search needs
 
 loop-again : tie.Need-loop-again Inv-loop μ-loop
-loop-again c = let long : length (c .before .before .before .before .before .before .before .before .before .before .before .before .before .before .before .before .args .t1 .clocks) ≡ 64 = search (needs, c .before .before .before .before .before .before .before .before .before .before .before .before .before .before .before .before .good) in let most : c .before .before .before .before .before .before .before .before .before .before .before .before .before .before .before .before .args .t1 .plan .n ≤ length (c .before .before .before .before .before .before .before .before .before .before .before .before .before .before .before .before .args .t1 .clocks) = omega (arith, within (c .before .before .before .before .before .before .before .before .before .before .before .before .before .before .before .before .args .t1 .plan) (c .before .before .before .before .before .before .before .before .before .before .before .before .before .before .before .before .pre .fit .plan) .n-most) in let on : c .before .before .before .before .before .before .before .before .arrive .result .ends ≡ false = c .before .before .before .before .before .before .before .before .arrive .ensures .ends ∙ some-not (endsAt (c .before .before .before .before .before .before .before .before .before .before .before .before .before .before .before .before .args .t1)) _ (c .before .before .before .before .before .before .before .before .before .before .before .before .before .loop .q) (c .before .before .before .before .before .before .before .before .before .before .before .before .before .before .before .before .pre .goes-on) (c .before .before .before .before .before .before .before .before .before .before .before .before .loop-test .taken) in (omega arith, next-turn (stateOf (c .before .before .before .before .before .before .before .before .before .before .before .before .before .before .before .before .args .t1) (c .before .before .before .before .before .before .before .before .before .before .before .before .before .before .before .before .args .tally .now) (c .before .before .before .before .before .before .before .before .before .before .before .before .before .before .before .before .args .network .now)) most (c .before .before .before .before .before .before .before .before .before .before .before .before .before .loop .q) (c .before .before .before .before .before .before .before .before .before .before .before .before .loop-test .taken) (c .before .before .before .before .before .before .before .before .arrive .result) (c .before .before .before .before .before .before .before .before .arrive .ensures) on (c .before .before .before .before .before .before .before .before .before .before .before .before .before .loop .next) (c .before .before .before .before .before .before .before .before .before .before .before .before .before .loop .inv .1), tally-turn (stateOf (c .before .before .before .before .before .before .before .before .before .before .before .before .before .before .before .before .args .t1) (c .before .before .before .before .before .before .before .before .before .before .before .before .before .before .before .before .args .tally .now) (c .before .before .before .before .before .before .before .before .before .before .before .before .before .before .before .before .args .network .now)) most (c .before .before .before .before .before .before .before .before .before .before .before .before .before .loop .q) (c .before .before .before .before .before .before .before .before .before .before .before .before .loop-test .taken) (c .before .before .before .before .before .before .before .before .arrive .result) (c .before .before .before .before .before .before .before .before .arrive .ensures) on _ _ (c .before .before .before .before .before .before .before .before .before .before .before .before .before .loop .inv .2) (c .before .before .before .before .enter .ensures .1), posts-turn (stateOf (c .before .before .before .before .before .before .before .before .before .before .before .before .before .before .before .before .args .t1) (c .before .before .before .before .before .before .before .before .before .before .before .before .before .before .before .before .args .tally .now) (c .before .before .before .before .before .before .before .before .before .before .before .before .before .before .before .before .args .network .now)) most (c .before .before .before .before .before .before .before .before .before .before .before .before .before .loop .q) (c .before .before .before .before .before .before .before .before .before .before .before .before .loop-test .taken) (c .before .before .before .before .before .before .before .before .arrive .result) (c .before .before .before .before .before .before .before .before .arrive .ensures) on (c .before .before .before .before .before .before .before .before .before .before .before .before .before .before .before .before .pre .room) _ _ _ (c .before .before .before .before .before .before .before .before .before .before .before .before .before .loop .inv .3) _ _ (c .before .before .before .before .enter .ensures .0), omega arith, omega arith)
+loop-again c =
+    let s : State = stateOf (runFrom (c .before .before .before .before .before .before .before .before .before .before .before .before .before .before .before .args .head) (c .before .before .before .before .before .before .before .before .before .before .before .before .before .before .before .args .clocks .now) (c .before .before .before .before .before .before .before .before .before .before .before .before .before .before .before .args .views .now)) (c .before .before .before .before .before .before .before .before .before .before .before .before .before .before .before .args .tally .now) (c .before .before .before .before .before .before .before .before .before .before .before .before .before .before .before .args .network .now) in
+    let most : s .run .plan .n ≤ length (s .run .clocks) = c .before .before .before .before .before .before .before .before .before .before .before .before .before .before .before .pre .whole .clocks in
+    let a : Arrives (s .run .plan) (s .run .faulty) (seat (s .run) (c .before .before .before .before .before .before .before .before .before .before .before .loop .q)) (c .before .before .before .before .before .before .before .arrive .result) = subst (λ (p : Processor). Arrives (s .run .plan) (s .run .faulty) p (c .before .before .before .before .before .before .before .arrive .result)) (seat-kept s (c .before .before .before .before .before .before .before .before .before .before .before .loop .q) (runFrom (c .before .before .before .before .before .before .before .before .before .before .before .before .before .before .before .args .head) (c .before .before .before .before .before .before .before .before .before .before .before .loop .clocks) (c .before .before .before .before .before .before .before .before .before .before .before .loop .views)) (c .before .before .before .before .before .before .before .before .before .before .before .loop .inv .1)) (c .before .before .before .before .before .before .before .arrive .ensures) in
+    let on : c .before .before .before .before .before .before .before .arrive .result .ends ≡ false = a .ends ∙ some-not (endsAt (s .run)) _ (c .before .before .before .before .before .before .before .before .before .before .before .loop .q) (c .before .before .before .before .before .before .before .before .before .before .before .before .before .before .before .pre .goes-on) (c .before .before .before .before .before .before .before .before .before .before .loop-test .taken) in (
+      omega arith,
+      next-turn s most (c .before .before .before .before .before .before .before .before .before .before .before .loop .q) (c .before .before .before .before .before .before .before .before .before .before .loop-test .taken) (c .before .before .before .before .before .before .before .arrive .result) a on (runFrom (c .before .before .before .before .before .before .before .before .before .before .before .before .before .before .before .args .head) (c .before .before .before .before .before .before .before .before .before .before .before .loop .clocks) (c .before .before .before .before .before .before .before .before .before .before .before .loop .views)) (c .before .before .before .before .before .before .before .before .before .before .before .loop .inv .1),
+      tally-turn s most (c .before .before .before .before .before .before .before .before .before .before .before .loop .q) (c .before .before .before .before .before .before .before .before .before .before .loop-test .taken) (c .before .before .before .before .before .before .before .arrive .result) a on _ _ (c .before .before .before .before .before .before .before .before .before .before .before .loop .inv .2) (c .before .before .before .before .enter .ensures .1),
+      posts-turn s most (c .before .before .before .before .before .before .before .before .before .before .before .loop .q) (c .before .before .before .before .before .before .before .before .before .before .loop-test .taken) (c .before .before .before .before .before .before .before .arrive .result) a on (c .before .before .before .before .before .before .before .before .before .before .before .before .before .before .before .pre .room) _ _ _ (c .before .before .before .before .before .before .before .before .before .before .before .loop .inv .3) _ _ (c .before .before .before .before .enter .ensures .0),
+      omega arith,
+      omega arith,
+    )
 
 same-length : tie.Need-same-length Inv-loop μ-loop
 same-length c = search needs
@@ -78,7 +99,14 @@ same-length-2 : tie.Need-same-length-2 Inv-loop μ-loop
 same-length-2 c = search needs
 
 returns : tie.Need-returns Inv-loop μ-loop
-returns c = let long : length (c .before .before .before .before .args .t1 .clocks) ≡ 64 = search needs in let most : c .before .before .before .before .args .t1 .plan .n ≤ length (c .before .before .before .before .args .t1 .clocks) = omega (arith, within (c .before .before .before .before .args .t1 .plan) (c .before .before .before .before .pre .fit .plan) .n-most) in let e : c .before .loop .q ≡ c .before .before .before .before .args .t1 .plan .n = omega arith in tick-made (stateOf (c .before .before .before .before .args .t1) (c .before .before .before .before .args .tally .now) (c .before .before .before .before .args .network .now)) most (c .before .loop .next) (c .before .loop .held) _ _ (c .before .loop .inv .1 ∙ ap (λ (k : ℕ). withViews (arrivedBelow (stateOf (c .before .before .before .before .args .t1) (c .before .before .before .before .args .tally .now) (c .before .before .before .before .args .network .now)) k .views) (withClocks (clocksOn (c .before .before .before .before .args .t1) k) (c .before .before .before .before .args .t1))) e) (c .before .loop .inv .2 ∙ ap (λ (k : ℕ). arrivedBelow (stateOf (c .before .before .before .before .args .t1) (c .before .before .before .before .args .tally .now) (c .before .before .before .before .args .network .now)) k .tally) e) (subst (λ (k : ℕ). Posts (arrivedBelow (stateOf (c .before .before .before .before .args .t1) (c .before .before .before .before .args .tally .now) (c .before .before .before .before .args .network .now)) k .sent) (c .before .before .before .before .args .t1 .held) (c .before .before .before .before .args .t1 .time + 1) (c .before .before .before .before .args .network .now) (c .before .loop .held) (c .before .loop .network)) e (c .before .loop .inv .3))
+returns c =
+    let s : State = stateOf (runFrom (c .before .before .before .before .before .args .head) (c .before .before .before .before .before .args .clocks .now) (c .before .before .before .before .before .args .views .now)) (c .before .before .before .before .before .args .tally .now) (c .before .before .before .before .before .args .network .now) in
+    let most : s .run .plan .n ≤ length (s .run .clocks) = c .before .before .before .before .before .pre .whole .clocks in
+    let e : c .before .loop .q ≡ s .run .plan .n = omega arith in
+    tick-made s most (runFrom (c .before .before .before .before .before .args .head) (c .before .loop .clocks) (c .before .loop .views)) (c .before .loop .held) _ _
+    (c .before .loop .inv .1 ∙ ap (λ (k : ℕ). withViews (arrivedBelow s k .views) (withClocks (clocksOn (s .run) k) (s .run))) e)
+    (c .before .loop .inv .2 ∙ ap (λ (k : ℕ). arrivedBelow s k .tally) e)
+    (subst (λ (k : ℕ). Posts (arrivedBelow s k .sent) (s .run .held) (s .run .time + 1) (s .network) (c .before .loop .held) (c .before .loop .network)) e (c .before .loop .inv .3))
 
 pub arrive-all-spec : {M : Type 1} → statement M
 arrive-all-spec =
@@ -88,15 +116,15 @@ arrive-all-spec =
     μ-loop
     add-time
     loop-holds
-    mul-t20
-    element-copy-out-t23
-    mul-t24
-    element-copy-out-t27
+    mul-t15
+    element-copy-out-t18
+    mul-t19
+    element-copy-out-t22
     arrive-requires
-    mul-next
-    element-write-next
-    mul-next-2
-    element-write-next-2
+    mul-clocks
+    element-write-clocks
+    mul-views
+    element-write-views
     enter-requires
     add-q
     loop-less

@@ -1,51 +1,74 @@
-use Rattle.simulator.proofs.Runs.{Running, running-first, running-on, time-fits}
+use Rattle.simulator.specs.Inner.{ranTo}
+use Rattle.model.specs.Events.{ticks}
+use Rattle.simulator.proofs.Leaping.{strides-none, strides-also, strides-rest, strides-ready}
 use Rattle.simulator.proofs.Once.{ticks-ended, run-ended, run-done}
-use Rattle.model.specs.State.{stateOf}
+use Rattle.simulator.proofs.Fitness.{fit-of, room-of}
+use Rattle.simulator.specs.Leaps.{Strides, Advances}
+use Rattle.pacemaker.proofs.LimitLaws.{within}
+use Rattle.model.specs.State.{State, stateOf, runFrom}
 use borrow.Author.Needs.{needs, zero≤}
-use lib.ListN.{length}
 use native.Mathlib.Omega.{arith}
-use Prim.Native.Nat.{_-_, _≤_}
+use lib.ListN.{length}
+use Prim.Native.Nat.{ℕ, _-_, _≤_, _<_}
 use mathlib.Core.List.{[]}
-use mathlib.Core.Path.{_≡_, refl}
+use mathlib.Core.Path.{_≡_, refl, sym, ap, _∙_, subst}
 use Rattle.simulator.proofs.ticks.run_ticks.Statement.{statement}
 use Rattle.simulator.proofs.ticks.run_ticks.Tie as tie
 use Rattle.simulator.proofs.ticks.run_ticks.Reads as reads
 use Rattle.simulator.proofs.ticks.run_ticks.Lts as lts
+use Rattle.simulator.proofs.ticks.advance.Reads as advance-reads
+use Rattle.simulator.proofs.ticks.sized.Reads as sized-reads
 use Rattle.simulator.proofs.ticks.stop.Reads as stop-reads
-use Rattle.simulator.proofs.ticks.tick_once.Reads as tick-once-reads
 
 abbrev Inv-loop : tie.InvT-loop
-Inv-loop m tally₀ network₀ at₀ count₀ tally network at count = (count ≤ m) × Running (stateOf at₀ tally₀ network₀) m (stateOf at tally network) count × (length tally ≡ length tally₀) × (length network ≡ length network₀)
+Inv-loop m clocks₀ views₀ tally₀ network₀ at₀ count₀ clocks views tally network at count = (count ≤ m) × Strides (stateOf (runFrom at₀ clocks₀ views₀) tally₀ network₀) (stateOf (runFrom at clocks views) tally network) count × (length tally ≡ length tally₀) × (length network ≡ length network₀)
 
 abbrev μ-loop : tie.MeasureT-loop
-μ-loop m tally₀ network₀ at₀ count₀ tally network at count = m - count
+μ-loop m clocks₀ views₀ tally₀ network₀ at₀ count₀ clocks views tally network at count = m - count
+
+sized-requires : tie.Need-sized-requires Inv-loop μ-loop
+sized-requires c κs = search needs
+
+sized-requires-2 : tie.Need-sized-requires-2 Inv-loop μ-loop
+sized-requires-2 c κs = search needs
 
 loop-holds : tie.Need-loop-holds Inv-loop μ-loop
-loop-holds c = (zero≤, running-first _ _ (c .before .before .pre .1), refl, refl)
+loop-holds c =
+    let s : State = stateOf (runFrom (c .before .before .before .before .before .before .args .head) (c .before .before .before .before .before .before .args .clocks .now) (c .before .before .before .before .before .before .args .views .now)) (c .before .before .before .before .before .before .args .tally .now) (c .before .before .before .before .before .before .args .network .now) in
+    let fit = fit-of s (c .before .before .before .before .before .before .pre .1) in
+    (zero≤, strides-none s fit (record { clocks = omega (arith, c .before .before .sized .ensures, within (s .run .plan) (fit .plan) .n-most); views = omega (arith, c .sized2 .ensures, within (s .run .plan) (fit .plan) .n-most) }) (room-of s (c .before .before .before .before .before .before .pre .1)), refl, refl)
 
-tick-once-requires : tie.Need-tick-once-requires Inv-loop μ-loop
-tick-once-requires c κs = (c .before .before .before .loop .inv .1 .fit, c .before .before .before .loop .inv .1 .room, time-fits _ _ _ _ (c .before .before .before .loop .inv .1))
+sub-advance : tie.Need-sub-advance Inv-loop μ-loop
+sub-advance c = search needs
+
+advance-requires : tie.Need-advance-requires Inv-loop μ-loop
+advance-requires c κs = (strides-ready _ _ _ (c .before .before .before .before .before .before .before .before .before .before .before .before .pre .1) (c .before .before .before .before .before .loop .inv .1), omega (arith, c .before .before .before .before .loop-test .taken))
 
 stop-requires : tie.Need-stop-requires Inv-loop μ-loop
 stop-requires c κs = c .if1 .taken
 
 same-length : tie.Need-same-length Inv-loop μ-loop
-same-length c = search needs
+same-length c = omega (arith, c .before .before .before .before .before .before .before .before .before .before .before .before .before .before .loop .inv .2)
 
 same-length-2 : tie.Need-same-length-2 Inv-loop μ-loop
-same-length-2 c = search needs
+same-length-2 c = omega (arith, c .before .before .before .before .before .before .before .before .before .before .before .before .before .before .loop .inv .3)
 
 returns : tie.Need-returns Inv-loop μ-loop
-returns c = run-ended _ _ _ _ _ _ (ticks-ended _ _ _ _ _ _ (c .before .before .before .before .before .before .before .before .before .before .before .loop-test .taken) (c .before .before .before .before .before .before .before .before .before .before .before .before .loop .inv .1 .ran) (c .before .before .before .before .before .before .before .before .tick-once .ensures) (c .before .if1 .taken)) (c .stop .ensures .0) (c .stop .ensures .1 [] [])
+returns c =
+    let s₀ : State = stateOf (runFrom (c .before .before .before .before .before .before .before .before .before .before .before .before .before .before .before .before .before .before .before .before .before .args .head) (c .before .before .before .before .before .before .before .before .before .before .before .before .before .before .before .before .before .before .before .before .before .args .clocks .now) (c .before .before .before .before .before .before .before .before .before .before .before .before .before .before .before .before .before .before .before .before .before .args .views .now)) (c .before .before .before .before .before .before .before .before .before .before .before .before .before .before .before .before .before .before .before .before .before .args .tally .now) (c .before .before .before .before .before .before .before .before .before .before .before .before .before .before .before .before .before .before .before .before .before .args .network .now) in
+    let s : State = stateOf (runFrom (c .before .before .before .before .before .before .before .before .before .before .before .before .before .before .loop .at) (c .before .before .before .before .before .before .before .before .before .before .before .before .before .before .loop .clocks) (c .before .before .before .before .before .before .before .before .before .before .before .before .before .before .loop .views)) (c .before .before .before .before .before .before .before .before .before .before .before .before .before .before .loop .tally) (c .before .before .before .before .before .before .before .before .before .before .before .before .before .before .loop .network) in
+    run-ended (c .before .before .before .before .before .before .before .before .before .before .before .before .before .before .before .before .before .before .before .before .before .args .m) (c .before .before .before .before .before .before .before .before .before .before .before .before .before .before .loop .count) _ s₀ _ (c .stop .result) _ _
+    (ticks-ended (c .before .before .before .before .before .before .before .before .before .before .before .before .before .before .before .before .before .before .before .before .before .args .m) (c .before .before .before .before .before .before .before .before .before .before .before .before .before .before .loop .count) _ s₀ s _ (c .before .before .before .before .before .before .before .before .before .before .before .before .before .loop-test .taken) (strides-rest (c .before .before .before .before .before .before .before .before .before .before .before .before .before .before .before .before .before .before .before .before .before .args .m) (c .before .before .before .before .before .before .before .before .before .before .before .before .before .before .loop .count) s₀ s (c .before .before .before .before .before .before .before .before .before .before .before .before .before .before .loop .inv .0) (c .before .before .before .before .before .before .before .before .before .before .before .before .before .before .loop .inv .1)) (c .before .before .before .before .before .before .before .before .advance .ensures .ended (c .before .if1 .taken)) (c .before .if1 .taken))
+    (rw (c .stop .ensures .0) refl) (c .stop .ensures .1 [] [] [] [])
 
 add-count : tie.Need-add-count Inv-loop μ-loop
-add-count c = search needs
+add-count c = let l : c .before .before .before .before .before .before .before .before .advance .result .count ≤ c .before .before .before .before .before .before .before .before .before .before .before .before .before .before .before .before .before .before .before .before .before .args .m - c .before .before .before .before .before .before .before .before .before .before .before .before .before .before .loop .count = c .before .before .before .before .before .before .before .before .advance .ensures .number (omega (arith, c .before .if1 .left)) .1 in omega (arith, c .before .before .before .before .before .before .before .before .before .before .before .before .before .before .before .before .before .before .before .before .before .fits)
 
 loop-less : tie.Need-loop-less Inv-loop μ-loop
-loop-less c = search needs
+loop-less c = omega (arith, c .before .before .before .before .before .before .before .before .advance .ensures .number (omega (arith, c .before .if1 .left)) .0, c .before .before .before .before .before .before .before .before .advance .ensures .number (omega (arith, c .before .if1 .left)) .1, c .before .before .before .before .before .before .before .before .before .before .before .before .before .loop-test .taken)
 
 loop-again : tie.Need-loop-again Inv-loop μ-loop
-loop-again c = (omega arith, running-on _ _ _ _ _ _ (c .before .before .before .before .before .before .before .before .before .before .before .loop .inv .1) (c .before .before .before .before .before .before .before .before .before .before .loop-test .taken) (c .before .before .before .before .before .before .before .tick-once .ensures) (omega (arith, c .if1 .left)), omega arith, omega arith)
+loop-again c = (omega (arith, c .before .before .before .before .before .before .before .before .advance .ensures .number (omega (arith, c .before .if1 .left)) .1, c .before .before .before .before .before .before .before .before .before .before .before .before .before .loop-test .taken), strides-also _ _ _ _ _ (c .before .before .before .before .before .before .before .before .before .before .before .before .before .before .loop .inv .1) (c .before .before .before .before .before .before .before .before .advance .ensures .went (omega (arith, c .before .if1 .left))), omega arith, omega arith)
 
 same-length-3 : tie.Need-same-length-3 Inv-loop μ-loop
 same-length-3 c = search needs
@@ -54,7 +77,10 @@ same-length-4 : tie.Need-same-length-4 Inv-loop μ-loop
 same-length-4 c = search needs
 
 returns-2 : tie.Need-returns-2 Inv-loop μ-loop
-returns-2 c = run-done _ _ _ _ (c .before .before .before .before .pre .0) (omega arith) (c .before .loop .inv .1 .ran)
+returns-2 c =
+    let s₀ : State = stateOf (runFrom (c .before .before .before .before .before .before .before .before .args .head) (c .before .before .before .before .before .before .before .before .args .clocks .now) (c .before .before .before .before .before .before .before .before .args .views .now)) (c .before .before .before .before .before .before .before .before .args .tally .now) (c .before .before .before .before .before .before .before .before .args .network .now) in
+    let e : c .before .loop .count ≡ c .before .before .before .before .before .before .before .before .args .m = omega arith in
+    run-done (c .before .before .before .before .before .before .before .before .args .m) (c .before .loop .count) s₀ (c .before .loop .at) _ _ _ _ (c .before .before .before .before .before .before .before .before .pre .0) e (subst (λ (k : ℕ). ticks k s₀ ≡ ranTo (stateOf (runFrom (c .before .loop .at) (c .before .loop .clocks) (c .before .loop .views)) (c .before .loop .tally) (c .before .loop .network)) (c .before .loop .count) 0) e (c .before .loop .inv .1 .ran))
 
 pub run-ticks-spec : {M : Type 1} → statement M
 run-ticks-spec =
@@ -62,8 +88,11 @@ run-ticks-spec =
     (tie.spec
     Inv-loop
     μ-loop
+    sized-requires
+    sized-requires-2
     loop-holds
-    tick-once-requires
+    sub-advance
+    advance-requires
     stop-requires
     same-length
     same-length-2

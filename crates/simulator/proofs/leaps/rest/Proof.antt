@@ -1,0 +1,67 @@
+use Rattle.simulator.proofs.Waiting.{rests-all, rests-more}
+use Rattle.pacemaker.proofs.LimitLaws.{within}
+use Rattle.model.specs.State.{runFrom, isCorrect, clockOf, viewOf}
+use Rattle.types.specs.Quantities.{nextInitial, clockTime}
+use borrow.Author.Needs.{needs, zero≤}
+use native.Mathlib.Omega.{arith}
+use mathlib.Core.Bool.{true}
+use mathlib.Core.Path.{_≡_, refl, sym, _∙_, ap}
+use Prim.Native.Nat.{ℕ, _+_, _-_, _≤_, _<_}
+use Rattle.simulator.proofs.leaps.rest.Statement.{statement}
+use Rattle.simulator.proofs.leaps.rest.Tie as tie
+use Rattle.simulator.proofs.leaps.rest.Reads as reads
+use Rattle.simulator.proofs.leaps.rest.Lts as lts
+use Rattle.simulator.proofs.leaps.rest_for.Reads as rest-for-reads
+
+abbrev Inv-loop : tie.InvT-loop
+Inv-loop head clocks views most n quiet₀ q₀ quiet q = (q ≤ head .plan .n) × (quiet ≤ most) × ((p : ℕ) → p < q → isCorrect (runFrom head clocks views) p ≡ true → clockOf (runFrom head clocks views) p + quiet < clockTime (head .plan) (nextInitial (head .plan) (viewOf (runFrom head clocks views) p)))
+
+abbrev μ-loop : tie.MeasureT-loop
+μ-loop head clocks views most n quiet₀ q₀ quiet q = head .plan .n - q
+
+loop-holds : tie.Need-loop-holds Inv-loop μ-loop
+loop-holds c = (zero≤, omega arith, λ p l c. absurd (omega arith))
+
+mul-t10 : tie.Need-mul-t10 Inv-loop μ-loop
+mul-t10 c = omega (arith, c .loop-test .taken, within (c .before .before .args .head .plan) (c .before .before .pre .plan) .n-most)
+
+element-copy-out-t13 : tie.Need-element-copy-out-t13 Inv-loop μ-loop
+element-copy-out-t13 c = omega (arith, c .loop-test .taken, within (c .before .before .args .head .plan) (c .before .before .pre .plan) .n-most)
+
+mul-t14 : tie.Need-mul-t14 Inv-loop μ-loop
+mul-t14 c = omega (arith, c .before .loop-test .taken, within (c .before .before .before .args .head .plan) (c .before .before .before .pre .plan) .n-most)
+
+element-copy-out-t17 : tie.Need-element-copy-out-t17 Inv-loop μ-loop
+element-copy-out-t17 c = omega (arith, c .before .loop-test .taken, within (c .before .before .before .args .head .plan) (c .before .before .before .pre .plan) .n-most)
+
+rest-for-requires : tie.Need-rest-for-requires Inv-loop μ-loop
+rest-for-requires c κs = (within (c .before .before .before .before .args .head .plan) (c .before .before .before .before .pre .plan), λ e. c .before .before .before .before .pre .clocks _ e)
+
+add-q : tie.Need-add-q Inv-loop μ-loop
+add-q c = search needs
+
+loop-less : tie.Need-loop-less Inv-loop μ-loop
+loop-less c = search needs
+
+loop-again : tie.Need-loop-again Inv-loop μ-loop
+loop-again c = (omega arith, omega (arith, c .before .before .before .before .loop .inv .1, c .rest-for .ensures .few), rests-more (runFrom (c .before .before .before .before .before .args .head) (c .before .before .before .before .before .args .clocks .now) (c .before .before .before .before .before .args .views .now)) _ _ _ (c .before .before .before .before .loop .inv .2) (c .rest-for .ensures))
+
+returns : tie.Need-returns Inv-loop μ-loop
+returns c = let e : c .before .loop .q ≡ c .before .before .args .head .plan .n = omega arith in rests-all (runFrom (c .before .before .args .head) (c .before .before .args .clocks .now) (c .before .before .args .views .now)) _ _ (c .before .loop .inv .1) (rw e at (c .before .loop .inv .2))
+
+pub rest-spec : {M : Type 1} → statement M
+rest-spec =
+    tie.close
+    (tie.spec
+    Inv-loop
+    μ-loop
+    loop-holds
+    mul-t10
+    element-copy-out-t13
+    mul-t14
+    element-copy-out-t17
+    rest-for-requires
+    add-q
+    loop-less
+    loop-again
+    returns)

@@ -10,30 +10,38 @@ use native.Mathlib.Nat.{add-zero, div-add-mod', lt-of-mul-lt-mul-right}
 use lib.Dec.{T, eqb, eqb→eq, leb→le}
 use lib.ListN.{length, getD, set, length-set}
 use lib.Seq.{ext-getD, set-getD, getD-set-same, getD-set-other}
-use Rattle.base.specs.Choice.{cond-no}
+use borrow.Author.Tests.{lt-leb}
+use Rattle.base.specs.Choice.{cond-no, or-parts}
 use Rattle.base.specs.Scan.{some}
 use Rattle.base.specs.Tests.{T-left, T-right, T-true, T-false, le?, by-cond}
 use Rattle.base.specs.ScanLaws.{some-none}
 use Rattle.types.specs.declared.Plan.{Plan}
 use Rattle.types.specs.declared.Run.{Run}
+use Rattle.types.specs.declared.Processor.{Processor}
+use Rattle.types.specs.declared.Input.the-variants.{Tick}
+use Rattle.types.specs.declared.Sends.the-variants.{Nothing}
 use Rattle.types.specs.Quantities.{nMost, perLeader, initial, nextInitial, clockTime, endTime, correct}
 use Rattle.model.specs.State.{State, stateOf, runOf, clockOf, viewOf, isCorrect, capacity}
 use Rattle.model.specs.Moves.{Change, changed, still, also, Entry, stay, into, byClock, entries, taking, clocksOn, advanced, arrival, arrivals, made}
-use Rattle.model.specs.Checks.{atEnd, overdue, unsound}
+use Rattle.types.specs.PlanFunctions.{nextInitialWord, clockTimeWord}
+use Rattle.model.specs.Checks.{planOutside, clockOutside, atEnd, overdue, unsound}
+use Rattle.model.specs.Processors.{Moved, moving, processorUnsound}
 use Rattle.model.specs.Events.{tickOnce, Ticks, continued, ticks}
 use Rattle.liveness.specs.Promises.{countedFrom}
 use Rattle.liveness.proofs.Promises.{ticks-add}
 use Rattle.liveness.proofs.TickLaws.{clock-up}
 use Rattle.buffers.specs.WordLaws.{posted-none}
 use Rattle.pacemaker.specs.Limits.{Within, timeMost}
-use Rattle.pacemaker.proofs.LimitLaws.{within}
-use Rattle.simulator.specs.Inner.{Fit, Whole, Went, TickedTo, arrivedBelow, endsAt, someLate, ranTo}
+use Rattle.pacemaker.specs.Steps.{movingBy}
+use Rattle.pacemaker.proofs.LimitLaws.{within, sound}
+use Rattle.simulator.specs.Inner.{Reacts, Fit, Whole, Went, TickedTo, arrivedBelow, endsAt, someLate, ranTo}
 use Rattle.simulator.specs.Leaps.{clocksBy, leapt, later, NoneArrives, QuietTicksAdd, Waits, Rests, ClocksFit, Strides, Ready, Advances}
 use Rattle.simulator.proofs.Fitness.{fit-of, room-of, time-of, some-correct, clock-below, end-most}
+use Rattle.simulator.proofs.Reactions.{reaction}
 use Rattle.simulator.proofs.Once.{once-overdue, once-done}
 use Rattle.simulator.proofs.TickKeeps.{went-ticked}
 use Rattle.simulator.proofs.Ticking.{state-by}
-use Rattle.simulator.proofs.Waiting.{next-small, from-view}
+use Rattle.simulator.proofs.Waiting.{next-time, next-small, from-view}
 
 -- ---- clocks that go on
 
@@ -197,6 +205,22 @@ no-arrival plan clock view low high = sym (cond-no due stay (into w) stay (T-fal
         let above : view < w = lt-of-mul-lt-mul-right (plan .gamma) (omega arith) in
         let below : w < nextInitial plan view = lt-of-mul-lt-mul-right (plan .gamma) (omega arith) in
         omega arith
+
+-- what the pacemaker's step would say of it
+pub quiet-reacts : (plan : Plan) (c : Processor) → processorUnsound plan c ≡ false → (next time : ℕ) → next ≡ nextInitialWord plan (c .view) → time ≡ clockTimeWord plan next
+    → c .clock + 1 < time → Reacts plan c (movingBy plan c Tick) (reaction (record { number = c .number; clock = c .clock + 1; view = c .view }) Nothing false)
+quiet-reacts plan c e next time is-next is-time l =
+    let x = sound plan c e in
+    let inside : clockOutside plan (c .clock) (c .view) ≡ false = or-parts (planOutside plan) (clockOutside plan (c .clock) (c .view)) e .1 in
+    let t = next-time plan (x .within) (c .clock) (c .view) inside next time is-next is-time in
+    let m : movingBy plan c Tick ≡ moving plan (c .number) (c .clock + 1) (c .view) stay =
+    ap (moving plan (c .number) (c .clock + 1) (c .view)) (no-arrival plan (c .clock) (c .view) (x .reached) (omega arith)) in
+    let g : c .clock + 1 < endTime plan = omega (arith, next-small plan (x .within) (c .clock) (c .view) inside) in
+    record {
+      ends = sym (ap (λ (y : Moved). atEnd plan (y .processor .clock)) m ∙ lt-leb _ _ g);
+      processor = λ _. sym (ap (λ (y : Moved). y .processor) m);
+      sent = λ _. sym (ap (λ (y : Moved). y .sent) m);
+    }
 
 entries-none : (e : ℕ → Entry) (r : Run) (t : List ℕ) (k : ℕ) → ((p : ℕ) → p < k → e p ≡ stay) → entries e r t k ≡ still r t
 unfolding entries taking

@@ -49,13 +49,34 @@ pub(crate) fn react(plan: Plan, processor: Processor, input: Input) -> Reaction
     }
 }
 
+// What a tick makes of a correct processor. Most only go on: the pacemaker's step is asked where the clock comes to an initial view's clock time.
+fn react_to_tick(plan: Plan, processor: Processor) -> Reaction
+    requires { ⌜ (processorUnsound plan processor ≡ false) × (processor .number < plan .n) ⌝ }
+    ensures { λ r. ⌜ Reacts plan processor (movingBy plan processor Input.Tick) r ⌝ }
+{
+    let clock = processor.clock + 1;
+    if clock < plan.clock_time(plan.next_initial(processor.view)) {
+        return Reaction {
+            formed: false,
+            processor: Processor {
+                number: processor.number,
+                clock: clock,
+                view: processor.view,
+            },
+            sends: Sends::Nothing,
+            ends: false,
+        };
+    }
+    react(plan, processor, Input::Tick)
+}
+
 // What a tick makes of a processor: a faulty one stays as it is.
 fn arrive(plan: Plan, faulty: u64, processor: Processor) -> Reaction
     requires { ⌜ (processor .number < plan .n) × (correct plan faulty (processor .number) ≡ true → processorUnsound plan processor ≡ false) ⌝ }
     ensures { λ r. ⌜ Arrives plan faulty processor r ⌝ }
 {
     if plan.correct(faulty, processor.number) {
-        return react(plan, processor, Input::Tick);
+        return react_to_tick(plan, processor);
     }
     Reaction {
         formed: false,

@@ -48,6 +48,11 @@ impl Plan {
         view.is_multiple_of(Self::VIEWS_PER_LEADER)
     }
 
+    /// The least initial view above a view, or 2^64−1 if that is less.
+    pub const fn next_initial(self, view: u64) -> u64 {
+        (view - view % Self::VIEWS_PER_LEADER).saturating_add(Self::VIEWS_PER_LEADER)
+    }
+
     /// "its clock time is w times `gamma`", or 2^64−1 if that is less.
     pub const fn clock_time(self, view: u64) -> u64 {
         view.saturating_mul(self.gamma)

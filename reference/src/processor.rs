@@ -78,7 +78,7 @@ pub(crate) const fn is_placed(plan: Plan, clock: u64, view: u64) -> bool {
     if clock >= plan.clock_limit() || view >= plan.views {
         return false;
     }
-    let next = view - view % Plan::VIEWS_PER_LEADER + Plan::VIEWS_PER_LEADER;
+    let next = plan.next_initial(view);
     plan.clock_time(view) <= clock && clock < plan.clock_time(next)
 }
 

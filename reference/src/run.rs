@@ -65,12 +65,6 @@ impl Run {
         set::below(self.plan.n) & !self.faulty
     }
 
-    /// The clock time of `views`, `clock_limit`, as a bound of the clocks and
-    /// of the time.
-    pub(crate) const fn clock_limit(&self) -> u64 {
-        self.plan.clock_limit()
-    }
-
     /// "f is the ones of `faulty`".
     pub(crate) const fn faults(&self) -> u64 {
         set::size(self.faulty)

@@ -26,7 +26,7 @@ pub(crate) fn fits(run: &Run, tally: &[u64], network: &[u64]) -> bool {
 /// certificate names an initial view are no part of it.
 pub fn is_sound(run: &Run, tally: &[u64], network: &[u64]) -> bool {
     fits(run, tally, network)
-        && run.time < run.clock_limit()
+        && run.time < run.plan.clock_limit()
         && run.gst <= run.time
         && (run.settled || run.gst == 0)
         && processors_are_sound(run)

@@ -17,24 +17,28 @@ struct Pace {
     /// Per correct processor, the clock from which one tick enters the next
     /// initial view.
     eve: [u64; 64],
-    /// The earliest sending time of the messages held.
+    /// The earliest sending time of the messages held in a settled network;
+    /// in an unsettled one none falls due.
     earliest: Option<u64>,
 }
 
 impl Pace {
     fn of(state: &State) -> Self {
         let run = &*state.run;
-        let round = run.plan.round();
         let mut pace = Self {
             correct: run.correct(),
             highest: 0,
             eve: [0; 64],
-            earliest: network::earliest(state.network, run.held),
+            earliest: None,
         };
         for processor in set::members(pace.correct) {
-            let clock = run.clocks[processor as usize];
-            pace.highest = pace.highest.max(clock);
-            pace.eve[processor as usize] = (clock - clock % round).saturating_add(round - 1);
+            let place = processor as usize;
+            let next = run.plan.next_initial(run.views[place]);
+            pace.highest = pace.highest.max(run.clocks[place]);
+            pace.eve[place] = run.plan.clock_time(next) - 1;
+        }
+        if run.settled {
+            pace.earliest = network::earliest(state.network, run.held);
         }
         pace
     }
@@ -85,7 +89,7 @@ fn tick(state: &mut State, pace: &mut Pace) -> Result<(), u64> {
     if is_overdue(state.run, pace.earliest) {
         return Err(check::OVERDUE);
     }
-    if pace.highest >= state.run.clock_limit() - 1 {
+    if pace.highest >= state.run.plan.clock_limit() - 1 {
         return Err(check::LAST_CLOCK);
     }
     let entering = pace.entering(state.run);

@@ -59,7 +59,7 @@ fn any_byte_changed_to_one_that_is_no_digit() {
         for place in 0..line.len() {
             for byte in (0..=255).filter(|byte: &u8| !byte.is_ascii_digit()) {
                 let mut bytes = line.as_bytes().to_vec();
-                let other_certificate = [bytes[place], byte] == *b"vq";
+                let other_certificate = [*b"vq", *b"qv"].contains(&[bytes[place], byte]);
                 if bytes[place] != byte && !other_certificate {
                     bytes[place] = byte;
                     no_form(&bytes);

@@ -1,0 +1,36 @@
+//! The Fever pacemaker and its simulator, proved in Rattle and linked from `libfever.a`.
+//!
+//! A run is opened from a [`Setup`] and moved by one [`Event`] after the other; tally and network are lent by the caller. A call
+//! that is refused answers the number of the first check whose sentence holds, and has changed nothing. [`step`] moves one
+//! [`Processor`] alone. Lines of a schedule are read and written by [`read_line`], [`write_event`] and [`write_setup`].
+//!
+//! ```
+//! use fever::{apply, open, Answer, Event, Plan, Run, Setup};
+//!
+//! let plan = Plan { n: 4, delta: 2, gamma: 4, views: 6 };
+//! let (mut run, mut tally, mut network) = (Run::unopened(), [0; 24], [0; 64]);
+//! let opened = open(&Setup::new(plan), &mut run, &mut tally, &mut network);
+//! assert_eq!(opened, Answer::Done { ticks: 0, held: 8 });
+//! let ticked = apply(&mut run, Event::Tick(3), &mut tally, &mut network);
+//! assert_eq!(ticked, Answer::Done { ticks: 3, held: 8 });
+//! assert_eq!((run.time(), run.clock(0), run.view(0)), (3, 3, 0));
+//! ```
+//!
+//! The functions of [`raw`] are those of the archive, over plain words.
+
+#![deny(missing_docs)]
+#![deny(unsafe_code)]
+
+mod events;
+mod lines;
+mod processors;
+#[allow(unsafe_code)]
+pub mod raw;
+mod runs;
+#[cfg(test)]
+mod tests;
+
+pub use events::{Event, Kind, Message};
+pub use lines::{read_line, write_event, write_setup, Line};
+pub use processors::{step, Input, Processor, Sends, Stepped};
+pub use runs::{apply, open, Answer, Plan, Run, Setup};

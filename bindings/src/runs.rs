@@ -1,0 +1,186 @@
+//! Setups and runs, opening and applying.
+
+use crate::events::Event;
+use crate::raw;
+
+/// The protocol's parameters.
+#[derive(Clone, Copy, Debug, PartialEq, Eq, Hash)]
+pub struct Plan {
+    /// The processors, 4 to 64.
+    pub n: u64,
+    /// The delay Δ, 1 to 1,000 ticks.
+    pub delta: u64,
+    /// The slot Γ, 2Δ to 10,000 ticks.
+    pub gamma: u64,
+    /// The view limit V, 3 to 6,000 and a multiple of 3.
+    pub views: u64,
+}
+
+/// What a run is opened with.
+#[derive(Clone, Debug, PartialEq, Eq, Hash)]
+pub struct Setup {
+    /// The protocol's parameters.
+    pub plan: Plan,
+    /// The faulty processors, bit p for processor p.
+    pub faulty: u64,
+    /// The start clocks; those of faulty processors and from n on are not read.
+    pub clocks: [u64; raw::TABLE],
+}
+
+impl Setup {
+    /// A setup without faulty processors whose clocks start at 0.
+    pub fn new(plan: Plan) -> Setup {
+        Setup {
+            plan,
+            faulty: 0,
+            clocks: [0; raw::TABLE],
+        }
+    }
+
+    /// Its words: n, Δ, Γ, V, the faulty set, 64 clocks.
+    pub fn words(&self) -> [u64; raw::SETUP_WORDS] {
+        let mut words = [0; raw::SETUP_WORDS];
+        let plan = self.plan;
+        words[..5].copy_from_slice(&[plan.n, plan.delta, plan.gamma, plan.views, self.faulty]);
+        words[5..].copy_from_slice(&self.clocks);
+        words
+    }
+
+    /// The setup of such words.
+    pub fn from_words(words: &[u64; raw::SETUP_WORDS]) -> Setup {
+        let mut clocks = [0; raw::TABLE];
+        clocks.copy_from_slice(&words[5..]);
+        Setup {
+            plan: plan_in(words),
+            faulty: words[4],
+            clocks,
+        }
+    }
+}
+
+fn plan_in(words: &[u64]) -> Plan {
+    Plan {
+        n: words[0],
+        delta: words[1],
+        gamma: words[2],
+        views: words[3],
+    }
+}
+
+/// The execution so far, without the lent buffers, as the archive's 137 words.
+#[derive(Clone, Debug, PartialEq, Eq, Hash)]
+pub struct Run([u64; raw::RUN_WORDS]);
+
+impl Run {
+    /// No run: every word is 0, and every event is refused by check 9.
+    pub fn unopened() -> Run {
+        Run([0; raw::RUN_WORDS])
+    }
+
+    /// The run of such words, sound or not.
+    pub fn from_words(words: [u64; raw::RUN_WORDS]) -> Run {
+        Run(words)
+    }
+
+    /// Its words.
+    pub fn words(&self) -> &[u64; raw::RUN_WORDS] {
+        &self.0
+    }
+
+    /// Its words, to be altered at will: [`apply`] judges them anew.
+    pub fn words_mut(&mut self) -> &mut [u64; raw::RUN_WORDS] {
+        &mut self.0
+    }
+
+    /// The protocol's parameters.
+    pub fn plan(&self) -> Plan {
+        plan_in(&self.0)
+    }
+
+    /// The processors.
+    pub fn n(&self) -> u64 {
+        self.0[0]
+    }
+
+    /// The faulty processors, bit p for processor p.
+    pub fn faulty(&self) -> u64 {
+        self.0[4]
+    }
+
+    /// The ticks since the opening.
+    pub fn time(&self) -> u64 {
+        self.0[5]
+    }
+
+    /// Whether the network has settled.
+    pub fn settled(&self) -> bool {
+        self.0[6] == 1
+    }
+
+    /// When it settled; 0 before.
+    pub fn gst(&self) -> u64 {
+        self.0[7]
+    }
+
+    /// The messages in the network.
+    pub fn held(&self) -> u64 {
+        self.0[8]
+    }
+
+    /// The clock of a processor; 0 from 64 on.
+    pub fn clock(&self, processor: usize) -> u64 {
+        self.0[9..73].get(processor).copied().unwrap_or(0)
+    }
+
+    /// The view of a processor; 0 from 64 on.
+    pub fn view(&self, processor: usize) -> u64 {
+        self.0[73..].get(processor).copied().unwrap_or(0)
+    }
+}
+
+/// The answer to an opening or an event.
+#[derive(Clone, Copy, Debug, PartialEq, Eq, Hash)]
+pub enum Answer {
+    /// It was done.
+    Done {
+        /// The ticks done, 0 for anything but ticks.
+        ticks: u64,
+        /// The messages in the network now.
+        held: u64,
+    },
+    /// Some of the ticks were done.
+    Stopped {
+        /// How many.
+        ticks: u64,
+        /// The messages in the network now.
+        held: u64,
+        /// The check that the next tick would meet.
+        check: u64,
+    },
+    /// The first check whose sentence holds; nothing has changed.
+    Refused(u64),
+}
+
+/// Opens a setup in place of the run at hand, which is not judged: done, or refused by 2 to 8.
+pub fn open(setup: &Setup, run: &mut Run, tally: &mut [u64], network: &mut [u64]) -> Answer {
+    match raw::open(&setup.words(), &mut run.0, tally, network) {
+        0 => Answer::Done {
+            ticks: 0,
+            held: run.held(),
+        },
+        check => Answer::Refused(check),
+    }
+}
+
+/// Applies an event to a run and its buffers, whatever they hold. Ticks done are the time gained.
+pub fn apply(run: &mut Run, event: Event, tally: &mut [u64], network: &mut [u64]) -> Answer {
+    let before = run.time();
+    let [form, kind, view, processor] = event.numbers();
+    let check = raw::apply(&mut run.0, form, kind, view, processor, tally, network);
+    let (ticks, held) = (run.time() - before, run.held());
+    match (check, ticks) {
+        (0, _) => Answer::Done { ticks, held },
+        (_, 0) => Answer::Refused(check),
+        _ => Answer::Stopped { ticks, held, check },
+    }
+}

@@ -1,0 +1,28 @@
+//! What the proved simulator costs beside the reference, as a table of ratios.
+
+#![forbid(unsafe_code)]
+
+use compare::measure::{calls, lines, programs, ticks, Row};
+use std::process::ExitCode;
+
+fn main() -> ExitCode {
+    println!("speed of the proved code over the reference's: 1.00 is equal, more is faster");
+    println!("(rows with 'cost' set one side beside itself: 1.00 is no growth)");
+    match programs::rows() {
+        Ok(rows) => print(&rows),
+        Err(error) => {
+            eprintln!("{error}");
+            return ExitCode::FAILURE;
+        }
+    }
+    print(&lines::rows());
+    print(&calls::rows());
+    print(&ticks::rows());
+    ExitCode::SUCCESS
+}
+
+fn print(rows: &[Row]) {
+    for row in rows {
+        println!("{row}");
+    }
+}

@@ -1,0 +1,81 @@
+//! Compares the proved simulator with the reference: through the program and
+//! through the library. The first difference ends it.
+
+#![forbid(unsafe_code)]
+
+use compare::difference::Difference;
+use compare::options::{self, Options, USAGE};
+use compare::summary::Summary;
+use compare::{by_library, by_program, program};
+use std::fs;
+use std::path::Path;
+use std::process::ExitCode;
+
+fn main() -> ExitCode {
+    let words: Vec<String> = std::env::args().skip(1).collect();
+    if !program::proved().is_file() {
+        eprintln!("target/bin/simulate is missing: run `rt check simulate` first");
+        return ExitCode::from(2);
+    }
+    match options::parse(&words) {
+        None => {
+            eprint!("{USAGE}");
+            ExitCode::from(2)
+        }
+        Some(Options::Replay(file)) => replay(&file),
+        Some(Options::Compare { rounds, seed, gate }) => compare(rounds, seed, gate),
+    }
+}
+
+/// A comparison of so many rounds.
+fn compare(rounds: u64, seed: u64, gate: bool) -> ExitCode {
+    match both_ways(rounds, seed) {
+        Err(difference) => tell(&difference),
+        Ok(summary) => {
+            print!("{summary}");
+            match summary.missing() {
+                Some(missing) if gate => {
+                    println!("too little was compared: {missing}");
+                    ExitCode::FAILURE
+                }
+                _ => ExitCode::SUCCESS,
+            }
+        }
+    }
+}
+
+/// Through the program, then through the library.
+fn both_ways(rounds: u64, seed: u64) -> Result<Summary, Difference> {
+    Ok(Summary {
+        program: by_program::compare(&program::proved(), seed, rounds)?,
+        library: by_library::compare(seed, rounds)?,
+    })
+}
+
+/// One schedule through both programs.
+fn replay(file: &Path) -> ExitCode {
+    let input = match fs::read(file) {
+        Ok(input) => input,
+        Err(error) => {
+            eprintln!("{}: {error}", file.display());
+            return ExitCode::from(2);
+        }
+    };
+    match by_program::compare_one(&program::proved(), &input, 1 << 16) {
+        Err(difference) => tell(&difference),
+        Ok(()) => {
+            println!("no difference");
+            ExitCode::SUCCESS
+        }
+    }
+}
+
+/// Prints a difference, and saves what shows it.
+fn tell(difference: &Difference) -> ExitCode {
+    println!("{}", difference.told());
+    match difference.save(&program::directory()) {
+        Ok(path) => println!("saved as {}", path.display()),
+        Err(error) => println!("it could not be saved: {error}"),
+    }
+    ExitCode::FAILURE
+}

@@ -1,0 +1,64 @@
+//! The comparison through the static library: raw calls on lent words, on runs
+//! sound and unsound.
+
+pub mod lines;
+pub mod openings;
+pub mod sound;
+pub mod spoil;
+pub mod states;
+pub mod steps;
+pub mod ticks;
+pub mod unsound;
+
+use crate::counts::Counts;
+use crate::difference::Difference;
+use crate::draws::Draws;
+
+/// One part of the comparison: a drawn case of it.
+type Case = fn(&mut Draws, &mut Counts) -> Result<(), Difference>;
+
+/// The parts, and how many cases of each make one round.
+const PARTS: [(&str, Case, u64); 7] = [
+    ("openings", openings::case, 400),
+    ("sound runs", sound::case, 40),
+    ("unsound runs", unsound::case, 60),
+    ("many ticks", ticks::case, 20),
+    ("one processor", steps::case, 4_000),
+    ("lines read", lines::reading, 1_500),
+    ("lines written", lines::writing, 400),
+];
+
+/// Compares so many rounds of every part, and answers the counts of each.
+pub fn compare(seed: u64, rounds: u64) -> Result<Vec<(&'static str, Counts)>, Difference> {
+    PARTS
+        .into_iter()
+        .enumerate()
+        .map(|(place, (name, case, cases))| {
+            let mut draws = Draws::new(seed.wrapping_add(place as u64));
+            let mut counts = Counts::default();
+            for _ in 0..rounds * cases {
+                case(&mut draws.branch(), &mut counts)?;
+            }
+            Ok((name, counts))
+        })
+        .collect()
+}
+
+#[cfg(test)]
+mod tests {
+    use super::*;
+
+    #[test]
+    fn a_round_shows_no_difference_and_meets_every_check() {
+        let parts = match compare(99, 1) {
+            Ok(parts) => parts,
+            Err(difference) => panic!("{}", difference.told()),
+        };
+        let mut all = Counts::default();
+        for (_, counts) in &parts {
+            assert!(counts.calls > 0);
+            all.add(counts);
+        }
+        assert_eq!(all.unmet(), []);
+    }
+}

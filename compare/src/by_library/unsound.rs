@@ -1,0 +1,109 @@
+//! Calls on states of which something was spoilt.
+
+use super::spoil::spoil;
+use super::{sound, states};
+use crate::calls::{Call, State};
+use crate::counts::Counts;
+use crate::difference::Difference;
+use crate::draws::Draws;
+use crate::lent::Lent;
+use crate::openings;
+use crate::wild;
+use crate::words::{numbers_of, Numbers};
+use reference::{Event, Run};
+
+/// Spoilt copies of one state.
+const COPIES: u64 = 40;
+/// Events before the state is spoilt, at most.
+const EVENTS: u64 = 40;
+/// The most ticks of one call: what is spoilt may still be sound, with a clock
+/// limit of up to 60,000,000, and the reference does its ticks one by one.
+const MOST_TICKS: u64 = 20_000;
+/// The most words of a network, of which check 6 speaks.
+const MOST_NETWORK_WORDS: usize = 524_288;
+
+/// One state and its spoilt copies.
+pub fn case(draws: &mut Draws, counts: &mut Counts) -> Result<(), Difference> {
+    let good = if draws.per_mille(600) {
+        let events = draws.below(EVENTS);
+        states::played(draws, events).0
+    } else {
+        states::arbitrary(draws)
+    };
+    let Some(run) = good.decoded() else {
+        return Ok(());
+    };
+    for _ in 0..COPIES {
+        let mut state = good.clone();
+        for _ in 0..draws.one_of(&[1, 1, 1, 2, 3]) {
+            spoil(&mut state, &run, draws);
+        }
+        if draws.per_mille(60) {
+            let setup = openings::accepted(draws, 30);
+            let call = shortened(states::opening(&setup, draws), draws);
+            sound::opened(&mut state, &call, counts)?;
+        } else {
+            let call = Call::Apply(numbers(&good, &run, draws));
+            sound::applied(&mut state, &call, counts)?;
+        }
+    }
+    if draws.per_mille(15) {
+        return longest(&good, draws, counts);
+    }
+    Ok(())
+}
+
+/// Some words of a setup fewer than it has, at times.
+fn shortened(call: Call, draws: &mut Draws) -> Call {
+    match call {
+        Call::Open(mut words) if draws.per_mille(300) => {
+            words.truncate(draws.one_of(&[0, 1, 5, 68, 69]));
+            Call::Open(words)
+        }
+        other => other,
+    }
+}
+
+/// The numbers of an event that the sound state may accept, or of none.
+fn numbers(good: &State, run: &Run, draws: &mut Draws) -> Numbers {
+    let mut numbers = numbers_of(event(good, run, draws));
+    if draws.per_mille(100) {
+        let value = draws.edge();
+        numbers[draws.place(2)] = draws.one_of(&[0, 1, 2, 3, 4, 5, 6, value]);
+    }
+    if numbers[0] == 5 && numbers[2] > MOST_TICKS {
+        numbers[2] = draws.below(MOST_TICKS);
+    }
+    numbers
+}
+
+/// An event that would do something, or any.
+fn event(good: &State, run: &Run, draws: &mut Draws) -> Event {
+    let scene = good.scene(run);
+    let held = scene.message(draws.place(scene.messages().len()));
+    match (draws.below(6), held) {
+        (0 | 1, Some(message)) => Event::Deliver(message),
+        (2, _) => Event::Tick(1 + draws.below(12)),
+        (3, _) => Event::Settle,
+        (4, _) => wild::near_miss(scene, draws),
+        _ => wild::event(run.plan, draws),
+    }
+}
+
+/// Networks about as long as the longest that check 6 passes.
+fn longest(good: &State, draws: &mut Draws, counts: &mut Counts) -> Result<(), Difference> {
+    for length in [MOST_NETWORK_WORDS, MOST_NETWORK_WORDS + 1] {
+        let mut state = good.clone();
+        let mut words = state.network.front().to_vec();
+        words.resize(length, 0);
+        if draws.per_mille(200) {
+            words[length - 1] = 1;
+        }
+        state.network = Lent::new(&words, &[7]);
+        sound::applied(&mut state, &Call::Apply([5, 0, 2, 0]), counts)?;
+        let setup = openings::accepted(draws, 3);
+        let call = states::opening(&setup, draws);
+        sound::opened(&mut state, &call, counts)?;
+    }
+    Ok(())
+}

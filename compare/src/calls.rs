@@ -1,0 +1,187 @@
+//! One call of the library and the same of the reference, from the same words:
+//! answers, runs and every word compared, lent or not.
+
+use crate::difference::{first_word, Difference};
+use crate::lent::Lent;
+use crate::reference_calls;
+use crate::scene::Scene;
+use crate::words::{self, Numbers, RUN_WORDS};
+use fever::raw;
+use reference::Run;
+use std::fmt::Write;
+use std::panic::{catch_unwind, AssertUnwindSafe};
+
+/// A run with its lent words.
+#[derive(Clone, PartialEq, Eq, Debug)]
+pub struct State {
+    /// The run's words.
+    pub run: Lent<u64>,
+    /// The tally.
+    pub tally: Lent<u64>,
+    /// The network.
+    pub network: Lent<u64>,
+}
+
+/// A call that takes a run.
+#[derive(Clone, Debug)]
+pub enum Call {
+    /// Opening a setup, given by its words.
+    Open(Vec<u64>),
+    /// Applying an event.
+    Apply(Numbers),
+}
+
+impl State {
+    /// The run, if all of its words are lent.
+    pub fn decoded(&self) -> Option<Run> {
+        let words = self.run.front();
+        (words.len() >= RUN_WORDS).then(|| words::run_of(words))
+    }
+
+    /// What a schedule's author sees of it.
+    pub fn scene<'a>(&'a self, run: &'a Run) -> Scene<'a> {
+        Scene {
+            run,
+            tally: self.tally.front(),
+            network: self.network.front(),
+        }
+    }
+
+    /// Makes a call of the reference.
+    pub fn refer(&mut self, call: &Call) -> u64 {
+        let Self {
+            run,
+            tally,
+            network,
+        } = self;
+        let (run, tally, network) = (run.front_mut(), tally.front_mut(), network.front_mut());
+        match call {
+            Call::Open(setup) => reference_calls::open(setup, run, tally, network),
+            Call::Apply(numbers) => reference_calls::apply(run, *numbers, tally, network),
+        }
+    }
+
+    /// Makes a call of the library.
+    pub fn prove(&mut self, call: &Call) -> u64 {
+        let Self {
+            run,
+            tally,
+            network,
+        } = self;
+        let (run, tally, network) = (run.front_mut(), tally.front_mut(), network.front_mut());
+        match call {
+            Call::Open(setup) => raw::open(setup, run, tally, network),
+            &Call::Apply([form, kind, view, processor]) => {
+                raw::apply(run, form, kind, view, processor, tally, network)
+            }
+        }
+    }
+
+    /// Makes a call of both, and answers the check if they agree.
+    pub fn both(&mut self, call: &Call) -> Result<u64, Difference> {
+        let before = self.clone();
+        let mut proved = self.clone();
+        let answer = proved.prove(call);
+        let referred = catch_unwind(AssertUnwindSafe(|| self.refer(call)));
+        let apart = |told: String| before.shows(call, &told);
+        let Ok(expected) = referred else {
+            return Err(apart(format!("proved: {answer}\nreference: it panicked")));
+        };
+        if answer != expected {
+            let told = format!("answers differ\nproved: {answer}\nreference: {expected}");
+            return Err(apart(told));
+        }
+        if let Some(told) = proved.told_apart(self) {
+            return Err(apart(told));
+        }
+        // The time moves exactly if ticks were done.
+        let unmoved = self.run.all().get(5) == before.run.all().get(5);
+        if answer != 0 && unmoved && *self != before {
+            return Err(apart(format!(
+                "refused by {answer}, both changed something"
+            )));
+        }
+        Ok(answer)
+    }
+
+    /// The first word in which two states differ.
+    fn told_apart(&self, reference: &Self) -> Option<String> {
+        let buffers = [
+            ("run", &self.run, &reference.run),
+            ("tally", &self.tally, &reference.tally),
+            ("network", &self.network, &reference.network),
+        ];
+        buffers.into_iter().find_map(|(name, proved, reference)| {
+            let place = first_word(proved.all(), reference.all())?;
+            Some(format!(
+                "word {place} of the {name} differs ({} are lent)\nproved: {:?}\nreference: {:?}",
+                proved.front().len(),
+                proved.all().get(place),
+                reference.all().get(place)
+            ))
+        })
+    }
+
+    /// The difference that a call on this state shows.
+    fn shows(&self, call: &Call, told: &str) -> Difference {
+        let mut text = format!("{call:?}\n");
+        for (name, lent) in [
+            ("run", &self.run),
+            ("tally", &self.tally),
+            ("network", &self.network),
+        ] {
+            let (all, length) = (lent.all(), lent.front().len());
+            // Writing to a string does not fail.
+            let _ = writeln!(text, "{name}, {length} words lent, then others:\n{all:?}");
+        }
+        Difference {
+            what: format!("a call of the library: {told}"),
+            name: "difference.call".to_owned(),
+            contents: text.into_bytes(),
+        }
+    }
+}
+
+#[cfg(test)]
+mod tests {
+    use super::*;
+
+    fn unopened() -> State {
+        let lent = |length| Lent::new(&vec![0; length], &[5, 5]);
+        State {
+            run: lent(RUN_WORDS),
+            tally: lent(24),
+            network: lent(64),
+        }
+    }
+
+    /// n=4, delta 2, gamma 4, 6 views, all clocks 0.
+    fn opening() -> Call {
+        let mut words = vec![4, 2, 4, 6];
+        words.resize(words::SETUP_WORDS, 0);
+        Call::Open(words)
+    }
+
+    #[test]
+    fn both_sides_open_and_tick() {
+        let mut state = unopened();
+        assert_eq!(state.both(&Call::Apply([5, 0, 1, 0])).ok(), Some(9));
+        assert_eq!(state, unopened());
+        assert_eq!(state.both(&opening()).ok(), Some(0));
+        assert_eq!(state.both(&Call::Apply([4, 0, 0, 0])).ok(), Some(0));
+        assert_eq!(state.both(&Call::Apply([5, 0, 9, 0])).ok(), Some(16));
+        let run = state.decoded().expect("all words");
+        assert_eq!((run.time, run.held), (2, 8));
+    }
+
+    #[test]
+    fn a_word_that_differs_is_named() {
+        let (one, mut other) = (unopened(), unopened());
+        assert_eq!(one.told_apart(&other), None);
+        other.network.front_mut()[3] = 7;
+        let told = one.told_apart(&other).expect("they differ");
+        assert!(told.contains("word 3 of the network"), "{told}");
+        let difference = one.shows(&opening(), &told);
+        assert!(difference.contents.starts_with(b"Open([4, 2, 4, 6, 0"));
+    }
+}

@@ -1,0 +1,94 @@
+//! Whole programs: a schedule from a file, the printout thrown away.
+
+use super::{timed, try_in_turn, Row};
+use crate::program;
+use crate::schedules;
+use crate::trace::Trace;
+use std::env;
+use std::fs::{self, File};
+use std::io::{Error, Result};
+use std::path::{Path, PathBuf};
+use std::process::{Command, Stdio};
+use std::time::Duration;
+
+/// The lines of a schedule, at least.
+pub const LINES: u64 = 60_000;
+
+/// One row per number of processors.
+pub fn rows() -> Result<Vec<Row>> {
+    let reference = build_reference()?;
+    [4, 16, 64]
+        .into_iter()
+        .map(|n| row(n, &program::proved(), &reference))
+        .collect()
+}
+
+/// A schedule of n processors through both programs.
+fn row(n: u64, proved: &Path, reference: &Path) -> Result<Row> {
+    let trace = schedules::steady(n, LINES);
+    let file = program::directory().join(format!("bench_{n}.schedule"));
+    fs::create_dir_all(program::directory())?;
+    fs::write(&file, trace.text())?;
+    // Two programs that do not do the same cannot be set side by side.
+    let printed = |path| program::run(path, trace.text(), 1 << 16);
+    if printed(proved)? != printed(reference)? {
+        return Err(Error::other("the programs print different things"));
+    }
+    let times = try_in_turn(|| timed_run(proved, &file), || timed_run(reference, &file))?;
+    let what = format!("program, n = {n}: {}", told(&trace));
+    Ok(Row::new(what, times.ratio()))
+}
+
+/// What a schedule is made of.
+pub fn told(trace: &Trace) -> String {
+    let counts = trace.counts();
+    let share = |count: u64| 100 * count / counts.calls.max(1);
+    let lines = || trace.text().split(|&byte| byte == b'\n');
+    let starting = |word: &str| {
+        let count = lines().filter(|line| line.starts_with(word.as_bytes()));
+        share(count.count() as u64)
+    };
+    format!(
+        "{} lines, {}% deliver, {}% tick, {}% sign, {}% show; {} openings; {}% accepted",
+        counts.calls,
+        starting("(deliver"),
+        starting("(tick"),
+        starting("(sign"),
+        starting("(show"),
+        counts.openings,
+        share(counts.accepted)
+    )
+}
+
+/// The time that a program needs for a file.
+fn timed_run(path: &Path, file: &Path) -> Result<Duration> {
+    let input = File::open(file)?;
+    let mut command = Command::new(path);
+    command.stdin(input).stdout(Stdio::null());
+    let mut ended = None;
+    let time = timed(|| ended = Some(command.status()));
+    match ended {
+        Some(Ok(status)) if status.success() => Ok(time),
+        Some(Err(error)) => Err(error),
+        _ => Err(Error::other("a program failed")),
+    }
+}
+
+/// Builds the reference's program with optimisation, and answers where it is.
+fn build_reference() -> Result<PathBuf> {
+    let package = program::root().join("reference");
+    let target = package.join("target");
+    let cargo = env::var_os("CARGO").unwrap_or_else(|| "cargo".into());
+    let status = Command::new(cargo)
+        .args(["build", "--quiet", "--release", "--offline"])
+        .arg("--manifest-path")
+        .arg(package.join("Cargo.toml"))
+        .arg("--target-dir")
+        .arg(&target)
+        .status()?;
+    if status.success() {
+        Ok(target.join("release/reference_simulate"))
+    } else {
+        Err(Error::other("the reference's program could not be built"))
+    }
+}

@@ -1,0 +1,155 @@
+//! Runs, setups and events as the numbers that the library's calls take.
+
+use reference::{Event, Message, Plan, Run, Setup};
+
+/// The words of a run: n, delta, gamma, views, faulty, time, settled, gst,
+/// held, 64 clocks and 64 views.
+pub const RUN_WORDS: usize = 137;
+/// The words of a setup: n, delta, gamma, views, faulty and 64 clocks.
+pub const SETUP_WORDS: usize = 69;
+/// The words of a line read: an event's four numbers and a setup.
+pub const READ_WORDS: usize = 4 + SETUP_WORDS;
+/// Where a run keeps whether it has settled.
+pub const SETTLED: usize = 6;
+/// Where a run keeps its first clock.
+pub const CLOCKS: usize = 9;
+/// Where a run keeps its first view.
+pub const VIEWS: usize = 73;
+/// The form number of an opening that was read.
+pub const OPENING: u64 = 6;
+
+/// An event as form, kind, view (the ticks of a tick) and processor.
+pub type Numbers = [u64; 4];
+
+/// The plan that stands first in a run and in a setup.
+fn plan_of(words: &[u64]) -> Plan {
+    Plan {
+        n: words[0],
+        delta: words[1],
+        gamma: words[2],
+        views: words[3],
+    }
+}
+
+/// 64 words from a place on.
+fn table(words: &[u64], from: usize) -> [u64; 64] {
+    let mut table = [0; 64];
+    table.copy_from_slice(&words[from..from + 64]);
+    table
+}
+
+/// The run that its words stand for; any settled word but 0 is settled.
+pub fn run_of(words: &[u64]) -> Run {
+    Run {
+        plan: plan_of(words),
+        faulty: words[4],
+        time: words[5],
+        settled: words[SETTLED] != 0,
+        gst: words[7],
+        held: words[8],
+        clocks: table(words, CLOCKS),
+        views: table(words, VIEWS),
+    }
+}
+
+/// Writes a run over the first of these words.
+pub fn put_run(run: &Run, words: &mut [u64]) {
+    let plan = run.plan;
+    let settled = u64::from(run.settled);
+    let front = [
+        plan.n, plan.delta, plan.gamma, plan.views, run.faulty, run.time, settled, run.gst,
+        run.held,
+    ];
+    words[..CLOCKS].copy_from_slice(&front);
+    words[CLOCKS..VIEWS].copy_from_slice(&run.clocks);
+    words[VIEWS..RUN_WORDS].copy_from_slice(&run.views);
+}
+
+/// The setup that its words stand for.
+pub fn setup_of(words: &[u64]) -> Setup {
+    Setup {
+        plan: plan_of(words),
+        faulty: words[4],
+        clocks: table(words, 5),
+    }
+}
+
+/// The words of a setup.
+pub fn setup_words(setup: &Setup) -> [u64; SETUP_WORDS] {
+    let plan = setup.plan;
+    let mut words = [0; SETUP_WORDS];
+    words[..5].copy_from_slice(&[plan.n, plan.delta, plan.gamma, plan.views, setup.faulty]);
+    words[5..].copy_from_slice(&setup.clocks);
+    words
+}
+
+/// The message of a kind.
+pub const fn message_of(kind: u64, view: u64, processor: u64) -> Option<Message> {
+    match kind {
+        1 => Some(Message::View(view, processor)),
+        2 => Some(Message::Vote(view, processor)),
+        3 => Some(Message::Vc(view, processor)),
+        4 => Some(Message::Qc(view, processor)),
+        _ => None,
+    }
+}
+
+/// The event that its numbers stand for, if form and kind are any.
+pub fn event_of([form, kind, view, processor]: Numbers) -> Option<Event> {
+    let message = message_of(kind, view, processor);
+    match form {
+        1 => message.map(Event::Deliver),
+        2 => message.map(Event::Sign),
+        3 => message.map(Event::Show),
+        4 => Some(Event::Settle),
+        5 => Some(Event::Tick(view)),
+        _ => None,
+    }
+}
+
+/// The numbers of an event, 0 for those it does not have.
+pub const fn numbers_of(event: Event) -> Numbers {
+    let (form, message) = match event {
+        Event::Deliver(message) => (1, message),
+        Event::Sign(message) => (2, message),
+        Event::Show(message) => (3, message),
+        Event::Settle => return [4, 0, 0, 0],
+        Event::Tick(ticks) => return [5, 0, ticks, 0],
+    };
+    [form, message.kind(), message.view(), message.processor()]
+}
+
+#[cfg(test)]
+mod tests {
+    use super::*;
+
+    #[test]
+    fn words_and_back() {
+        let words: Vec<u64> = (0..RUN_WORDS as u64)
+            .map(|word| if word == 6 { 1 } else { 1_000 + word })
+            .collect();
+        let mut again = vec![0; RUN_WORDS];
+        put_run(&run_of(&words), &mut again);
+        assert_eq!(words, again);
+        assert_eq!(
+            setup_words(&setup_of(&words[..SETUP_WORDS]))[..],
+            words[..SETUP_WORDS]
+        );
+    }
+
+    #[test]
+    fn numbers_and_back() {
+        for form in 1..=3 {
+            for kind in 1..=4 {
+                let numbers = [form, kind, 7, 9];
+                assert_eq!(event_of(numbers).map(numbers_of), Some(numbers));
+            }
+        }
+        for numbers in [[4, 0, 0, 0], [5, 0, 12, 0]] {
+            assert_eq!(event_of(numbers).map(numbers_of), Some(numbers));
+        }
+        for numbers in [[0, 1, 0, 0], [6, 1, 0, 0], [1, 0, 0, 0], [3, 5, 0, 0]] {
+            assert_eq!(event_of(numbers), None);
+        }
+    }
+}

@@ -1,0 +1,73 @@
+-- The words of a run and of what was read, written piece by piece. Assumes nothing.
+use mathlib.Core.Path.{_≡_, refl, ap, _∙_}
+use mathlib.Core.List.{List, [], _∷_, _++_}
+use Prim.Native.Nat.{ℕ, _+_, _≤_}
+use native.Mathlib.Omega.{arith}
+use lib.ListN.{length, drop, length-append}
+use Rattle.types.specs.declared.Run.{Run}
+use Rattle.types.specs.declared.Setup.{Setup}
+use Rattle.types.specs.Quantities.{tableClocks}
+use Rattle.lines.specs.declared.Reading.{Reading}
+use Rattle.writer.specs.Stamps.{stamp, Room, Stamped}
+use Rattle.writer.proofs.Stamping.{room-first, room-second, written-then}
+use Rattle.fever.specs.declared.Numbers.{Numbers}
+use Rattle.fever.specs.Layout.{clocksWord, runLength, settledAs, runWords, readingLength, readNumbers, readingWords}
+
+-- words from the first on
+pub laid : (d e w : List ℕ) (b n : ℕ) → length w ≡ n → Stamped d 0 w b e → e ≡ w ++ drop n d
+unfolding stamp
+laid d e w b n l s = let q : 0 + length w ≡ n = omega (arith, l) in s .bytes ∙ ap (λ (k : ℕ). w ++ drop k d) q
+
+-- ---- a run: nine numbers and two tables
+
+module _ (numbers clocks views d : List ℕ) (nine : length numbers ≡ clocksWord) (c : length clocks ≡ tableClocks) (v : length views ≡ tableClocks) (fits : runLength ≤ length d) where
+  run-length : length (numbers ++ (clocks ++ views)) ≡ runLength
+  run-length = omega (arith, length-append numbers (clocks ++ views), length-append clocks views)
+
+  run-room : Room d 0 (numbers ++ (clocks ++ views))
+  run-room = record { fits = omega (arith, run-length) }
+
+  pub clocks-room : (e : List ℕ) (a : ℕ) → Stamped d 0 numbers a e → Room e a clocks
+  clocks-room e a x = room-first clocks views (room-second (clocks ++ views) x run-room)
+
+  pub views-room : (e f : List ℕ) (a b : ℕ) → Stamped d 0 numbers a e → Stamped e a clocks b f → Room f b views
+  views-room e f a b x y = room-second views y (room-second (clocks ++ views) x run-room)
+
+  tables-laid : (e f g : List ℕ) (a b c : ℕ) → Stamped d 0 numbers a e → Stamped e a clocks b f → Stamped f b views c g → g ≡ numbers ++ (clocks ++ views) ++ drop runLength d
+  tables-laid e f g a b c x y z =
+      laid d g (numbers ++ (clocks ++ views)) c runLength run-length (written-then (clocks ++ views) x (written-then views y (λ h. z)) run-room)
+
+-- the numbers of a run, with the settled word at hand
+abbrev numbersWith : Run → ℕ → List ℕ
+numbersWith r s = r .plan .n ∷ r .plan .delta ∷ r .plan .gamma ∷ r .plan .views ∷ r .faulty ∷ r .time ∷ s ∷ r .gst ∷ r .held ∷ []
+
+pub run-laid : (r : Run) (s : ℕ) (d e f g : List ℕ) (a b c : ℕ) → length (r .clocks) ≡ tableClocks → length (r .views) ≡ tableClocks → runLength ≤ length d
+    → s ≡ settledAs (r .settled) → Stamped d 0 (numbersWith r s) a e → Stamped e a (r .clocks) b f → Stamped f b (r .views) c g → g ≡ runWords r ++ drop runLength d
+run-laid r s d e f g a b c k v fits q x y z =
+    tables-laid (numbersWith r s) (r .clocks) (r .views) d refl k v fits e f g a b c x y z
+    ∙ ap (λ (n : ℕ). numbersWith r n ++ (r .clocks ++ r .views) ++ drop runLength d) q
+
+-- ---- what was read: nine numbers and a table
+
+module _ (numbers clocks d : List ℕ) (nine : length numbers ≡ clocksWord) (c : length clocks ≡ tableClocks) (fits : readingLength ≤ length d) where
+  reading-length : length (numbers ++ clocks) ≡ readingLength
+  reading-length = omega (arith, length-append numbers clocks)
+
+  reading-room : Room d 0 (numbers ++ clocks)
+  reading-room = record { fits = omega (arith, reading-length) }
+
+  pub starts-room : (e : List ℕ) (a : ℕ) → Stamped d 0 numbers a e → Room e a clocks
+  starts-room e a x = room-second clocks x reading-room
+
+  table-laid : (e f : List ℕ) (a b : ℕ) → Stamped d 0 numbers a e → Stamped e a clocks b f → f ≡ numbers ++ clocks ++ drop readingLength d
+  table-laid e f a b x y = laid d f (numbers ++ clocks) b readingLength reading-length (written-then clocks x (λ r. y) reading-room)
+
+-- the numbers before the clocks
+abbrev headingWith : Numbers → Setup → List ℕ
+headingWith k u = k .form ∷ k .kind ∷ k .view ∷ k .processor ∷ u .plan .n ∷ u .plan .delta ∷ u .plan .gamma ∷ u .plan .views ∷ u .faulty ∷ []
+
+pub reading-laid : (x : Reading) (k : Numbers) (d e f : List ℕ) (a b : ℕ) → length (x .setup .clocks) ≡ tableClocks → readingLength ≤ length d → k ≡ readNumbers (x .read)
+    → Stamped d 0 (headingWith k (x .setup)) a e → Stamped e a (x .setup .clocks) b f → f ≡ readingWords x ++ drop readingLength d
+reading-laid x k d e f a b c fits q y z =
+    table-laid (headingWith k (x .setup)) (x .setup .clocks) d refl c fits e f a b y z
+    ∙ ap (λ (n : Numbers). headingWith n (x .setup) ++ x .setup .clocks ++ drop readingLength d) q

@@ -1,0 +1,7 @@
+-- Laws behind the proofs of the functions.
+pub mod Tables
+pub mod Laying
+pub mod Calling
+pub mod Stepping
+pub mod Writing
+pub mod Promises

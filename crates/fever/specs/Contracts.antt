@@ -1,0 +1,149 @@
+-- What the exported functions answer and leave in the lent words and bytes, for every argument, by the definitions of the crates below. Where a
+-- call is refused nothing that was lent has changed.
+use mathlib.Core.Path.{_≡_}
+use mathlib.Core.Bool.{Bool, true, cond, _||_}
+use mathlib.Core.List.{List, [], _∷_, _++_}
+use Prim.Native.Nat.{ℕ}
+use lib.Dec.{eqb, ltb}
+use lib.ListN.{length, getD, drop}
+use Rattle.types.specs.declared.Plan.{Plan}
+use Rattle.types.specs.declared.Message.{Message}
+use Rattle.types.specs.declared.Message.the-variants.{View, Vote}
+use Rattle.types.specs.declared.Event.{Event}
+use Rattle.types.specs.declared.Run.{Run}
+use Rattle.types.specs.declared.Answer.{Answer}
+use Rattle.types.specs.declared.Input.the-variants.{Tick, Vc, Qc}
+use Rattle.types.specs.Messages.{lacksForm}
+use Rattle.model.specs.State.{State, After, stateOf, checkOf, accepted}
+use Rattle.model.specs.Opening.{opening}
+use Rattle.model.specs.Events.{applied}
+use Rattle.model.specs.Processors.{Moved, stepped}
+use Rattle.pacemaker.specs.Steps.{refusing}
+use Rattle.lines.specs.declared.Read.{Read}
+use Rattle.lines.specs.declared.Read.the-variants as Read
+use Rattle.lines.specs.declared.Reading.{Reading}
+use Rattle.lines.specs.declared.Written.{Written}
+use Rattle.lines.specs.declared.Written.the-variants.{Bytes, Refused}
+use Rattle.lines.specs.Forms.{eventForm, setupForm, lacksSetupForm}
+use Rattle.lines.specs.Contracts.{readCheck, writtenAs, writtenIn}
+use Rattle.reader.specs.Lines.{reading}
+use Rattle.fever.specs.Layout.{setupLength, setupIn, runLength, runIn, runWords, neitherSettled, recordLength, recordIn, eventIn, readingLength, readingWords}
+
+-- ---- opening and applying
+
+-- the words lent to both
+pub record Lent : Type 0 where
+  pub run : List ℕ
+  pub tally : List ℕ
+  pub network : List ℕ
+
+abbrev pub lentOf : List ℕ → List ℕ → List ℕ → Lent
+lentOf run tally network = record { run = run; tally = tally; network = network }
+
+abbrev pub stateIn : Lent → State
+stateIn x = stateOf (runIn (x .run)) (x .tally) (x .network)
+
+-- what a call answered, and the words as it left them
+pub record Called : Type 0 where
+  pub answer : ℕ
+  pub lent : Lent
+
+abbrev pub called : ℕ → Lent → Called
+called r x = record { answer = r; lent = x }
+
+-- the run's words after a call that answered a and left the run r: those of r where it was accepted, and what stood behind them
+abbrev pub runLeft : List ℕ → Answer → Run → List ℕ
+runLeft ws a r = cond (accepted a) (runWords r ++ drop runLength ws) ws
+
+-- what the definitions leave, in words: the check that refused the call or ended the ticks, or 0. That ticks were done shows in the run's time,
+-- which has gained as many (`TicksTold`): so a stopped call is told from a refused one.
+abbrev pub told : List ℕ → After → Called
+told ws a = called (checkOf (a .answer)) (lentOf (runLeft ws (a .answer) (a .state .run)) (a .state .tally) (a .state .network))
+
+-- `fever_open`: the model's opening of the setup in the first 69 words. The run at hand is not judged: a refusal leaves its words, whatever they are.
+unfoldable pub openingWords : List ℕ → Lent → Called
+openingWords setup x =
+    cond (ltb (length setup) setupLength || ltb (length (x .run)) runLength) (called 1 x) (told (x .run) (opening (setupIn setup) (stateIn x)))
+
+abbrev pub OpensWords : List ℕ → Lent → ℕ → Lent → Type 0
+OpensWords setup before r after = called r after ≡ openingWords setup before
+
+-- an event, on a run of 137 words: check 1 is of the event alone; a settled word above 1 is of no run, which is check 9
+unfoldable pub applyingEvent : Event → Lent → Called
+applyingEvent e x =
+    cond (lacksForm e) (called 1 x) (cond (neitherSettled (x .run)) (called 9 x) (told (x .run) (applied e (stateIn x))))
+
+abbrev pub applyingRead : Read → Lent → Called
+applyingRead (Read.Event e) x = applyingEvent e x
+applyingRead Read.Opening x = called 1 x
+applyingRead Read.NoForm x = called 1 x
+
+-- `fever_apply`: the model's step by the event that the four numbers are
+unfoldable pub applyingWords : Read → Lent → Called
+applyingWords e x = cond (ltb (length (x .run)) runLength) (called 1 x) (applyingRead e x)
+
+abbrev pub AppliesWords : ℕ → ℕ → ℕ → ℕ → Lent → ℕ → Lent → Type 0
+AppliesWords form kind view processor before r after = called r after ≡ applyingWords (eventIn form kind view processor) before
+
+-- ---- one processor
+
+-- the step of the record in the first 4 words by an input: 0 a tick, 3 a view certificate, 4 a quorum certificate for the view
+unfoldable pub moveOf : Plan → ℕ → ℕ → List ℕ → Moved
+moveOf plan input view ws =
+    cond (ltb (length ws) recordLength) (refusing (recordIn ws) 1)
+    (cond (eqb input 0) (stepped plan (recordIn ws) Tick)
+    (cond (eqb input 3) (stepped plan (recordIn ws) (Vc view))
+    (cond (eqb input 4) (stepped plan (recordIn ws) (Qc view)) (refusing (recordIn ws) 1))))
+
+-- number, clock, view, and how many messages it sends
+abbrev pub recordWords : Moved → List ℕ
+recordWords m = m .processor .number ∷ m .processor .clock ∷ m .processor .view ∷ length (m .sent) ∷ []
+
+abbrev pub recordLeft : List ℕ → Moved → List ℕ
+recordLeft ws m = cond (eqb (m .check) 0) (recordWords m ++ drop recordLength ws) ws
+
+-- k messages of an entry into view w by p: none, its vote, or its view message and its vote
+abbrev pub messagesFor : ℕ → ℕ → ℕ → List Message
+messagesFor p w k = cond (eqb k 0) [] (cond (eqb k 1) (Vote w p ∷ []) (View w p ∷ Vote w p ∷ []))
+
+-- the messages that a record's words tell: the sender stands in word 0, the view in word 2
+abbrev pub messagesTold : List ℕ → List Message
+messagesTold ws = messagesFor (getD ws 0 0) (getD ws 2 0) (getD ws 3 0)
+
+-- `fever_step`: that the record before became the record after, as m says
+pub record StepsWords (m : Moved) (before : List ℕ) (r : ℕ) (after : List ℕ) : Type 0 where
+  pub check : r ≡ m .check
+  pub words : after ≡ recordLeft before m
+  pub sends : r ≡ 0 → messagesTold after ≡ m .sent
+
+-- ---- lines
+
+-- what the words hold of a line that was read as x
+abbrev pub readingLeft : List ℕ → Reading → List ℕ
+readingLeft ws x = cond (eqb (readCheck (x .read)) 0) (readingWords x ++ drop readingLength ws) ws
+
+-- `fever_read_line`: 0 where the line is one of the forms, which is then in the first 73 words; else 1
+pub record ReadsWords (line before : List ℕ) (r : ℕ) (after : List ℕ) : Type 0 where
+  pub check : r ≡ cond (ltb (length before) readingLength) 1 (readCheck (reading line .read))
+  pub words : after ≡ cond (ltb (length before) readingLength) before (readingLeft before (reading line))
+
+-- the bytes written, or 0
+abbrev pub bytesOf : Written → ℕ
+bytesOf (Bytes k) = k
+bytesOf (Refused r) = 0
+
+-- that a form, or what lacks one, was written into the lent bytes
+pub record WritesLine (lacks : Bool) (form before : List ℕ) (r : ℕ) (after : List ℕ) : Type 0 where
+  pub bytes : r ≡ bytesOf (writtenAs lacks form before)
+  pub text : after ≡ writtenIn lacks form before
+
+-- `fever_write_event`: the line of the event that four numbers are
+abbrev pub WritesEvent : Read → List ℕ → ℕ → List ℕ → Type 0
+WritesEvent (Read.Event e) before r after = WritesLine (lacksForm e) (eventForm e) before r after
+WritesEvent Read.Opening before r after = WritesLine true [] before r after
+WritesEvent Read.NoForm before r after = WritesLine true [] before r after
+
+-- `fever_write_setup`: the line of the setup in the first 69 words
+abbrev pub WritesSetup : List ℕ → List ℕ → ℕ → List ℕ → Type 0
+WritesSetup ws before r after =
+    WritesLine (ltb (length ws) setupLength || lacksSetupForm (setupIn ws)) (setupForm (setupIn ws)) before r after

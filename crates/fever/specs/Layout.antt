@@ -1,0 +1,147 @@
+-- How a run, a setup, one processor's record, an event and what a line is read as stand in the words that a caller of the library lends.
+use mathlib.Core.Bool.{Bool, cond}
+use mathlib.Core.List.{List, [], _∷_, _++_}
+use Prim.Native.Nat.{ℕ}
+use lib.Dec.{eqb, ltb}
+use lib.ListN.{getD, take, drop}
+use Rattle.types.specs.declared.Plan.{Plan}
+use Rattle.types.specs.declared.Message.{Message}
+use Rattle.types.specs.declared.Event.{Event}
+use Rattle.types.specs.declared.Event.the-variants.{Deliver, Sign, Show, Settle, Tick}
+use Rattle.types.specs.declared.Setup.{Setup}
+use Rattle.types.specs.declared.Run.{Run}
+use Rattle.types.specs.declared.Processor.{Processor}
+use Rattle.types.specs.Quantities.{tableClocks}
+use Rattle.types.specs.Messages.{kindOf, viewIn, processorIn}
+use Rattle.model.specs.State.{runOf}
+use Rattle.buffers.specs.declared.Stored.{Stored}
+use Rattle.buffers.specs.declared.Stored.the-variants.{Holds, Unknown}
+use Rattle.buffers.specs.Kinds.{storedAs}
+use Rattle.lines.specs.declared.Read.{Read}
+use Rattle.lines.specs.declared.Read.the-variants as Read
+use Rattle.lines.specs.declared.Reading.{Reading}
+use Rattle.fever.specs.declared.Numbers.{Numbers}
+
+-- ---- a plan: n, Δ, Γ, V, the first four words of a run and of a setup
+
+abbrev pub planOf : ℕ → ℕ → ℕ → ℕ → Plan
+planOf n delta gamma views = record { n = n; delta = delta; gamma = gamma; views = views }
+
+abbrev pub planIn : List ℕ → Plan
+planIn ws = planOf (getD ws 0 0) (getD ws 1 0) (getD ws 2 0) (getD ws 3 0)
+
+abbrev pub faultyWord : ℕ
+faultyWord = 4
+
+-- a table of 64 words from a place on
+abbrev pub tableIn : ℕ → List ℕ → List ℕ
+tableIn at ws = take tableClocks (drop at ws)
+
+-- ---- a setup: the plan, the faulty set, 64 start clocks
+
+abbrev pub setupLength : ℕ
+setupLength = 69
+
+abbrev pub startWord : ℕ
+startWord = 5
+
+unfoldable pub setupIn : List ℕ → Setup
+setupIn ws = record { plan = planIn ws; faulty = getD ws faultyWord 0; clocks = tableIn startWord ws }
+
+abbrev pub setupWords : Setup → List ℕ
+setupWords u = u .plan .n ∷ u .plan .delta ∷ u .plan .gamma ∷ u .plan .views ∷ u .faulty ∷ u .clocks
+
+-- ---- a run: the plan, the faulty set, the time, whether the network has settled (0 or 1) and when, the messages held, 64 clocks, 64 views
+
+abbrev pub runLength : ℕ
+runLength = 137
+
+abbrev pub timeWord : ℕ
+timeWord = 5
+
+abbrev pub settledWord : ℕ
+settledWord = 6
+
+abbrev pub gstWord : ℕ
+gstWord = 7
+
+abbrev pub heldWord : ℕ
+heldWord = 8
+
+abbrev pub clocksWord : ℕ
+clocksWord = 9
+
+abbrev pub viewsWord : ℕ
+viewsWord = 73
+
+unfoldable pub runIn : List ℕ → Run
+runIn ws =
+    runOf (planIn ws) (getD ws faultyWord 0) (getD ws timeWord 0) (eqb (getD ws settledWord 0) 1) (getD ws gstWord 0) (getD ws heldWord 0)
+    (tableIn clocksWord ws) (tableIn viewsWord ws)
+
+-- a settled word that is of no run
+abbrev pub neitherSettled : List ℕ → Bool
+neitherSettled ws = ltb 1 (getD ws settledWord 0)
+
+abbrev pub settledAs : Bool → ℕ
+settledAs settled = cond settled 1 0
+
+abbrev pub runNumbers : Run → List ℕ
+runNumbers r =
+    r .plan .n ∷ r .plan .delta ∷ r .plan .gamma ∷ r .plan .views ∷ r .faulty ∷ r .time ∷ settledAs (r .settled) ∷ r .gst ∷ r .held ∷ []
+
+abbrev pub runWords : Run → List ℕ
+runWords r = runNumbers r ++ (r .clocks ++ r .views)
+
+-- ---- one processor's record: number, clock, view; a fourth word takes what it sends
+
+abbrev pub recordLength : ℕ
+recordLength = 4
+
+abbrev pub recordIn : List ℕ → Processor
+recordIn ws = record { number = getD ws 0 0; clock = getD ws 1 0; view = getD ws 2 0 }
+
+-- ---- an event: form (1 deliver, 2 sign, 3 show, 4 settle, 5 tick), kind, view (of a tick: how many), processor
+
+-- the message of a form that carries one
+abbrev pub carried : ℕ → Message → Read
+carried form m =
+    cond (eqb form 1) (Read.Event (Deliver m)) (cond (eqb form 2) (Read.Event (Sign m)) (cond (eqb form 3) (Read.Event (Show m)) Read.NoForm))
+
+-- a kind outside 1 to 4 is of no message
+abbrev pub carrying : ℕ → Stored → Read
+carrying form (Holds m) = carried form m
+carrying form Unknown = Read.NoForm
+
+-- what four numbers are read as: an event, or none; of settle the other three are not read, of tick kind and processor are not
+unfoldable pub eventIn : ℕ → ℕ → ℕ → ℕ → Read
+eventIn form kind view processor =
+    cond (eqb form 4) (Read.Event Settle) (cond (eqb form 5) (Read.Event (Tick view)) (carrying form (storedAs kind view processor)))
+
+abbrev pub numbersOf : ℕ → ℕ → ℕ → ℕ → Numbers
+numbersOf form kind view processor = record { form = form; kind = kind; view = view; processor = processor }
+
+abbrev pub messageNumbers : ℕ → Message → Numbers
+messageNumbers form m = numbersOf form (kindOf m) (viewIn m) (processorIn m)
+
+-- and the numbers of an event, 0 where its form has none
+abbrev pub eventNumbers : Event → Numbers
+eventNumbers (Deliver m) = messageNumbers 1 m
+eventNumbers (Sign m) = messageNumbers 2 m
+eventNumbers (Show m) = messageNumbers 3 m
+eventNumbers Settle = numbersOf 4 0 0 0
+eventNumbers (Tick m) = numbersOf 5 0 m 0
+
+-- ---- what a line is read as: the numbers of its event, or form 6 for an opening; then its setup, 0 everywhere beside an event
+
+abbrev pub readingLength : ℕ
+readingLength = 73
+
+abbrev pub readNumbers : Read → Numbers
+readNumbers (Read.Event e) = eventNumbers e
+readNumbers Read.Opening = numbersOf 6 0 0 0
+readNumbers Read.NoForm = numbersOf 0 0 0 0
+
+abbrev pub readingWords : Reading → List ℕ
+readingWords x =
+    let k = readNumbers (x .read) in k .form ∷ k .kind ∷ k .view ∷ k .processor ∷ setupWords (x .setup)

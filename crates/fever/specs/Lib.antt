@@ -1,0 +1,4 @@
+-- What the contracts of the exported functions cite.
+pub mod Layout
+pub mod Contracts
+pub mod Promises

@@ -1,0 +1,143 @@
+// The library for C and Rust: the simulator, one processor's pacemaker, and lines, over numbers and lent words and bytes. Every function takes every
+// argument; a refused call has changed nothing that was lent.
+mod events;
+mod steps;
+mod words;
+
+use lines::Read;
+use lines::Written;
+use types::Plan;
+ghost use mathlib.Core.Path.{_≡_};
+ghost use Rattle.fever.specs.Layout.{planOf, eventIn};
+ghost use Rattle.fever.specs.Contracts.{lentOf, OpensWords, AppliesWords, moveOf, StepsWords, ReadsWords, bytesOf, WritesEvent, WritesSetup};
+
+// An event, or a line that is read, in numbers. Form: 1 deliver, 2 sign, 3 show, 4 settle, 5 tick; 6 an opening, 0 none of them.
+pub(crate) struct Numbers {
+    pub(crate) form: u64,
+    pub(crate) kind: u64,
+    pub(crate) view: u64,
+    pub(crate) processor: u64,
+}
+
+// A setup is opened.
+#[no_mangle]
+pub extern "C" fn fever_open(
+    setup: &[u64],
+    run: &mut [u64],
+    tally: &mut [u64],
+    network: &mut [u64],
+) -> u64
+    ensures { λ r. ⌜ OpensWords (now (setup .entry)) (lentOf (now (run .entry)) (now (tally .entry)) (now (network .entry))) r
+        (lentOf (now (run .exit)) (now (tally .exit)) (now (network .exit))) ⌝ }
+{
+    if setup.len() < words::SETUP_WORDS {
+        return 1;
+    }
+    if run.len() < words::RUN_WORDS {
+        return 1;
+    }
+    let start = words::setup_in(setup);
+    let before = words::run_in(run);
+    let applied = simulator::open(before, start, tally, network);
+    words::put_applied(run, applied)
+}
+
+// An event is applied.
+#[no_mangle]
+pub extern "C" fn fever_apply(
+    run: &mut [u64],
+    form: u64,
+    kind: u64,
+    view: u64,
+    processor: u64,
+    tally: &mut [u64],
+    network: &mut [u64],
+) -> u64
+    ensures { λ r. ⌜ AppliesWords form kind view processor (lentOf (now (run .entry)) (now (tally .entry)) (now (network .entry))) r
+        (lentOf (now (run .exit)) (now (tally .exit)) (now (network .exit))) ⌝ }
+{
+    if run.len() < words::RUN_WORDS {
+        return 1;
+    }
+    let Read::Event(event) = events::event_in(form, kind, view, processor) else {
+        return 1;
+    };
+    steps::apply_event(run, event, tally, network)
+}
+
+// One processor takes an input.
+#[no_mangle]
+pub extern "C" fn fever_step(
+    n: u64,
+    delta: u64,
+    gamma: u64,
+    views: u64,
+    processor: &mut [u64],
+    input: u64,
+    view: u64,
+) -> u64
+    ensures { λ r. ⌜ StepsWords (moveOf (planOf n delta gamma views) input view (now (processor .entry))) (now (processor .entry)) r (now (processor .exit)) ⌝ }
+{
+    let plan = Plan {
+        n: n,
+        delta: delta,
+        gamma: gamma,
+        views: views,
+    };
+    steps::step_record(plan, processor, input, view)
+}
+
+// A line, without its newline, is read.
+#[no_mangle]
+pub extern "C" fn fever_read_line(line: &[u8], words: &mut [u64]) -> u64
+    ensures { λ r. ⌜ ReadsWords (now (line .entry)) (now (words .entry)) r (now (words .exit)) ⌝ }
+{
+    if words.len() < words::READING_WORDS {
+        return 1;
+    }
+    let reading = reader::read_line(line);
+    let read = reading.read;
+    match read {
+        Read::Event(_) => words::put_reading(words, reading),
+        Read::Opening => words::put_reading(words, reading),
+        Read::NoForm => 1,
+    }
+}
+
+// How many bytes were written; 0 for none.
+fn count_bytes(written: Written) -> u64
+    ensures { λ r. ⌜ r ≡ bytesOf written ⌝ }
+{
+    match written {
+        Written::Bytes(k) => k as u64,
+        Written::Refused(_) => 0,
+    }
+}
+
+// The line of an event is written.
+#[no_mangle]
+pub extern "C" fn fever_write_event(
+    form: u64,
+    kind: u64,
+    view: u64,
+    processor: u64,
+    out: &mut [u8],
+) -> u64
+    ensures { λ r. ⌜ WritesEvent (eventIn form kind view processor) (now (out .entry)) r (now (out .exit)) ⌝ }
+{
+    let Read::Event(event) = events::event_in(form, kind, view, processor) else {
+        return 0;
+    };
+    count_bytes(writer::write_event(event, out))
+}
+
+// The line of a setup is written.
+#[no_mangle]
+pub extern "C" fn fever_write_setup(setup: &[u64], out: &mut [u8]) -> u64
+    ensures { λ r. ⌜ WritesSetup (now (setup .entry)) (now (out .entry)) r (now (out .exit)) ⌝ }
+{
+    if setup.len() < words::SETUP_WORDS {
+        return 0;
+    }
+    count_bytes(writer::write_setup(words::setup_in(setup), out))
+}

@@ -1,0 +1,155 @@
+/*
+ * The Fever pacemaker and its simulator, for C.
+ *
+ * Link with target/staticlib/libfever.a, which `rt staticlib fever` proves and writes (x86-64 Linux).
+ *
+ * Numbers are 64-bit. Memory is lent as a pointer and how many elements there are; nothing is kept between calls and nothing is
+ * allocated. What is lent to one call must not overlap, and nobody else may write it meanwhile. Every function takes every
+ * argument: there is nothing that a caller has to see to first. A call that is refused answers a check's number and has changed
+ * nothing that was lent. The contract of each function is in crates/fever/specs/Contracts.antt, the layouts are in Layout.antt.
+ *
+ * The checks: 1 no such form, or too few elements lent; 2 to 8 refuse an opening; 9 to 18 an event; one processor uses 9, 10, 11 and
+ * 17. The README lists them.
+ */
+#ifndef FEVER_H
+#define FEVER_H
+
+#include <stddef.h>
+#include <stdint.h>
+
+#ifdef __cplusplus
+extern "C" {
+#endif
+
+/* ---- a run: the execution so far, without the two lent buffers */
+
+#define FEVER_RUN_WORDS 137
+#define FEVER_RUN_N 0        /* n, the processors */
+#define FEVER_RUN_DELTA 1    /* the delay */
+#define FEVER_RUN_GAMMA 2    /* the slot */
+#define FEVER_RUN_LIMIT 3    /* V, the view limit */
+#define FEVER_RUN_FAULTY 4   /* the faulty processors, bit p for processor p */
+#define FEVER_RUN_TIME 5     /* the ticks since the opening */
+#define FEVER_RUN_SETTLED 6  /* 1 once the network has settled, else 0 */
+#define FEVER_RUN_GST 7      /* when it settled, else 0 */
+#define FEVER_RUN_HELD 8     /* the messages in the network */
+#define FEVER_RUN_CLOCKS 9   /* 64 clocks, by processor */
+#define FEVER_RUN_VIEWS 73   /* 64 views, by processor */
+
+/* ---- a setup: what a run is opened with */
+
+#define FEVER_SETUP_WORDS 69
+#define FEVER_SETUP_N 0
+#define FEVER_SETUP_DELTA 1
+#define FEVER_SETUP_GAMMA 2
+#define FEVER_SETUP_LIMIT 3
+#define FEVER_SETUP_FAULTY 4
+#define FEVER_SETUP_CLOCKS 5 /* 64 start clocks; those of faulty processors and from n on are not read */
+
+/* ---- the two lent buffers
+ *
+ * The tally has four words a view: the correct processors that entered it, those whose view message its leader heard, those whose
+ * vote it heard, and two marks (1 view certificate formed, 2 quorum certificate formed). It needs 4V words.
+ * The network has four words a message in flight: kind, view, processor, sending time. It needs 8n words and may have 524,288.
+ */
+
+#define FEVER_TALLY_ROW_WORDS 4
+#define FEVER_NETWORK_MESSAGE_WORDS 4
+#define FEVER_NETWORK_MOST 524288
+
+/* ---- an event: four numbers */
+
+/* its form */
+#define FEVER_DELIVER 1 /* a message leaves the network and is handled */
+#define FEVER_SIGN 2    /* a faulty processor's view message or vote reaches the leader */
+#define FEVER_SHOW 3    /* the adversary shows a certificate to a correct processor */
+#define FEVER_SETTLE 4  /* from now on the network keeps its delay; kind, view and processor are not read */
+#define FEVER_TICK 5    /* ticks, as many as `view` says; kind and processor are not read */
+#define FEVER_OPEN 6    /* no event: what `fever_read_line` answers for the line of a setup */
+
+/* the kind of its message; the processor is the sender of the first two, the receiver of the others */
+#define FEVER_VIEW 1 /* a view message */
+#define FEVER_VOTE 2 /* a vote */
+#define FEVER_VC 3   /* a view certificate */
+#define FEVER_QC 4   /* a quorum certificate */
+
+/*
+ * Opens a run. Answers 0, or the check that refuses: 1 where the setup has fewer than 69 words or the run fewer than 137, else 2
+ * to 8. Opened: the run's 137 words are the new run's, the first 4V words of the tally and the whole network are set anew. Refused:
+ * nothing has changed. The run at hand is not judged: its words may hold anything.
+ */
+uint64_t fever_open(const uint64_t *setup, size_t setup_len, uint64_t *run, size_t run_len, uint64_t *tally, size_t tally_len,
+                    uint64_t *network, size_t network_len);
+
+/*
+ * Applies an event. Answers 0 where it was done, else a check: 1 where the run has fewer than 137 words, the four numbers are no
+ * event, there are 0 ticks or the form lacks the kind; 9 where the run is unsound, a settled word above 1 among it; or 10 to 18.
+ *
+ * Ticks may be stopped after some of them were done: the answer is then the check that the next tick would meet, and the run has
+ * moved. The ticks done are the time gained, run[FEVER_RUN_TIME] after the call less before it; the messages held are
+ * run[FEVER_RUN_HELD]. So an answer other than 0 with the time as it was is a refusal, and nothing that was lent has changed.
+ */
+uint64_t fever_apply(uint64_t *run, size_t run_len, uint64_t form, uint64_t kind, uint64_t view, uint64_t processor,
+                     uint64_t *tally, size_t tally_len, uint64_t *network, size_t network_len);
+
+/* ---- one processor */
+
+#define FEVER_PROCESSOR_WORDS 4
+#define FEVER_PROCESSOR_NUMBER 0
+#define FEVER_PROCESSOR_CLOCK 1
+#define FEVER_PROCESSOR_VIEW 2
+#define FEVER_PROCESSOR_SENDS 3 /* written by an accepted step, never read: how many messages the processor sends */
+
+/* what it sends, for the view that then stands in FEVER_PROCESSOR_VIEW */
+#define FEVER_SENDS_NOTHING 0
+#define FEVER_SENDS_VOTE 1          /* its vote */
+#define FEVER_SENDS_VIEW_AND_VOTE 2 /* its view message and then its vote */
+
+/* its input */
+#define FEVER_INPUT_TICK 0 /* its clock ticks; the view is not read */
+#define FEVER_INPUT_VC 3   /* it receives a view certificate for the view */
+#define FEVER_INPUT_QC 4   /* it receives a quorum certificate for the view */
+
+/*
+ * Moves one processor: its record is lent and altered there. Answers 0, or the check that refuses: 1 where the record has fewer
+ * than 4 words or the input is none of the three, else 9, 10, 11 or 17. `views` is the view limit. Which processors are faulty is
+ * not known here: what it sends is for a leader faulty or not.
+ */
+uint64_t fever_step(uint64_t n, uint64_t delta, uint64_t gamma, uint64_t views, uint64_t *processor, size_t processor_len,
+                    uint64_t input, uint64_t view);
+
+/* ---- lines */
+
+#define FEVER_LINE_BYTES 1440 /* no line of an event or a setup has more bytes, its newline included */
+
+#define FEVER_READING_WORDS 73
+#define FEVER_READING_FORM 0      /* 1 to 5 an event, 6 an opening */
+#define FEVER_READING_KIND 1      /* 0 where the form has none, and so for the next two */
+#define FEVER_READING_VIEW 2      /* of a tick: how many */
+#define FEVER_READING_PROCESSOR 3
+#define FEVER_READING_SETUP 4     /* the 69 words of an opening's setup, clocks from n on being 0; all 0 for an event */
+
+/*
+ * Reads a line, handed in without its newline. Answers 0, and the line stands in the first 73 words; or 1 where it is none of the
+ * forms or fewer than 73 words are lent, and nothing has changed.
+ */
+uint64_t fever_read_line(const uint8_t *line, size_t line_len, uint64_t *words, size_t words_len);
+
+/*
+ * Writes the line of an event, newline included. Answers the bytes written; or 0 where the four numbers are no event, the event
+ * has no form or the bytes lent are too few, and no byte has changed. Bytes behind the newline are untouched.
+ */
+uint64_t fever_write_event(uint64_t form, uint64_t kind, uint64_t view, uint64_t processor, uint8_t *out, size_t out_len);
+
+/*
+ * Writes the line of a setup, newline included, with its first n clocks. Answers the bytes written; or 0 where the setup has fewer
+ * than 69 words, n is 0 or above 64, or the bytes lent are too few, and no byte has changed. Bytes behind the newline are
+ * untouched.
+ */
+uint64_t fever_write_setup(const uint64_t *setup, size_t setup_len, uint8_t *out, size_t out_len);
+
+#ifdef __cplusplus
+}
+#endif
+
+#endif

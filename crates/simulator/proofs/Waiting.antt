@@ -22,8 +22,8 @@ use Rattle.liveness.proofs.Answers.{no-yes}
 use Rattle.liveness.proofs.Link.{correct-below}
 use Rattle.types.specs.PlanFunctions.{nextInitialWord, clockTimeWord}
 use Rattle.pacemaker.specs.Limits.{Within}
-use Rattle.pacemaker.proofs.LimitLaws.{next-within, next-word, time-word, past-views}
-use Rattle.simulator.specs.Inner.{lateAt, someLate, seat}
+use Rattle.pacemaker.proofs.LimitLaws.{within, next-within, next-word, time-word, past-views}
+use Rattle.simulator.specs.Inner.{Fit, lateAt, someLate, seat}
 use Rattle.simulator.specs.Leaps.{later, WaitsFor, WaitsForAll, Waits, RestsFor, Rests}
 
 -- one that passed is enough later too
@@ -116,6 +116,13 @@ pub rests-all : (run : Run) (most : ℕ) (quiet : ℕ) → quiet ≤ most
 rests-all run most quiet few h = record {
   few = few;
   quiet = λ p c. h p (correct-below (run .plan) (run .faulty) p (rw c tt)) c;
+}
+
+-- no tick at all leaves every clock where it is
+pub rests-none : (run : Run) (most : ℕ) → Fit run → Rests run most 0
+rests-none run most fit = record {
+  few = omega arith;
+  quiet = λ p c. omega (arith, before-next (run .plan) (within (run .plan) (fit .plan)) (clockOf run p) (viewOf run p) (fit .clocks p c));
 }
 
 -- one processor more

@@ -111,6 +111,9 @@ pub(crate) fn rest(head: Head, clocks: &[u64; 64], views: &[u64; 64], most: u64)
             },
             quiet,
         );
+        if quiet == 0 {
+            return 0;
+        }
         q += 1;
     }
     quiet

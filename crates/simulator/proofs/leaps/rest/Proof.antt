@@ -1,11 +1,11 @@
-use Rattle.simulator.proofs.Waiting.{rests-all, rests-more}
+use Rattle.simulator.proofs.Waiting.{rests-none, rests-all, rests-more}
 use Rattle.pacemaker.proofs.LimitLaws.{within}
 use Rattle.model.specs.State.{runFrom, isCorrect, clockOf, viewOf}
 use Rattle.types.specs.Quantities.{nextInitial, clockTime}
 use borrow.Author.Needs.{needs, zero≤}
 use native.Mathlib.Omega.{arith}
 use mathlib.Core.Bool.{true}
-use mathlib.Core.Path.{_≡_, refl, sym, _∙_, ap}
+use mathlib.Core.Path.{_≡_}
 use Prim.Native.Nat.{ℕ, _+_, _-_, _≤_, _<_}
 use Rattle.simulator.proofs.leaps.rest.Statement.{statement}
 use Rattle.simulator.proofs.leaps.rest.Tie as tie
@@ -37,6 +37,9 @@ element-copy-out-t17 c = omega (arith, c .before .loop-test .taken, within (c .b
 rest-for-requires : tie.Need-rest-for-requires Inv-loop μ-loop
 rest-for-requires c κs = (within (c .before .before .before .before .args .head .plan) (c .before .before .before .before .pre .plan), λ e. c .before .before .before .before .pre .clocks _ e)
 
+returns : tie.Need-returns Inv-loop μ-loop
+returns c = rests-none (runFrom (c .before .before .before .before .before .before .args .head) (c .before .before .before .before .before .before .args .clocks .now) (c .before .before .before .before .before .before .args .views .now)) (c .before .before .before .before .before .before .args .most) (c .before .before .before .before .before .before .pre)
+
 add-q : tie.Need-add-q Inv-loop μ-loop
 add-q c = search needs
 
@@ -44,10 +47,10 @@ loop-less : tie.Need-loop-less Inv-loop μ-loop
 loop-less c = search needs
 
 loop-again : tie.Need-loop-again Inv-loop μ-loop
-loop-again c = (omega arith, omega (arith, c .before .before .before .before .loop .inv .1, c .rest-for .ensures .few), rests-more (runFrom (c .before .before .before .before .before .args .head) (c .before .before .before .before .before .args .clocks .now) (c .before .before .before .before .before .args .views .now)) _ _ _ (c .before .before .before .before .loop .inv .2) (c .rest-for .ensures))
+loop-again c = (omega arith, omega (arith, c .before .before .before .before .before .loop .inv .1, c .before .rest-for .ensures .few), rests-more (runFrom (c .before .before .before .before .before .before .args .head) (c .before .before .before .before .before .before .args .clocks .now) (c .before .before .before .before .before .before .args .views .now)) _ _ _ (c .before .before .before .before .before .loop .inv .2) (c .before .rest-for .ensures))
 
-returns : tie.Need-returns Inv-loop μ-loop
-returns c = let e : c .before .loop .q ≡ c .before .before .args .head .plan .n = omega arith in rests-all (runFrom (c .before .before .args .head) (c .before .before .args .clocks .now) (c .before .before .args .views .now)) _ _ (c .before .loop .inv .1) (rw e at (c .before .loop .inv .2))
+returns-2 : tie.Need-returns-2 Inv-loop μ-loop
+returns-2 c = let e : c .before .loop .q ≡ c .before .before .args .head .plan .n = omega arith in rests-all (runFrom (c .before .before .args .head) (c .before .before .args .clocks .now) (c .before .before .args .views .now)) _ _ (c .before .loop .inv .1) (rw e at (c .before .loop .inv .2))
 
 pub rest-spec : {M : Type 1} → statement M
 rest-spec =
@@ -61,7 +64,8 @@ rest-spec =
     mul-t14
     element-copy-out-t17
     rest-for-requires
+    returns
     add-q
     loop-less
     loop-again
-    returns)
+    returns-2)

@@ -1,9 +1,11 @@
 //! Styles of play: how a network and faulty processors may pick the next
 //! event of a run, from what is in flight and who is where.
 
+use crate::calls::State;
 use crate::draws::Draws;
 use crate::lies::{self, Lies};
 use crate::scene::Scene;
+use crate::words::FAULTY;
 use reference::Event;
 
 /// Which message in flight is delivered next, if any.
@@ -66,10 +68,16 @@ pub struct Style {
 }
 
 impl Style {
-    /// A drawn style for runs of n processors.
-    pub fn drawn(draws: &mut Draws, n: u64) -> Self {
-        let starved = draws.below(n);
-        let favourite = draws.below(n);
+    /// A drawn style for the run of a state, all of whose words are lent.
+    pub fn of(state: &State, draws: &mut Draws) -> Self {
+        let words = state.run.front();
+        Self::drawn(draws, words[0], words[FAULTY])
+    }
+
+    /// A drawn style for runs of n processors, these of them faulty.
+    pub fn drawn(draws: &mut Draws, n: u64, faulty: u64) -> Self {
+        let starved = correct(draws, n, faulty);
+        let favourite = correct(draws, n, faulty);
         let time = draws.below(200);
         let few = draws.between(1, 9);
         Self {
@@ -188,6 +196,14 @@ impl Style {
     }
 }
 
+/// One of the correct processors.
+pub fn correct(draws: &mut Draws, n: u64, faulty: u64) -> u64 {
+    let correct: Vec<u64> = (0..n.min(64))
+        .filter(|&number| faulty >> number & 1 == 0)
+        .collect();
+    draws.one_of(&correct)
+}
+
 /// The ticks to where something happens next, or one less or more.
 pub fn edge(scene: Scene, draws: &mut Draws) -> u64 {
     let entry = scene.ticks_to_entry();
@@ -201,6 +217,12 @@ mod tests {
     use super::*;
     use crate::trace::Trace;
     use reference::Answer;
+
+    #[test]
+    fn only_the_correct_are_picked() {
+        let mut draws = Draws::new(4);
+        assert!((0..50).all(|_| matches!(correct(&mut draws, 4, 0b1010), 0 | 2)));
+    }
 
     #[test]
     fn the_last_legal_tick_is_waited_for() {

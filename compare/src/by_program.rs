@@ -5,55 +5,84 @@ use crate::counts::Counts;
 use crate::damage;
 use crate::difference::{first_line, Difference};
 use crate::draws::Draws;
+use crate::pending;
 use crate::program::{self, Printout};
+use crate::reference_calls::guarded;
 use crate::schedules;
 use crate::shorten::shorten;
 use crate::trace::{Complaint, Trace};
 use reference::simulate;
+use std::mem;
 use std::path::Path;
 
-/// Drawn schedules joined in one input, besides those of other sorts.
-const JOINED: u64 = 24;
+/// Drawn schedules of one round, besides those of other sorts.
+const DRAWN: u64 = 24;
+/// How many in a thousand schedules end their input. Clocks and views are
+/// printed at the end of an input only, so many of them are compared.
+const ENDING: u64 = 400;
+/// The sizes of the pieces in which inputs are handed over.
+const PIECES: [usize; 5] = [1 << 20, 65_536, 65_535, 4_801, 997];
 
-/// Compares so many inputs, each of many schedules. A later opening begins a
-/// new run, so one process answers them all.
+/// Compares so many rounds of inputs, each of one or more schedules. A later
+/// opening begins a new run, so one process answers all of an input.
 pub fn compare(program: &Path, seed: u64, rounds: u64) -> Result<Counts, Difference> {
     let mut draws = Draws::new(seed);
     let mut counts = Counts::default();
     for round in 0..rounds {
         let mut drawn = draws.branch();
-        let trace = input(&mut drawn, round);
-        if let Some(complaint) = trace.complaint() {
-            return Err(unkept(trace.text(), complaint));
+        for trace in inputs(&mut drawn, round) {
+            uncomplained(&trace)?;
+            let piece = drawn.one_of(&PIECES);
+            pending::leave("last.schedule", trace.text());
+            compare_one(program, trace.text(), piece)?;
+            counts.add(trace.counts());
         }
-        let piece = drawn.one_of(&[1 << 20, 65_536, 65_535, 4_801, 997]);
-        compare_one(program, trace.text(), piece)?;
-        counts.add(trace.counts());
     }
     Ok(counts)
 }
 
-/// One input of many schedules.
-fn input(draws: &mut Draws, round: u64) -> Trace {
+/// Compares one input, handed over in pieces of each size, and watches it.
+pub fn replay(program: &Path, input: &[u8]) -> Result<(), Difference> {
+    uncomplained(&Trace::of(input))?;
+    PIECES
+        .into_iter()
+        .try_for_each(|piece| compare_one(program, input, piece))
+}
+
+/// The inputs of one round.
+fn inputs(draws: &mut Draws, round: u64) -> Vec<Trace> {
+    let mut inputs = Vec::new();
     let mut trace = Trace::new();
     // Before any opening, every event is refused by 9.
     for _ in 0..draws.below(4) {
         schedules::disturb(&mut trace, draws);
     }
-    for _ in 0..JOINED {
+    for _ in 0..DRAWN {
         schedules::drawn(&mut trace, draws);
+        end_at_times(&mut inputs, &mut trace, draws);
     }
     let n = draws.one_of(&[4, 4, 5, 6, 7, 8, 10, 13]);
     schedules::patient(&mut trace, draws, n);
+    end_at_times(&mut inputs, &mut trace, draws);
     if round.is_multiple_of(4) {
         schedules::crowded(&mut trace, draws);
+        end_at_times(&mut inputs, &mut trace, draws);
     }
     if round.is_multiple_of(10) {
         let n = draws.one_of(&[16, 31, 64]);
         schedules::patient(&mut trace, draws, n);
     }
     end(&mut trace, draws);
-    trace
+    inputs.push(trace);
+    inputs
+}
+
+/// Ends an input here and begins another, at times.
+fn end_at_times(inputs: &mut Vec<Trace>, trace: &mut Trace, draws: &mut Draws) {
+    if draws.per_mille(ENDING) {
+        end(trace, draws);
+        inputs.push(mem::take(trace));
+    }
 }
 
 /// Half of the inputs end with bytes that no newline follows.
@@ -74,7 +103,9 @@ pub fn compare_one(program: &Path, input: &[u8], piece: usize) -> Result<(), Dif
         return Ok(());
     };
     let cut = what.1.map_or(input.len(), |line| end_of_line(input, line));
-    let lines: Vec<&[u8]> = input[..cut]
+    // What comes behind the first line that differs may be needed all the same.
+    let alone = differs(program, &input[..cut], piece).is_some();
+    let lines: Vec<&[u8]> = input[..if alone { cut } else { input.len() }]
         .split_inclusive(|&byte| byte == b'\n')
         .collect();
     let kept = shorten(lines, 600, |lines| {
@@ -95,7 +126,10 @@ fn differs(program: &Path, input: &[u8], piece: usize) -> Option<(String, Option
         Ok(printout) => printout,
         Err(error) => return Some((error.to_string(), None)),
     };
-    let (line, told) = match first_line(&bytes, &simulate(input)) {
+    let Some(expected) = guarded(|| simulate(input)) else {
+        return Some(("the reference panicked".to_owned(), None));
+    };
+    let (line, told) = match first_line(&bytes, &expected) {
         Some(difference) => difference,
         None => return failure.map(|failure| (failure, None)),
     };
@@ -111,16 +145,21 @@ fn end_of_line(input: &[u8], line: usize) -> usize {
         .map_or(input.len(), |(place, _)| place + 1)
 }
 
-/// A list of events that does not keep demand 3, from its opening on.
-fn unkept(text: &[u8], complaint: &Complaint) -> Difference {
-    let text = &text[..complaint.bytes];
-    let lines: Vec<&[u8]> = text.split_inclusive(|&byte| byte == b'\n').collect();
-    let opening = lines.iter().rposition(|line| line.starts_with(b"(open "));
-    Difference {
-        what: format!("the reference does not keep demand 3: {}", complaint.what),
-        name: "demand_three.schedule".to_owned(),
-        contents: lines[opening.unwrap_or(0)..].concat(),
+/// The difference that a trace's complaint is, if it has one.
+fn uncomplained(trace: &Trace) -> Result<(), Difference> {
+    let Some(Complaint { shown_by, what }) = trace.complaint() else {
+        return Ok(());
+    };
+    // From the opening on, if that shows it by itself.
+    let mut contents = &trace.text()[shown_by.clone()];
+    if Trace::of(contents).complaint().is_none() {
+        contents = &trace.text()[..shown_by.end];
     }
+    Err(Difference {
+        what: what.clone(),
+        name: "complaint.schedule".to_owned(),
+        contents: contents.to_vec(),
+    })
 }
 
 #[cfg(test)]
@@ -144,8 +183,11 @@ mod tests {
     }
 
     #[test]
-    fn the_same_seed_makes_the_same_input() {
-        let text = || input(&mut Draws::new(3), 0).text().to_vec();
-        assert!(text() == text());
+    fn the_same_seed_makes_the_same_inputs() {
+        let texts = || -> Vec<Vec<u8>> {
+            let inputs = inputs(&mut Draws::new(3), 0);
+            inputs.iter().map(|input| input.text().to_vec()).collect()
+        };
+        assert!(texts().len() > 1 && texts() == texts());
     }
 }

@@ -1,15 +1,14 @@
 //! One call of the library and the same of the reference, from the same words:
 //! answers, runs and every word compared, lent or not.
 
-use crate::difference::{first_word, Difference};
+use crate::difference::{first_word, told, Difference};
 use crate::lent::Lent;
-use crate::reference_calls;
+use crate::reference_calls::{self, guarded};
 use crate::scene::Scene;
-use crate::words::{self, Numbers, RUN_WORDS};
+use crate::words::{self, Numbers, RUN_WORDS, TICK, TIME};
 use fever::raw;
 use reference::Run;
 use std::fmt::Write;
-use std::panic::{catch_unwind, AssertUnwindSafe};
 
 /// A run with its lent words.
 #[derive(Clone, PartialEq, Eq, Debug)]
@@ -82,21 +81,20 @@ impl State {
         let before = self.clone();
         let mut proved = self.clone();
         let answer = proved.prove(call);
-        let referred = catch_unwind(AssertUnwindSafe(|| self.refer(call)));
+        let expected = guarded(|| self.refer(call));
         let apart = |told: String| before.shows(call, &told);
-        let Ok(expected) = referred else {
-            return Err(apart(format!("proved: {answer}\nreference: it panicked")));
-        };
-        if answer != expected {
+        if Some(answer) != expected {
+            let expected = told(expected);
             let told = format!("answers differ\nproved: {answer}\nreference: {expected}");
             return Err(apart(told));
         }
         if let Some(told) = proved.told_apart(self) {
             return Err(apart(told));
         }
-        // The time moves exactly if ticks were done.
-        let unmoved = self.run.all().get(5) == before.run.all().get(5);
-        if answer != 0 && unmoved && *self != before {
+        // Only ticks of which some were done before a check ended them.
+        let rose = self.run.front().get(TIME) > before.run.front().get(TIME);
+        let some_done = rose && matches!(call, Call::Apply([TICK, ..]));
+        if answer != 0 && !some_done && *self != before {
             return Err(apart(format!(
                 "refused by {answer}, both changed something"
             )));

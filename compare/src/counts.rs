@@ -16,8 +16,8 @@ pub struct Counts {
     pub ticks: u64,
     /// Accepted ones.
     pub accepted: u64,
-    /// Accepted runs of ticks that a check ended.
-    pub stopped: u64,
+    /// Per check, the accepted runs of ticks that it ended.
+    pub stopped: [u64; 19],
     /// Per check, how often it refused a call or ended a run of ticks.
     pub met: [u64; 19],
     /// Lists of events, each from an accepted opening on.
@@ -36,10 +36,8 @@ impl Counts {
                 self.ticks += ticks;
             }
             Answer::Stopped { ticks, check, .. } => {
-                self.accepted += 1;
-                self.stopped += 1;
                 self.ticks += ticks;
-                self.check(check);
+                self.stop(check);
             }
             Answer::Refused(check) => self.check(check),
         }
@@ -55,6 +53,27 @@ impl Counts {
         }
     }
 
+    /// Takes in such a number, and by how much the time rose: a check that
+    /// ends some ticks has accepted them.
+    pub fn moved(&mut self, check: u64, ticks: u64) {
+        self.ticks += ticks;
+        if check != 0 && ticks > 0 {
+            self.calls += 1;
+            self.stop(check);
+        } else {
+            self.call(check);
+        }
+    }
+
+    /// A run of ticks that a check ended.
+    fn stop(&mut self, check: u64) {
+        self.accepted += 1;
+        if let Some(times) = self.stopped.get_mut(check as usize) {
+            *times += 1;
+        }
+        self.check(check);
+    }
+
     fn check(&mut self, check: u64) {
         if let Some(times) = self.met.get_mut(check as usize) {
             *times += 1;
@@ -68,18 +87,25 @@ impl Counts {
         self.openings += other.openings;
         self.ticks += other.ticks;
         self.accepted += other.accepted;
-        self.stopped += other.stopped;
         self.lists += other.lists;
         self.due += other.due;
         for (times, more) in self.met.iter_mut().zip(other.met) {
             *times += more;
         }
+        for (times, more) in self.stopped.iter_mut().zip(other.stopped) {
+            *times += more;
+        }
     }
 
-    /// The checks from 1 to 18 that were not met.
-    pub fn unmet(&self) -> Vec<u64> {
-        (1..=18)
-            .filter(|&check| self.met[check as usize] == 0)
+    /// The checks from 1 to 18 that were met less often.
+    pub fn met_below(&self, least: u64) -> Vec<usize> {
+        (1..=18).filter(|&check| self.met[check] < least).collect()
+    }
+
+    /// The checks that end ticks, of those that ended ticks less often.
+    pub fn stopped_below(&self, least: u64) -> Vec<usize> {
+        (16..=18)
+            .filter(|&check| self.stopped[check] < least)
             .collect()
     }
 }
@@ -88,16 +114,31 @@ impl Display for Counts {
     fn fmt(&self, out: &mut Formatter) -> fmt::Result {
         writeln!(
             out,
-            "{}, of these {} events, {} openings; {} accepted, {} of them ticks that a check \
-             ended; {} single ticks",
-            self.calls, self.events, self.openings, self.accepted, self.stopped, self.ticks
+            "{}, of these {} events, {} openings; {} accepted; {} single ticks",
+            self.calls, self.events, self.openings, self.accepted, self.ticks
         )?;
-        let met = (1..=18).filter(|&check| self.met[check] > 0);
-        let met: Vec<String> = met
-            .map(|check| format!("{check}: {}", self.met[check]))
-            .collect();
-        writeln!(out, "  check: times met: {}", met.join(", "))
+        writeln!(out, "  check: times met: {}", by_check(&self.met))?;
+        if self.stopped.iter().any(|&times| times > 0) {
+            writeln!(out, "  check: ticks ended: {}", by_check(&self.stopped))?;
+        }
+        if self.lists > 0 {
+            writeln!(
+                out,
+                "  demand 3: {} lists of events watched, {} of them came under its second sentence",
+                self.lists, self.due
+            )?;
+        }
+        Ok(())
     }
+}
+
+/// Those that are not 0.
+fn by_check(times: &[u64; 19]) -> String {
+    let some = times.iter().enumerate().filter(|(_, &times)| times > 0);
+    let told: Vec<String> = some
+        .map(|(check, times)| format!("{check}: {times}"))
+        .collect();
+    told.join(", ")
 }
 
 #[cfg(test)]
@@ -115,8 +156,11 @@ mod tests {
         });
         counts.answer(&Answer::Refused(16));
         counts.call(1);
-        assert_eq!((counts.calls, counts.accepted, counts.stopped), (4, 2, 1));
-        assert_eq!((counts.met[16], counts.met[1], counts.ticks), (2, 1, 5));
-        assert_eq!(counts.unmet().len(), 16);
+        counts.moved(18, 4);
+        counts.moved(18, 0);
+        assert_eq!((counts.calls, counts.accepted, counts.ticks), (6, 3, 9));
+        assert_eq!((counts.met[16], counts.met[1], counts.met[18]), (2, 1, 2));
+        assert_eq!(counts.met_below(1).len(), 15);
+        assert_eq!(counts.stopped_below(1), [17]);
     }
 }

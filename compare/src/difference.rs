@@ -37,6 +37,11 @@ impl Difference {
     }
 }
 
+/// What the reference answered, if it did.
+pub fn told(answer: Option<u64>) -> String {
+    answer.map_or_else(|| "it panicked".to_owned(), |answer| answer.to_string())
+}
+
 /// The first line in which two printouts differ, counted from 0, with both of
 /// them there; none if they are the same.
 pub fn first_line(proved: &[u8], reference: &[u8]) -> Option<(usize, String)> {

@@ -26,6 +26,7 @@ pub mod lies;
 pub mod measure;
 pub mod openings;
 pub mod options;
+pub mod pending;
 pub mod program;
 pub mod reference_calls;
 pub mod scene;

@@ -1,6 +1,7 @@
 //! What faulty processors do: sign at the best or the worst moment, show
 //! certificates to whom they like.
 
+use crate::adversary;
 use crate::draws::Draws;
 use crate::scene::{Scene, Word};
 use reference::{Event, Message};
@@ -29,7 +30,7 @@ pub fn pick(lies: Lies, scene: Scene, draws: &mut Draws) -> Option<Event> {
         Lies::Eager | Lies::Decisive | Lies::Late => signature(lies, scene, draws),
         Lies::ToOne(processor) => shown(scene, draws, processor),
         Lies::Any => {
-            let to = draws.below(scene.run.plan.n);
+            let to = adversary::correct(draws, scene.run.plan.n, scene.run.faulty);
             match draws.below(4) {
                 0 => signature(Lies::Eager, scene, draws),
                 1 => signature(Lies::Decisive, scene, draws),

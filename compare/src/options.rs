@@ -6,7 +6,7 @@ use std::path::PathBuf;
 pub const USAGE: &str = "\
 compare                          the gate's comparison: always the same
 compare --rounds N [--seed S]    a comparison of N rounds; the gate's has 40, and its seed is 1
-compare --replay FILE            one schedule through both programs
+compare --replay FILE            one schedule through both programs, watched for demand 3
 ";
 
 /// The rounds of the gate's comparison.
@@ -44,7 +44,7 @@ pub fn parse(words: &[String]) -> Option<Options> {
         }
         _ => return None,
     };
-    Some(Options::Compare { rounds, seed, gate })
+    (rounds > 0).then_some(Options::Compare { rounds, seed, gate })
 }
 
 #[cfg(test)]
@@ -63,7 +63,7 @@ mod tests {
         assert_eq!(parsed("--rounds 7"), asked(7, SEED, false));
         assert_eq!(parsed("--seed 5 --rounds 7"), asked(7, 5, false));
         assert_eq!(parsed("--replay a"), Some(Options::Replay("a".into())));
-        for line in ["--rounds", "--rounds x", "7", "--replay"] {
+        for line in ["--rounds", "--rounds x", "--rounds 0", "7", "--replay"] {
             assert_eq!(parsed(line), None);
         }
     }

@@ -3,6 +3,13 @@
 
 use crate::words::{self, Numbers, OPENING, READ_WORDS, RUN_WORDS, SETTLED, SETUP_WORDS};
 use reference::{Answer, Input, Plan, Processor, Reading, Stepped};
+use std::panic::{catch_unwind, AssertUnwindSafe};
+
+/// What a call answers; none if it panics. What it was lent is then not looked
+/// at any more.
+pub fn guarded<T>(call: impl FnOnce() -> T) -> Option<T> {
+    catch_unwind(AssertUnwindSafe(call)).ok()
+}
 
 /// The check of an answer, 0 for one accepted whole.
 const fn check_of(answer: &Answer) -> u64 {

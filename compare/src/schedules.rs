@@ -1,6 +1,6 @@
 //! Drawn schedules: openings, styles of play, and lines that disturb them.
 
-use crate::adversary::{Order, Pace, Settling, Style};
+use crate::adversary::{self, Order, Pace, Settling, Style};
 use crate::damage;
 use crate::draws::Draws;
 use crate::lies::Lies;
@@ -25,7 +25,7 @@ pub fn drawn(trace: &mut Trace, draws: &mut Draws) {
     }
     let setup = openings::accepted(draws, MOST_VIEWS);
     trace.opening(&setup);
-    let style = Style::drawn(draws, setup.plan.n);
+    let style = Style::drawn(draws, setup.plan.n, setup.faulty);
     let lines = draws.one_of(&[40, 150, 400, 400, 900]);
     play(trace, draws, &style, disturbed, lines);
 }
@@ -42,7 +42,7 @@ pub fn patient(trace: &mut Trace, draws: &mut Draws, n: u64) {
     };
     let setup = openings::accepted_of(draws, plan);
     trace.opening(&setup);
-    let favourite = draws.below(n);
+    let favourite = adversary::correct(draws, n, setup.faulty);
     let style = Style {
         order: draws.one_of(&[Order::Last, Order::Last, Order::Starve(favourite)]),
         deliveries: 900,
@@ -238,7 +238,7 @@ mod tests {
             drawn(&mut trace, &mut draws);
         }
         crowded(&mut trace, &mut draws);
-        assert_eq!(trace.counts().unmet(), []);
+        assert_eq!(trace.counts().met_below(1), []);
         assert!(trace.complaint().is_none());
         let counts = trace.counts();
         assert!(2 * counts.accepted > counts.calls, "{counts}");

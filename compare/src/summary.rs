@@ -5,10 +5,15 @@ use std::fmt::{self, Display, Formatter};
 
 /// The events that the gate's comparison has, at least.
 const LEAST_EVENTS: u64 = 200_000;
+/// How often it meets each check on each way, and how often 16, 17 and 18 each
+/// end ticks there, at least.
+const LEAST_MET: u64 = 5;
 
 /// What a comparison met.
 #[derive(Clone, Debug)]
 pub struct Summary {
+    /// How many rounds it had.
+    pub rounds: u64,
     /// Through the program.
     pub program: Counts,
     /// Through the library, part by part.
@@ -26,7 +31,8 @@ impl Summary {
     }
 
     /// What is missing of a comparison that says something: enough events,
-    /// every check met on both ways, demand 3 due whole.
+    /// every check met on both ways and every one that ends ticks, demand 3 due
+    /// whole in each round.
     pub fn missing(&self) -> Option<String> {
         let mut library = Counts::default();
         for (_, counts) in &self.library {
@@ -37,11 +43,15 @@ impl Summary {
             return Some(format!("only {events} events"));
         }
         for (way, counts) in [("program", &self.program), ("library", &library)] {
-            if let Some(check) = counts.unmet().first() {
-                return Some(format!("check {check} was not met through the {way}"));
+            if let Some(check) = counts.met_below(LEAST_MET).first() {
+                return Some(format!("check {check} was hardly met through the {way}"));
+            }
+            if let Some(check) = counts.stopped_below(LEAST_MET).first() {
+                return Some(format!("check {check} hardly ended ticks, {way}"));
             }
         }
-        (self.program.due == 0).then(|| "no list came under demand 3's second sentence".to_owned())
+        let due = self.program.due;
+        (due < self.rounds).then(|| format!("demand 3's second sentence was due only {due} times"))
     }
 }
 
@@ -49,11 +59,6 @@ impl Display for Summary {
     fn fmt(&self, out: &mut Formatter) -> fmt::Result {
         let program = &self.program;
         write!(out, "program, lines: {program}")?;
-        writeln!(
-            out,
-            "  demand 3: {} lists of events watched, {} of them came under its second sentence",
-            program.lists, program.due
-        )?;
         for (name, counts) in &self.library {
             write!(out, "library, {name}: {counts}")?;
         }
@@ -73,19 +78,29 @@ mod tests {
     #[test]
     fn too_little_is_told() {
         let mut program = Counts {
-            events: LEAST_EVENTS,
+            events: 1,
             ..Counts::default()
         };
-        program.met[1..].fill(1);
+        program.met[1..].fill(LEAST_MET);
+        program.stopped[16..].fill(LEAST_MET);
         let library = vec![("calls", program.clone())];
-        let mut summary = Summary { program, library };
-        let missing = summary.missing().expect("no list is due");
-        assert!(missing.contains("second sentence"));
-        summary.program.due = 1;
-        assert_eq!(summary.missing(), None);
-        summary.library[0].1.met[17] = 0;
-        assert!(summary
-            .missing()
-            .is_some_and(|told| told.contains("check 17")));
+        program.due = 3;
+        program.events = LEAST_EVENTS;
+        let enough = Summary {
+            rounds: 3,
+            program,
+            library,
+        };
+        assert_eq!(enough.missing(), None);
+        let lacks = |spoil: fn(&mut Summary), told: &str| {
+            let mut summary = enough.clone();
+            spoil(&mut summary);
+            let missing = summary.missing().unwrap_or_default();
+            assert!(missing.contains(told), "{missing}");
+        };
+        lacks(|summary| summary.rounds = 4, "second sentence");
+        lacks(|summary| summary.library[0].1.met[17] = 1, "check 17");
+        lacks(|summary| summary.program.stopped[18] = 0, "ended ticks");
+        lacks(|summary| summary.program.events = 1, "only 2 events");
     }
 }

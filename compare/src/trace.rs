@@ -2,10 +2,12 @@
 //! of it under the watch of demand 3.
 
 use crate::counts::Counts;
+use crate::reference_calls::guarded;
 use crate::scene::Scene;
 use crate::text;
 use reference::{apply, open, read_line, Answer, Event, Reading, Run, Setup, Watch};
 use reference::{NETWORK_WORDS, TALLY_WORDS};
+use std::ops::Range;
 
 /// A schedule and what the reference has made of it so far.
 pub struct Trace {
@@ -15,15 +17,17 @@ pub struct Trace {
     network: Vec<u64>,
     watch: Option<Watch>,
     due: bool,
+    /// Where the line of the last accepted opening begins.
+    opening: usize,
     counts: Counts,
     complaint: Option<Complaint>,
 }
 
-/// What the watch over a list of events found.
+/// What was found wrong with the reference's answers themselves.
 #[derive(Clone, Debug)]
 pub struct Complaint {
-    /// How much of the text shows it.
-    pub bytes: usize,
+    /// The part of the text that shows it: from the last accepted opening on.
+    pub shown_by: Range<usize>,
     /// What it is.
     pub what: String,
 }
@@ -44,9 +48,22 @@ impl Trace {
             network: vec![0; NETWORK_WORDS],
             watch: None,
             due: false,
+            opening: 0,
             counts: Counts::default(),
             complaint: None,
         }
+    }
+
+    /// The whole of a text, gone through line by line.
+    pub fn of(text: &[u8]) -> Self {
+        let mut trace = Self::new();
+        for line in text.split_inclusive(|&byte| byte == b'\n') {
+            match line.strip_suffix(b"\n") {
+                Some(line) => _ = trace.line(line),
+                None => trace.end(line),
+            }
+        }
+        trace
     }
 
     /// The run as it is now.
@@ -73,7 +90,7 @@ impl Trace {
         &self.counts
     }
 
-    /// The first complaint about demand 3, if there was one.
+    /// The first complaint, of demand 3 or of a panic, if there was one.
     pub const fn complaint(&self) -> Option<&Complaint> {
         self.complaint.as_ref()
     }
@@ -92,9 +109,10 @@ impl Trace {
     pub fn line(&mut self, bytes: &[u8]) -> Answer {
         let mut last = Answer::Refused(1);
         for line in bytes.split(|&byte| byte == b'\n') {
+            let start = self.text.len();
             self.text.extend_from_slice(line);
             self.text.push(b'\n');
-            last = self.answer(line);
+            last = guarded(|| self.answer(line, start)).unwrap_or_else(|| self.give_up());
             self.counts.answer(&last);
         }
         last
@@ -108,23 +126,25 @@ impl Trace {
         }
     }
 
-    fn answer(&mut self, line: &[u8]) -> Answer {
+    /// Answers a line that begins there in the text.
+    fn answer(&mut self, line: &[u8], start: usize) -> Answer {
         match read_line(line) {
             Reading::NoForm => Answer::Refused(1),
-            Reading::Opening(setup) => self.answer_opening(&setup),
+            Reading::Opening(setup) => self.answer_opening(&setup, start),
             Reading::Event(event) => self.answer_event(event),
         }
     }
 
-    fn answer_opening(&mut self, setup: &Setup) -> Answer {
+    fn answer_opening(&mut self, setup: &Setup, start: usize) -> Answer {
         self.counts.openings += 1;
         let answer = open(setup, &mut self.run, &mut self.tally, &mut self.network);
         if let Answer::Done { .. } = answer {
             let (watch, kept) = Watch::opened(&self.run);
             self.watch = Some(watch);
             self.due = false;
+            self.opening = start;
             self.counts.lists += 1;
-            self.complain(kept);
+            self.complain_unless(kept);
         }
         answer
     }
@@ -143,15 +163,27 @@ impl Trace {
             self.due = true;
             self.counts.due += 1;
         }
-        self.complain(kept);
+        self.complain_unless(kept);
         answer
     }
 
-    fn complain(&mut self, kept: Result<(), String>) {
-        if let (Err(what), None) = (kept, &self.complaint) {
-            let bytes = self.text.len();
-            self.complaint = Some(Complaint { bytes, what });
+    /// After a panic no run is open any more: its words may be half written.
+    fn give_up(&mut self) -> Answer {
+        self.complain("the reference panicked".to_owned());
+        self.run = Run::unopened();
+        self.watch = None;
+        Answer::Refused(9)
+    }
+
+    fn complain_unless(&mut self, kept: Result<(), String>) {
+        if let Err(what) = kept {
+            self.complain(format!("the reference does not keep demand 3: {what}"));
         }
+    }
+
+    fn complain(&mut self, what: String) {
+        let shown_by = self.opening..self.text.len();
+        self.complaint.get_or_insert(Complaint { shown_by, what });
     }
 }
 
@@ -177,5 +209,17 @@ mod tests {
         assert_eq!((trace.counts().calls, trace.counts().events), (6, 3));
         assert!(trace.opened() && trace.complaint().is_none());
         assert!(trace.text().ends_with(b"x\n(tick 3)\n(settle)"));
+        let again = Trace::of(trace.text());
+        assert_eq!(again.counts().calls, 6);
+        assert!(again.text() == trace.text());
+    }
+
+    #[test]
+    fn a_complaint_is_shown_from_the_last_accepted_opening_on() {
+        let mut trace = Trace::of(b"x\n(open 4 2 4 6 0 (0 0 0 0))\n(open 1 2 4 6 0 (0))\n");
+        trace.give_up();
+        let complaint = trace.complaint().expect("it was given up");
+        assert_eq!(complaint.shown_by, 2..trace.text().len());
+        assert!(!trace.opened());
     }
 }

@@ -9,12 +9,18 @@ pub const RUN_WORDS: usize = 137;
 pub const SETUP_WORDS: usize = 69;
 /// The words of a line read: an event's four numbers and a setup.
 pub const READ_WORDS: usize = 4 + SETUP_WORDS;
+/// Where a run keeps its faulty processors.
+pub const FAULTY: usize = 4;
+/// Where a run keeps its time.
+pub const TIME: usize = 5;
 /// Where a run keeps whether it has settled.
 pub const SETTLED: usize = 6;
 /// Where a run keeps its first clock.
 pub const CLOCKS: usize = 9;
 /// Where a run keeps its first view.
 pub const VIEWS: usize = 73;
+/// The form number of ticks.
+pub const TICK: u64 = 5;
 /// The form number of an opening that was read.
 pub const OPENING: u64 = 6;
 

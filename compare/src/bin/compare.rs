@@ -47,12 +47,13 @@ fn compare(rounds: u64, seed: u64, gate: bool) -> ExitCode {
 /// Through the program, then through the library.
 fn both_ways(rounds: u64, seed: u64) -> Result<Summary, Difference> {
     Ok(Summary {
+        rounds,
         program: by_program::compare(&program::proved(), seed, rounds)?,
         library: by_library::compare(seed, rounds)?,
     })
 }
 
-/// One schedule through both programs.
+/// One schedule through both programs, watched.
 fn replay(file: &Path) -> ExitCode {
     let input = match fs::read(file) {
         Ok(input) => input,
@@ -61,7 +62,7 @@ fn replay(file: &Path) -> ExitCode {
             return ExitCode::from(2);
         }
     };
-    match by_program::compare_one(&program::proved(), &input, 1 << 16) {
+    match by_program::replay(&program::proved(), &input) {
         Err(difference) => tell(&difference),
         Ok(()) => {
             println!("no difference");

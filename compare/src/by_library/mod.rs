@@ -9,10 +9,13 @@ pub mod states;
 pub mod steps;
 pub mod ticks;
 pub mod unsound;
+pub mod watched;
 
 use crate::counts::Counts;
 use crate::difference::Difference;
 use crate::draws::Draws;
+use crate::pending;
+use crate::reference_calls::guarded;
 
 /// One part of the comparison: a drawn case of it.
 type Case = fn(&mut Draws, &mut Counts) -> Result<(), Difference>;
@@ -30,18 +33,31 @@ const PARTS: [(&str, Case, u64); 7] = [
 
 /// Compares so many rounds of every part, and answers the counts of each.
 pub fn compare(seed: u64, rounds: u64) -> Result<Vec<(&'static str, Counts)>, Difference> {
+    let mut last = pending::Line::new("last.case");
     PARTS
         .into_iter()
         .enumerate()
         .map(|(place, (name, case, cases))| {
             let mut draws = Draws::new(seed.wrapping_add(place as u64));
             let mut counts = Counts::default();
-            for _ in 0..rounds * cases {
-                case(&mut draws.branch(), &mut counts)?;
+            for number in 0..rounds * cases {
+                let which = format!("case {number} of {name}, seed {seed}");
+                last.leave(&which);
+                let mut drawn = draws.branch();
+                guarded(|| case(&mut drawn, &mut counts)).unwrap_or_else(|| panicked(&which))?;
             }
             Ok((name, counts))
         })
         .collect()
+}
+
+/// The reference panicked where a state was made ready.
+fn panicked(which: &str) -> Result<(), Difference> {
+    Err(Difference {
+        what: "the reference panicked".to_owned(),
+        name: "panic.case".to_owned(),
+        contents: format!("{which}\n").into_bytes(),
+    })
 }
 
 #[cfg(test)]
@@ -59,6 +75,6 @@ mod tests {
             assert!(counts.calls > 0);
             all.add(counts);
         }
-        assert_eq!(all.unmet(), []);
+        assert_eq!(all.met_below(1), []);
     }
 }

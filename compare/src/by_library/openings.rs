@@ -26,7 +26,8 @@ pub fn case(draws: &mut Draws, counts: &mut Counts) -> Result<(), Difference> {
     if let (Call::Open(words), true) = (&mut call, draws.per_mille(20)) {
         words.truncate(draws.place(SETUP_WORDS + 1));
     }
-    sound::opened(&mut state, &call, counts)
+    sound::opened(&mut state, &call, counts)?;
+    Ok(())
 }
 
 /// A setup that would open, but for one number that may be anything.

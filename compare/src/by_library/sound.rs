@@ -1,7 +1,8 @@
 //! Sequences of openings and events on sound runs, in networks that are often
-//! full and tallies with words to spare.
+//! full and tallies with words to spare, under the watch of demand 3.
 
 use super::states;
+use super::watched::{time, Watched};
 use crate::adversary::Style;
 use crate::calls::{Call, State};
 use crate::counts::Counts;
@@ -9,11 +10,11 @@ use crate::difference::Difference;
 use crate::draws::Draws;
 use crate::openings;
 use crate::wild;
-use crate::words::event_of;
 use reference::Event;
 
-/// Calls in one sequence.
-const CALLS: u64 = 60;
+/// Calls in one sequence, mostly; the longest come under demand 3's second
+/// sentence.
+const CALLS: [u64; 4] = [60, 60, 60, 500];
 /// The refusals in a row after which a sequence is given up.
 const MOST_REFUSALS: u64 = 10;
 /// The views that a refused opening's lent words are enough for.
@@ -21,35 +22,38 @@ const MOST_VIEWS: u64 = 30;
 
 /// One sequence.
 pub fn case(draws: &mut Draws, counts: &mut Counts) -> Result<(), Difference> {
-    if draws.per_mille(150) {
-        let mut state = states::arbitrary(draws);
-        let n = state.run.front()[0];
-        let style = Style::drawn(draws, n);
-        return go_on(&mut state, &style, draws, counts);
-    }
-    let (mut state, setup) = states::fresh(draws);
-    let call = states::opening(&setup, draws);
-    opened(&mut state, &call, counts)?;
-    let style = Style::drawn(draws, setup.plan.n);
-    go_on(&mut state, &style, draws, counts)
+    let mut watched = Watched::default();
+    let mut state = if draws.per_mille(150) {
+        states::arbitrary(draws)
+    } else {
+        let (mut state, setup) = states::fresh(draws);
+        let call = states::opening(&setup, draws);
+        let check = opened(&mut state, &call, counts)?;
+        watched.opened(&call, check, &state, counts)?;
+        state
+    };
+    let style = Style::of(&state, draws);
+    go_on(&mut state, &style, &mut watched, draws, counts)
 }
 
 /// Events in a style, with others between them.
 fn go_on(
     state: &mut State,
     style: &Style,
+    watched: &mut Watched,
     draws: &mut Draws,
     counts: &mut Counts,
 ) -> Result<(), Difference> {
     let mut refusals = 0;
-    for _ in 0..CALLS {
+    for _ in 0..draws.one_of(&CALLS) {
         if refusals > MOST_REFUSALS {
             break;
         }
         if draws.per_mille(30) {
             let setup = openings::refused(draws, MOST_VIEWS);
             let call = states::opening(&setup, draws);
-            opened(state, &call, counts)?;
+            let check = opened(state, &call, counts)?;
+            watched.opened(&call, check, state, counts)?;
         }
         let event = if draws.per_mille(150) {
             disturbance(state, draws)
@@ -57,10 +61,11 @@ fn go_on(
             states::next(state, style, draws)
         };
         let call = states::applying(event, draws);
-        refusals = match applied(state, &call, counts)? {
-            0 => 0,
-            _ => refusals + 1,
-        };
+        let before = time(state);
+        let check = applied(state, &call, counts)?;
+        watched.applied(&call, before, check, state, counts)?;
+        let goes_on = check == 0 || time(state) > before;
+        refusals = if goes_on { 0 } else { refusals + 1 };
     }
     Ok(())
 }
@@ -74,27 +79,19 @@ fn disturbance(state: &State, draws: &mut Draws) -> Event {
     }
 }
 
-/// Makes both calls of an opening and counts them.
-pub fn opened(state: &mut State, call: &Call, counts: &mut Counts) -> Result<(), Difference> {
+/// Makes both calls of an opening and counts them; answers the check.
+pub fn opened(state: &mut State, call: &Call, counts: &mut Counts) -> Result<u64, Difference> {
     counts.openings += 1;
     let check = state.both(call)?;
     counts.call(check);
-    Ok(())
+    Ok(check)
 }
 
-/// Makes both calls of an event and counts them.
+/// Makes both calls of an event and counts them; answers the check.
 pub fn applied(state: &mut State, call: &Call, counts: &mut Counts) -> Result<u64, Difference> {
     counts.events += 1;
-    let before = state.run.front().get(5).copied().unwrap_or(0);
+    let before = time(state);
     let check = state.both(call)?;
-    let after = state.run.front().get(5).copied().unwrap_or(0);
-    counts.call(check);
-    if let Call::Apply(numbers) = call {
-        if let (Some(Event::Tick(_)), true) = (event_of(*numbers), after > before) {
-            counts.ticks += after - before;
-            counts.stopped += u64::from(check != 0);
-            counts.accepted += u64::from(check != 0);
-        }
-    }
+    counts.moved(check, time(state).saturating_sub(before));
     Ok(check)
 }

@@ -66,7 +66,7 @@ pub fn played(draws: &mut Draws, events: u64) -> (State, Style) {
 pub fn play(mut state: State, setup: &Setup, draws: &mut Draws, events: u64) -> (State, Style) {
     let call = opening(setup, draws);
     state.refer(&call);
-    let style = Style::drawn(draws, setup.plan.n);
+    let style = Style::drawn(draws, setup.plan.n, setup.faulty);
     for _ in 0..events {
         let event = next(&state, &style, draws);
         let call = applying(event, draws);

@@ -41,7 +41,7 @@ pub fn case(draws: &mut Draws, counts: &mut Counts) -> Result<(), Difference> {
 fn start(draws: &mut Draws) -> (State, Style) {
     if draws.per_mille(300) {
         let state = states::arbitrary(draws);
-        let style = Style::drawn(draws, state.run.front()[0]);
+        let style = Style::of(&state, draws);
         return (state, style);
     }
     let plan = long_plan(draws);

@@ -1,6 +1,6 @@
-//! What the proved code costs beside the reference: ratios of medians, both
-//! sides measured in turn on the same input. Times themselves say something
-//! about a machine and are not kept.
+//! What the proved code costs beside the reference: both sides are measured in
+//! turn on the same input, and a ratio is the median of the turns' ratios.
+//! Times themselves say something about a machine and are not kept.
 
 pub mod calls;
 pub mod lines;
@@ -117,7 +117,7 @@ fn median(mut times: Vec<f64>) -> f64 {
         .map_or(f64::MIN_POSITIVE, |time| time.max(f64::MIN_POSITIVE))
 }
 
-/// The rows of a table as they are measured.
+/// A row of a table.
 #[derive(Clone, Debug)]
 pub struct Row {
     what: String,
@@ -146,11 +146,16 @@ mod tests {
     use super::*;
 
     #[test]
-    fn ratios_are_of_medians() {
+    fn a_ratio_is_the_median_of_the_turns_ratios() {
         assert!((median(vec![9.0, 1.0, 2.0]) - 2.0).abs() < 1e-9);
         assert!(median(vec![]) > 0.0);
         let times = in_turn(|| Duration::from_secs(2), || Duration::from_secs(1));
         assert!((times.ratio() - 0.5).abs() < 1e-9);
+        // The medians of the sides are 2 and 3, the turns' ratios 5, 1 and 1.
+        let (mut ours, mut theirs) = ([1, 2, 3].iter().cycle(), [5, 2, 3].iter().cycle());
+        let turn = |seconds: Option<&u64>| Duration::from_secs(seconds.map_or(1, |&all| all));
+        let times = in_turn(|| turn(ours.next()), || turn(theirs.next()));
+        assert!((times.ratio() - 1.0).abs() < 1e-9);
         assert_eq!(Row::new("a row", 0.5).to_string(), "     0.50  a row");
     }
 }

@@ -1,5 +1,5 @@
 -- What is replied to each kind of line. Assumes nothing.
-use mathlib.Core.Path.{_≡_, refl, ap, subst}
+use mathlib.Core.Path.{_≡_, refl, sym, ap, _∙_}
 use mathlib.Core.Bool.{Bool, true, false}
 use mathlib.Core.List.{List, [], _∷_}
 use Prim.Native.Nat.{ℕ}
@@ -16,11 +16,12 @@ use Rattle.model.specs.Events.{applied}
 use Rattle.lines.specs.declared.Read.{Read}
 use Rattle.lines.specs.declared.Read.the-variants as Read
 use Rattle.lines.specs.declared.Reading.{Reading}
-use Rattle.lines.specs.Contracts.{line}
-use Rattle.lines.specs.Printout.{answerForm}
-use Rattle.driver.specs.declared.Answered.{Answered}
-use Rattle.driver.specs.Inner.{answering, Put, PrintsReply}
-use Rattle.printout.specs.Printout.{Standing, Reply, reply, printedLine, stateIn, leaving, refusing, printedAnswer, staysOpen, eventReply, openingReply, readReply}
+use Rattle.reader.specs.Lines.{reading}
+use Rattle.printout.specs.Printout.{Standing, Reply, stateIn, leaving, refusing, printedAnswer, staysOpen, eventReply, openingReply, readReply, reply, lineReply}
+
+-- a line is read as k
+pub read-as : (s : List ℕ) (x : Standing) (r : Reading) (k : Read) (a : Reply) → r ≡ reading s → r .read ≡ k → a ≡ readReply k (r .setup) x → a ≡ lineReply s x
+read-as s x r k a h q p = p ∙ ap (λ (z : Read). readReply z (r .setup) x) (sym q) ∙ ap (λ (z : Reading). reply z x) h
 
 -- a line that is neither an event nor an opening
 pub neither : (r : Read) (u : Setup) (x : Standing) → OneOf (0 ∷ 2 ∷ []) (tagOf the-type r) → OneOf (1 ∷ 2 ∷ []) (tagOf the-type r) → refusing 1 x ≡ readReply r u x
@@ -44,8 +45,3 @@ pub opening-applied : (u : Setup) (x : Standing) (a : After) (o : Bool) → a �
     → record { standing = leaving o (a .state); answer = a .answer } ≡ openingReply u x
 unfolding openingReply
 opening-applied u x a o h q = rw (q, h) refl
-
--- a reply and its answer printed
-pub printed-reply : (x : Standing) (r : Reading) (out tally network : List ℕ) (a : Answered) (k : ℕ) (after : List ℕ) → answering a tally network ≡ reply r x
-    → Put (line (answerForm (a .answer))) out k after → PrintsReply x r out tally network (record { session = a .session; bytes = k }) after
-printed-reply x r out tally network a k after e p = record { state = ap (λ (z : Reply). z .standing) e; put = subst (λ (z : Reply). Put (printedLine z) out k after) e p }

@@ -24,7 +24,7 @@ use Rattle.printout.specs.declared.Session.{Session}
 use Rattle.printout.specs.declared.Served.{Served}
 use Rattle.printout.specs.Printout.{Standing, standingOf, Reply, reply, refusing, lineReply, printedLine}
 use Rattle.printout.specs.Contracts.{Place, placeOf, lineEnded, Fed, behind, fed, Begun, Feeds}
-use Rattle.driver.specs.Inner.{Put, Passes, Refuses, Turns}
+use Rattle.driver.specs.Inner.{Put, Passes, Turns}
 use Rattle.printout.proofs.Feeding.{fed-append, within, fed-within, told, fed-line}
 
 -- ---- one text behind another
@@ -174,19 +174,17 @@ turn-passed x late bytes out tally network r after e y words h p short room f = 
 }
 
 -- a line of which too much was passed over, or that is too long by itself, was refused
-pub turn-late : (s : Session) (late : Bool) (bytes out tally network : List ℕ) (n : Next) (e : ℕ) (r : Served) (after : List ℕ) → late ≡ true → n ≡ nextLine bytes → n ≡ Line e
-    → Refuses e s out r after → printedMost ≤ length out → Turns (standingOf s tally network) late bytes out tally network r after
-turn-late s late bytes out tally network n e r after l q p h room =
-    let x : Standing = standingOf s tally network in
-    turn-passed x late bytes out tally network r after e x (line (answerForm (Refused 1))) (found bytes n (Line e) q p .1) (h tally network) (answer-length (Refused 1)) room
-    (λ begun b. feeds-late x bytes out n e (r .printed) after q p (h tally network .put) begun (subst (λ (t : Bool). Begun t begun) l b))
+pub turn-late : (x : Standing) (late : Bool) (bytes out tally network : List ℕ) (n : Next) (e : ℕ) (r : Served) (after : List ℕ) → late ≡ true → n ≡ nextLine bytes → n ≡ Line e
+    → Passes e x (line (answerForm (Refused 1))) out tally network r after → printedMost ≤ length out → Turns x late bytes out tally network r after
+turn-late x late bytes out tally network n e r after l q p h room =
+    turn-passed x late bytes out tally network r after e x (line (answerForm (Refused 1))) (found bytes n (Line e) q p .1) h (answer-length (Refused 1)) room
+    (λ begun b. feeds-late x bytes out n e (r .printed) after q p (h .put) begun (subst (λ (t : Bool). Begun t begun) l b))
 
-pub turn-long : (s : Session) (late : Bool) (bytes out tally network : List ℕ) (n : Next) (e : ℕ) (r : Served) (after : List ℕ) → n ≡ nextLine bytes → n ≡ Long e
-    → Refuses e s out r after → printedMost ≤ length out → Turns (standingOf s tally network) late bytes out tally network r after
-turn-long s late bytes out tally network n e r after q p h room =
-    let x : Standing = standingOf s tally network in
-    turn-passed x late bytes out tally network r after e x (line (answerForm (Refused 1))) (found bytes n (Long e) q p .1) (h tally network) (answer-length (Refused 1)) room
-    (λ begun b. feeds-long x bytes out n e (r .printed) after late q p (h tally network .put) begun b)
+pub turn-long : (x : Standing) (late : Bool) (bytes out tally network : List ℕ) (n : Next) (e : ℕ) (r : Served) (after : List ℕ) → n ≡ nextLine bytes → n ≡ Long e
+    → Passes e x (line (answerForm (Refused 1))) out tally network r after → printedMost ≤ length out → Turns x late bytes out tally network r after
+turn-long x late bytes out tally network n e r after q p h room =
+    turn-passed x late bytes out tally network r after e x (line (answerForm (Refused 1))) (found bytes n (Long e) q p .1) h (answer-length (Refused 1)) room
+    (λ begun b. feeds-long x bytes out n e (r .printed) after late q p (h .put) begun b)
 
 -- a line was answered
 pub turn-line : (x : Standing) (late : Bool) (bytes out tally network : List ℕ) (n : Next) (e : ℕ) (r : Served) (after : List ℕ) → late ≡ false → n ≡ nextLine bytes → n ≡ Line e

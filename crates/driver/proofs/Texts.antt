@@ -21,13 +21,11 @@ use Rattle.lines.specs.Contracts.{line, Writes, writtenAs, writtenIn}
 use Rattle.lines.specs.Printout.{answerForm, processorForm, printedMost}
 use Rattle.lines.specs.Splitting.{remainder}
 use Rattle.lines.proofs.Printing.{answer-length, processor-length}
-use Rattle.lines.specs.declared.Reading.{Reading}
-use Rattle.reader.specs.Lines.{reading}
 use Rattle.printout.specs.declared.Session.{Session}
-use Rattle.driver.specs.declared.Printed.{Printed}
-use Rattle.printout.specs.Printout.{Standing, standingOf, lineReply, printedLine, processorLines, closing, printed}
+use Rattle.printout.specs.declared.Served.{Served}
+use Rattle.printout.specs.Printout.{Standing, standingOf, Reply, lineReply, printedLine, processorLines, closing, printed}
 use Rattle.printout.specs.Contracts.{Prints, AnswersLine, Begun, closingMost, Closes}
-use Rattle.driver.specs.Inner.{Put, PrintsReply, Passes}
+use Rattle.driver.specs.Inner.{Put, Passes}
 use Rattle.driver.proofs.Serving.{put-none, put-inside, left-over, put-part}
 
 -- ---- what the writer wrote, where it has room
@@ -132,18 +130,17 @@ closing-text s tally network begun false (c ∷ rest) b = let l : 0 < length (c 
 pub line-few : (s : List ℕ) (x : Standing) (out : List ℕ) → length out < printedMost → AnswersLine s x out x (Refused 1) out
 line-few s x out h = (cond-yes _ _ _ _ (lt-ltb _ _ h) refl, too-few printedMost (printedLine (lineReply s x)) out h)
 
-pub line-answered : (s : List ℕ) (x : Standing) (out tally network : List ℕ) (r : Reading) (a : Printed) (after : List ℕ) → printedMost ≤ length out → r ≡ reading s
-    → PrintsReply x r out tally network a after → AnswersLine s x out (standingOf (a .session) tally network) (Bytes (a .bytes)) after
-line-answered s x out tally network r a after h e p =
-    let q : PrintsReply x (reading s) out tally network a after = subst (λ (z : Reading). PrintsReply x z out tally network a after) e p in
-    (cond-no _ _ _ _ (le-ltb _ _ h) (q .state), put-prints printedMost (printedLine (lineReply s x)) out (a .bytes) after h (q .put))
+pub line-answered : (s : List ℕ) (x : Standing) (out tally network : List ℕ) (r : Served) (after : List ℕ) → printedMost ≤ length out
+    → Passes (length s) (lineReply s x .standing) (printedLine (lineReply s x)) out tally network r after
+    → AnswersLine s x out (standingOf (r .session) tally network) (Bytes (r .printed)) after
+line-answered s x out tally network r after h p =
+    (cond-no _ _ _ _ (le-ltb _ _ h) (p .state), put-prints printedMost (printedLine (lineReply s x)) out (r .printed) after h (p .put))
 
-pub line-passed : (s : List ℕ) (x : Standing) (out tally network : List ℕ) (r : Reading) (a : Printed) (after : List ℕ) → r ≡ reading s → PrintsReply x r out tally network a after
-    → Passes (length s) (lineReply s x .standing) (printedLine (lineReply s x)) out tally network
-    (record { session = a .session; late = false; used = length s + 1; printed = a .bytes }) after
-line-passed s x out tally network r a after e p =
-    let q : PrintsReply x (reading s) out tally network a after = subst (λ (z : Reading). PrintsReply x z out tally network a after) e p in
-    record { used = refl; late = refl; state = q .state; put = q .put }
+pub line-passed : (s : List ℕ) (x : Standing) (out : List ℕ) (a : Reply) (k : ℕ) (after : List ℕ) → a ≡ lineReply s x → Put (printedLine a) out k after
+    → Passes (length s) (lineReply s x .standing) (printedLine (lineReply s x)) out (a .standing .tally) (a .standing .network)
+    (record { session = a .standing .session; late = false; used = length s + 1; printed = k }) after
+line-passed s x out a k after e p =
+    record { used = refl; late = refl; state = ap (λ (z : Reply). z .standing) e; put = subst (λ (z : Reply). Put (printedLine z) out k after) e p }
 
 -- ---- all of the end
 

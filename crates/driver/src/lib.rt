@@ -7,8 +7,12 @@ use lines::Written;
 use printout::Served;
 use printout::Session;
 use types::Answer;
+use types::Head;
+ghost use mathlib.Core.Path.{_≡_};
 ghost use Rattle.printout.specs.Printout.{standingOf};
 ghost use Rattle.printout.specs.Contracts.{AnswersLine, Serves, Closes};
+ghost use Rattle.driver.specs.Contracts.{KnownReachable};
+ghost use Rattle.driver.specs.Inner.{sessionFrom};
 
 // The words that the program lends.
 pub const TALLY_WORDS: usize = 3600;
@@ -27,16 +31,30 @@ pub struct Replied {
     pub written: Written,
 }
 
-// What a line left of the session, and the answer to print.
+// What a line left, the run's tables being lent: whether a run is open, the run's head, and the answer to print.
 pub(crate) struct Answered {
-    pub(crate) session: Session,
+    pub(crate) opened: bool,
+    pub(crate) head: Head,
     pub(crate) answer: Answer,
 }
 
-// The same with the answer printed: how many bytes it has.
-pub(crate) struct Printed {
-    pub(crate) session: Session,
-    pub(crate) bytes: usize,
+// What bytes of an input left, the run's tables being lent: as `Served`.
+pub(crate) struct Turned {
+    pub(crate) opened: bool,
+    pub(crate) head: Head,
+    pub(crate) late: bool,
+    pub(crate) used: usize,
+    pub(crate) printed: usize,
+}
+
+// The session put together again.
+fn gather(opened: bool, head: Head, clocks: &[u64; 64], views: &[u64; 64]) -> Session
+    ensures { λ r. ⌜ r ≡ sessionFrom opened head (now (clocks .entry)) (now (views .entry)) ⌝ }
+{
+    Session {
+        opened: opened,
+        run: types::gather(head, clocks, views),
+    }
 }
 
 // One line, without its newline, is answered.
@@ -56,16 +74,67 @@ pub fn answer_line(
             written: Written::Refused(1),
         };
     }
-    let reading = reader::read_line(line);
-    let printed = printing::print_reading(session, reading, tally, network, out);
-    let next = printed.session;
+    let run = session.run;
+    let mut clocks = run.clocks;
+    let mut views = run.views;
+    let turn = turns::answer_whole(
+        session.opened,
+        types::head_of(run),
+        false,
+        line,
+        &mut clocks,
+        &mut views,
+        tally,
+        network,
+        out,
+    );
+    let head = turn.head;
     Replied {
-        session: next,
-        written: Written::Bytes(printed.bytes),
+        session: gather(turn.opened, head, &clocks, &views),
+        written: Written::Bytes(turn.printed),
     }
 }
 
-// The lines that end within the bytes at hand are answered, as many as have room for their answers.
+// The lines that end within the bytes at hand are answered, as many as have room for their answers. A caller that knows an open run to come from an
+// accepted opening says so, and no event's check 9 is made.
+pub fn serve_lines(
+    session: Session,
+    known: bool,
+    late: bool,
+    bytes: &[u8],
+    tally: &mut [u64],
+    network: &mut [u64],
+    out: &mut [u8],
+) -> Served
+    requires { ⌜ KnownReachable known (standingOf session (now tally) (now network)) ⌝ }
+    ensures { λ r. ⌜ Serves (standingOf session (now (tally .entry)) (now (network .entry))) late (now (bytes .entry)) (now (out .entry))
+        (now (tally .exit)) (now (network .exit)) r (now (out .exit)) ⌝ }
+{
+    let run = session.run;
+    let mut clocks = run.clocks;
+    let mut views = run.views;
+    let turn = turns::answer_turns(
+        session.opened,
+        types::head_of(run),
+        known,
+        late,
+        bytes,
+        &mut clocks,
+        &mut views,
+        tally,
+        network,
+        out,
+    );
+    let head = turn.head;
+    Served {
+        session: gather(turn.opened, head, &clocks, &views),
+        late: turn.late,
+        used: turn.used,
+        printed: turn.printed,
+    }
+}
+
+// The same of any session, whatever it holds.
 pub fn answer_lines(
     session: Session,
     late: bool,
@@ -77,38 +146,7 @@ pub fn answer_lines(
     ensures { λ r. ⌜ Serves (standingOf session (now (tally .entry)) (now (network .entry))) late (now (bytes .entry)) (now (out .entry))
         (now (tally .exit)) (now (network .exit)) r (now (out .exit)) ⌝ }
 {
-    let mut state = session;
-    let mut passed = late;
-    let mut used = 0;
-    let mut printed = 0;
-    while used < bytes.len() {
-        let turn = turns::answer_next(
-            state,
-            passed,
-            &bytes[used..],
-            tally,
-            network,
-            &mut out[printed..],
-        );
-        state = turn.session;
-        passed = turn.late;
-        used += turn.used;
-        printed += turn.printed;
-        if turn.used == 0 {
-            return Served {
-                session: state,
-                late: passed,
-                used: used,
-                printed: printed,
-            };
-        }
-    }
-    Served {
-        session: state,
-        late: passed,
-        used: used,
-        printed: printed,
-    }
+    serve_lines(session, false, late, bytes, tally, network, out)
 }
 
 // At the end of the input: `rest` are the bytes at hand since the last newline.

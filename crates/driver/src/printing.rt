@@ -1,7 +1,4 @@
 // Answers and the closing lines, printed into lent bytes that have room for them. Each function answers how many bytes it printed.
-use crate::Printed;
-use crate::replies;
-use lines::Reading;
 use lines::Written;
 use printout::Session;
 use types::Answer;
@@ -15,8 +12,8 @@ ghost use lib.Dec.{ltb};
 ghost use Rattle.types.specs.Quantities.{tableClocks, correct};
 ghost use Rattle.lines.specs.Contracts.{line};
 ghost use Rattle.lines.specs.Printout.{answerForm, processorForm, printedMost};
-ghost use Rattle.printout.specs.Printout.{standingOf, processorLines, closing};
-ghost use Rattle.driver.specs.Inner.{Put, PrintsReply};
+ghost use Rattle.printout.specs.Printout.{processorLines, closing};
+ghost use Rattle.driver.specs.Inner.{Put};
 
 // An answer.
 pub(crate) fn print_answer(answer: Answer, out: &mut [u8]) -> usize
@@ -27,27 +24,6 @@ pub(crate) fn print_answer(answer: Answer, out: &mut [u8]) -> usize
     match written {
         Written::Bytes(k) => k,
         Written::Refused(_) => 0,
-    }
-}
-
-// The answer to a line that is read so.
-pub(crate) fn print_reading(
-    session: Session,
-    reading: Reading,
-    tally: &mut [u64],
-    network: &mut [u64],
-    out: &mut [u8],
-) -> Printed
-    requires { ⌜ printedMost ≤ length (now out) ⌝ }
-    ensures { λ r. ⌜ PrintsReply (standingOf session (now (tally .entry)) (now (network .entry))) reading (now (out .entry))
-        (now (tally .exit)) (now (network .exit)) r (now (out .exit)) ⌝ }
-{
-    let answered = replies::answer_reading(session, reading, tally, network);
-    let answer = answered.answer;
-    let next = answered.session;
-    Printed {
-        session: next,
-        bytes: print_answer(answer, out),
     }
 }
 

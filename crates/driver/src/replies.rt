@@ -1,14 +1,14 @@
 // What is answered to an event, to an opening, and to a line that is neither.
 use crate::Answered;
 use lines::Read;
-use lines::Reading;
-use printout::Session;
 use types::Answer;
 use types::Event;
+use types::Head;
 use types::Setup;
 ghost use mathlib.Core.Path.{_≡_};
-ghost use Rattle.printout.specs.Printout.{standingOf, endsTicks, ticksPrinted, printedAnswer, staysOpen, eventReply, openingReply, reply};
-ghost use Rattle.driver.specs.Inner.{answering};
+ghost use Rattle.printout.specs.Printout.{endsTicks, ticksPrinted, printedAnswer, staysOpen, eventReply, openingReply, lineReply};
+ghost use Rattle.driver.specs.Contracts.{KnownReachable};
+ghost use Rattle.driver.specs.Inner.{standingFrom, answering};
 
 // Whether the check ends ticks.
 fn ends_ticks(check: u64) -> bool
@@ -67,70 +67,88 @@ fn stays_open(opened: bool, answer: Answer) -> bool
 }
 
 // An event.
-fn answer_event(session: Session, event: Event, tally: &mut [u64], network: &mut [u64]) -> Answered
-    ensures { λ r. ⌜ answering r (now (tally .exit)) (now (network .exit)) ≡ eventReply event (standingOf session (now (tally .entry)) (now (network .entry))) ⌝ }
+fn answer_event(
+    opened: bool,
+    head: Head,
+    known: bool,
+    event: Event,
+    clocks: &mut [u64; 64],
+    views: &mut [u64; 64],
+    tally: &mut [u64],
+    network: &mut [u64],
+) -> Answered
+    requires { ⌜ KnownReachable known (standingFrom opened head (now clocks) (now views) (now tally) (now network)) ⌝ }
+    ensures { λ r. ⌜ answering r (now (clocks .exit)) (now (views .exit)) (now (tally .exit)) (now (network .exit))
+        ≡ eventReply event (standingFrom opened head (now (clocks .entry)) (now (views .entry)) (now (tally .entry)) (now (network .entry))) ⌝ }
 {
-    if session.opened {
-        let run = session.run;
-        let applied = simulator::apply(run, event, tally, network);
-        let next = applied.run;
-        let answer = applied.answer;
+    if opened {
+        let outcome = simulator::apply_lent(head, known, event, clocks, views, tally, network);
+        let next = outcome.head;
+        let answer = outcome.answer;
         let held = next.held;
         return Answered {
-            session: Session {
-                opened: true,
-                run: next,
-            },
+            opened: true,
+            head: next,
             answer: print_event(event, held, answer),
         };
     }
     Answered {
-        session: session,
+        opened: opened,
+        head: head,
         answer: Answer::Refused(9),
     }
 }
 
 // An opening.
 fn answer_opening(
-    session: Session,
+    opened: bool,
+    head: Head,
     setup: Setup,
+    clocks: &mut [u64; 64],
+    views: &mut [u64; 64],
     tally: &mut [u64],
     network: &mut [u64],
 ) -> Answered
-    ensures { λ r. ⌜ answering r (now (tally .exit)) (now (network .exit)) ≡ openingReply setup (standingOf session (now (tally .entry)) (now (network .entry))) ⌝ }
+    ensures { λ r. ⌜ answering r (now (clocks .exit)) (now (views .exit)) (now (tally .exit)) (now (network .exit))
+        ≡ openingReply setup (standingFrom opened head (now (clocks .entry)) (now (views .entry)) (now (tally .entry)) (now (network .entry))) ⌝ }
 {
-    let run = session.run;
-    let applied = simulator::open(run, setup, tally, network);
-    let next = applied.run;
-    let answer = applied.answer;
+    let outcome = simulator::open_lent(head, setup, clocks, views, tally, network);
+    let next = outcome.head;
+    let answer = outcome.answer;
     Answered {
-        session: Session {
-            opened: stays_open(session.opened, answer),
-            run: next,
-        },
+        opened: stays_open(opened, answer),
+        head: next,
         answer: answer,
     }
 }
 
-// What a line was read as: an event goes on, and so does an opening; anything else is check 1.
+// What a line is read as: an event goes on, and so does an opening; anything else is check 1.
 pub(crate) fn answer_reading(
-    session: Session,
-    reading: Reading,
+    opened: bool,
+    head: Head,
+    known: bool,
+    line: &[u8],
+    clocks: &mut [u64; 64],
+    views: &mut [u64; 64],
     tally: &mut [u64],
     network: &mut [u64],
 ) -> Answered
-    ensures { λ r. ⌜ answering r (now (tally .exit)) (now (network .exit)) ≡ reply reading (standingOf session (now (tally .entry)) (now (network .entry))) ⌝ }
+    requires { ⌜ KnownReachable known (standingFrom opened head (now clocks) (now views) (now tally) (now network)) ⌝ }
+    ensures { λ r. ⌜ answering r (now (clocks .exit)) (now (views .exit)) (now (tally .exit)) (now (network .exit))
+        ≡ lineReply (now (line .entry)) (standingFrom opened head (now (clocks .entry)) (now (views .entry)) (now (tally .entry)) (now (network .entry))) ⌝ }
 {
+    let reading = reader::read_line(line);
     let read = reading.read;
     if let Read::Opening = read {
         let setup = reading.setup;
-        return answer_opening(session, setup, tally, network);
+        return answer_opening(opened, head, setup, clocks, views, tally, network);
     }
     let Read::Event(event) = read else {
         return Answered {
-            session: session,
+            opened: opened,
+            head: head,
             answer: Answer::Refused(1),
         };
     };
-    answer_event(session, event, tally, network)
+    answer_event(opened, head, known, event, clocks, views, tally, network)
 }

@@ -1,4 +1,5 @@
 -- "Quantities", continued: the run, the tally and the network as they are lent, word by word, and what an answer says.
+pub use Rattle.types.specs.Runs.{runFrom, headOf}
 use mathlib.Core.Bool.{Bool, true, false}
 use mathlib.Core.List.{List, [], _∷_, _++_}
 use Prim.Native.Nat.{ℕ, _+_, _*_, _/_}
@@ -8,7 +9,6 @@ use Rattle.base.specs.Sets.{insert}
 use Rattle.types.specs.declared.Plan.{Plan}
 use Rattle.types.specs.declared.Message.{Message}
 use Rattle.types.specs.declared.Run.{Run}
-use Rattle.types.specs.declared.Head.{Head}
 use Rattle.types.specs.declared.Answer.{Answer}
 use Rattle.types.specs.declared.Applied.{Applied}
 use Rattle.types.specs.declared.Outcome.{Outcome}
@@ -38,13 +38,6 @@ runOf plan faulty time settled gst held clocks views = record {
   clocks = clocks;
   views = views;
 }
-
--- the run whose tables are lent beside its head
-abbrev pub runFrom : Head → List ℕ → List ℕ → Run
-runFrom h clocks views = runOf (h .plan) (h .faulty) (h .time) (h .settled) (h .gst) (h .held) clocks views
-
-abbrev pub headOf : Run → Head
-headOf r = record { plan = r .plan; faulty = r .faulty; time = r .time; settled = r .settled; gst = r .gst; held = r .held }
 
 abbrev pub withHeld : ℕ → Run → Run
 withHeld h r = runOf (r .plan) (r .faulty) (r .time) (r .settled) (r .gst) h (r .clocks) (r .views)

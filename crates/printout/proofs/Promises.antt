@@ -79,7 +79,7 @@ prints-whole input cs e c = course-prints cs e atStart false [] input refl c
 -- ---- a call that used no bytes
 
 -- some bytes are begun, whichever are
-some-begun : (late : Bool) → (begun : List ℕ) × Begun late begun
+pub some-begun : (late : Bool) → (begun : List ℕ) × Begun late begun
 some-begun false = ([], refl)
 some-begun true = (replicate 4801 0, subst (λ (k : ℕ). lineMost < k) (sym (length-replicate {A = ℕ} 4801 0)) (omega arith))
 

@@ -34,7 +34,7 @@ use Rattle.buffers.specs.WordLaws.{posted-none}
 use Rattle.pacemaker.specs.Limits.{Within, timeMost}
 use Rattle.pacemaker.specs.Steps.{movingBy}
 use Rattle.pacemaker.proofs.LimitLaws.{within, sound}
-use Rattle.simulator.specs.Inner.{Reacts, Fit, Whole, Went, TickedTo, arrivedBelow, endsAt, someLate, ranTo}
+use Rattle.simulator.specs.Inner.{Reacts, Fit, Whole, Went, TickedTo, arrivedBelow, endsAt, ranTo}
 use Rattle.simulator.specs.Leaps.{clocksBy, leapt, later, NoneArrives, QuietTicksAdd, Waits, Rests, ClocksFit, Strides, Ready, Advances}
 use Rattle.simulator.proofs.Fitness.{fit-of, room-of, time-of, some-correct, clock-below, end-most}
 use Rattle.simulator.proofs.Reactions.{reaction}
@@ -49,7 +49,7 @@ module _ (plan : Plan) (faulty : ℕ) (clocks : List ℕ) (d : ℕ) where
   abbrev by : ℕ → List ℕ
   by k = clocksBy d plan faulty clocks k
 
-  pub length-by : (k : ℕ) → length (by k) ≡ length clocks
+  length-by : (k : ℕ) → length (by k) ≡ length clocks
   unfolding clocksBy
   length-by zero = refl
   length-by (suc k) = by-cond (λ (l : List ℕ). length l ≡ length clocks) (correct plan faulty k) (set (by k) k (getD clocks k 0 + d)) (by k)
@@ -64,7 +64,7 @@ module _ (plan : Plan) (faulty : ℕ) (clocks : List ℕ) (d : ℕ) where
       ∙ by-stays k q (λ l. h (omega arith)))
       (λ t. by-stays k q (λ l. h (omega arith)))
 
-  pub by-goes : (k q : ℕ) → k ≤ length clocks → q < k → correct plan faulty q ≡ true → getD (by k) q 0 ≡ getD clocks q 0 + d
+  by-goes : (k q : ℕ) → k ≤ length clocks → q < k → correct plan faulty q ≡ true → getD (by k) q 0 ≡ getD clocks q 0 + d
   unfolding clocksBy
   by-goes zero q long l c = absurd (omega arith)
   by-goes (suc k) q long l c = ⊎-elim
@@ -100,7 +100,7 @@ module _ (plan : Plan) (faulty : ℕ) (clocks : List ℕ) (d n : ℕ) (long : n 
   abbrev gone : List ℕ
   gone = clocksBy d plan faulty clocks n
 
-  pub by-then : clocksBy 1 plan faulty gone n ≡ clocksBy (suc d) plan faulty clocks n
+  by-then : clocksBy 1 plan faulty gone n ≡ clocksBy (suc d) plan faulty clocks n
   by-then = ext-getD 0 _ _ (length-by plan faulty gone 1 n ∙ length-by plan faulty clocks d n ∙ sym (length-by plan faulty clocks (suc d) n)) (λ q l. each q)
     where
       each : (q : ℕ) → getD (clocksBy 1 plan faulty gone n) q 0 ≡ getD (clocksBy (suc d) plan faulty clocks n) q 0
@@ -144,7 +144,7 @@ strides-also s s' s'' a b x y = record {
   clock = λ p c. let u = x .clock p c in let v = y .clock p (u .0) in (v .0, omega (arith, u .1, v .1));
 }
 
-pub strides-once : (s s' : State) → TickedTo s s' 0 → Strides s s' 1
+strides-once : (s s' : State) → TickedTo s s' 0 → Strides s s' 1
 unfolding ticks
 strides-once s s' t =
     let w : Went s s' = t .went refl in
@@ -229,7 +229,7 @@ entries-none e r t (suc k) h =
     ap₂ (λ (c : Change) (x : Entry). also c (taking (changed r c) (c .tally) k x)) (entries-none e r t k (λ p l. h p (omega arith))) (h k (omega arith))
 
 module _ (s : State) (whole : Whole (s .run)) (fit : Fit (s .run)) (room : s .run .held ≤ capacity (s .network)) (rests : NoneArrives (s .run) 1)
-    (waits : someLate s ≡ false) where
+    (waits : overdue s ≡ false) where
   abbrev r : Run
   r = s .run
 
@@ -262,7 +262,7 @@ module _ (s : State) (whole : Whole (s .run)) (fit : Fit (s .run)) (room : s .ru
   unfolding arrivals
   none-sent = sym (ap (λ (c : Change). length (c .sent)) nothing)
 
-  pub quiet-tick : TickedTo s (advanced s) 0
+  quiet-tick : TickedTo s (advanced s) 0
   quiet-tick = once-done s (whole .clocks) waits none-ends 0 none-sent (omega arith) (advanced s) (sym only-adds)
       (went-ticked s (whole .clocks) (whole .views) fit none-ends (omega (arith, none-sent)))
 
@@ -279,11 +279,11 @@ later-more s d whole =
     t (on-by (leapt (s .run) d) (s .run .plan .n) ∙ by-then (s .run .plan) (s .run .faulty) (s .run .clocks) d (s .run .plan .n) (whole .clocks))
 
 -- some ticks being let pass, no message is late now
-pub waits-now : (s : State) (most wait : ℕ) → Waits s most wait → 0 < wait → someLate s ≡ false
-waits-now s most wait w l = ap someLate (sym (later-none s)) ∙ w .quiet 0 l
+pub waits-now : (s : State) (most wait : ℕ) → Waits s most wait → 0 < wait → overdue s ≡ false
+waits-now s most wait w l = ap overdue (sym (later-none s)) ∙ w .quiet 0 l
 
 module _ (s : State) (whole : Whole (s .run)) (fit : Fit (s .run)) (room : s .run .held ≤ capacity (s .network)) where
-  pub leap-strides : (d : ℕ) → ((j : ℕ) → j < d → someLate (later s j) ≡ false) → NoneArrives (s .run) d → Strides s (later s d) d
+  leap-strides : (d : ℕ) → ((j : ℕ) → j < d → overdue (later s j) ≡ false) → NoneArrives (s .run) d → Strides s (later s d) d
   leap-strides zero waits rests = subst (λ (y : State). Strides s y 0) (sym (later-none s)) (strides-none s fit whole room)
   leap-strides (suc d) waits rests = go (leap-strides d (λ j l. waits j (omega arith)) (λ p c. omega (arith, rests p c)))
     where
@@ -295,8 +295,7 @@ module _ (s : State) (whole : Whole (s .run)) (fit : Fit (s .run)) (room : s .ru
           subst (λ (k : ℕ). Strides s (later s (suc d)) k) (add-one d) (subst (λ (y : State). Strides s y (d + 1)) (later-more s d whole) all)
 
 pub quiet-ticks-add : QuietTicksAdd
-unfolding overdue
-quiet-ticks-add s d whole sound q = leap-strides s whole (fit-of s sound) (room-of s sound) d (λ j l. q .waits j l) (q .rests) .ran
+quiet-ticks-add s d whole sound q = leap-strides s whole (fit-of s sound) (room-of s sound) d (q .waits) (q .rests) .ran
 
 -- ---- one advance
 
@@ -313,10 +312,10 @@ module _ (s : State) (ready : Ready s) (most : ℕ) where
   }
 
   -- one tick, or the check that refuses it
-  pub advance-once : 0 < most → (s' : State) (check : ℕ) → TickedTo s s' check → Advances s most s' 1 check
-  advance-once l s' check t = record {
-    went = λ z. strides-once s s' (subst (TickedTo s s') z t);
-    number = λ z. (omega arith, omega arith);
+  pub advance-once : 0 < most → (s' : State) (count check : ℕ) → TickedTo s s' check → (check ≡ 0 → count ≡ 1) → Advances s most s' count check
+  advance-once l s' count check t one = record {
+    went = λ z. subst (Strides s s') (sym (one z)) (strides-once s s' (subst (TickedTo s s') z t));
+    number = λ z. (omega (arith, one z), omega (arith, one z));
     ended = λ x. t;
   }
 

@@ -20,7 +20,7 @@ use Rattle.model.specs.Checks.{overdue, reachesEnd, overfull}
 use Rattle.model.specs.Events.{tickChecks, tickOnce, Ticks, continued, ticks, ticksAnswer, tickRun}
 use Rattle.liveness.specs.Promises.{countedFrom}
 use Rattle.liveness.proofs.Judging.{by-judged}
-use Rattle.simulator.specs.Inner.{someLate, arrivedBelow, endsAt, TickedTo, Went, ranTo}
+use Rattle.simulator.specs.Inner.{arrivedBelow, endsAt, TickedTo, Went, ranTo}
 use Rattle.simulator.proofs.Arrivals.{tick-reaches}
 
 module _ (s : State) (long : s .run .plan .n ≤ length (s .run .clocks)) where
@@ -28,7 +28,7 @@ module _ (s : State) (long : s .run .plan .n ≤ length (s .run .clocks)) where
   ticked = record { state = made (advanced s) (arrivals (advanced s)); answer = Done 1 (made (advanced s) (arrivals (advanced s)) .run .held) }
 
   abbrev late : Bool
-  late = someLate s
+  late = overdue s
 
   abbrev ends : Bool
   ends = some (endsAt (s .run)) (s .run .plan .n)

@@ -1,10 +1,7 @@
 -- What the pacemaker's step says of a reaction. Assumes nothing.
 use mathlib.Core.Path.{_≡_, refl, sym, ap, _∙_}
 use mathlib.Core.Bool.{Bool, true, false}
-use Prim.Native.Nat.{ℕ, _+_, _-_, _≤_, _<_, max}
-use native.Mathlib.Omega.{arith}
-use lib.Dec.{leb, leb→le, le→leb}
-use Rattle.base.specs.Tests.{T-iff}
+use Prim.Native.Nat.{ℕ, _<_}
 use Rattle.types.specs.declared.Plan.{Plan}
 use Rattle.types.specs.declared.Processor.{Processor}
 use Rattle.types.specs.declared.Input.{Input}
@@ -61,9 +58,3 @@ module _ (plan : Plan) (faulty : ℕ) (c : Processor) where
 
   pub arrives-faulty : correct plan faulty (c .number) ≡ false → Arrives plan faulty c (reaction c Nothing false)
   arrives-faulty e = record { ends = rw e refl; processor = λ z. rw e refl; sent = λ z. rw e refl }
-
--- "now is at or past the later of its sending and settling times, plus Δ"
-pub late-then : (gst delta time sent : ℕ) → delta ≤ time → sent ≤ time - delta → leb gst (time - delta) ≡ leb (max sent gst + delta) time
-late-then gst delta time sent d s = T-iff (leb gst (time - delta)) (leb (max sent gst + delta) time)
-    (λ t. let l : gst ≤ time - delta = leb→le _ _ t in let g : max sent gst + delta ≤ time = omega arith in le→leb _ _ g)
-    (λ t. let l : max sent gst + delta ≤ time = leb→le _ _ t in let g : gst ≤ time - delta = omega arith in le→leb _ _ g)

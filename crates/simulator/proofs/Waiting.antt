@@ -17,13 +17,13 @@ use Rattle.types.specs.declared.Processor.{Processor}
 use Rattle.types.specs.declared.Run.{Run}
 use Rattle.types.specs.Quantities.{nextInitial, clockTime, endTime, correct}
 use Rattle.model.specs.State.{State, clockOf, viewOf, isCorrect, sentAt}
-use Rattle.model.specs.Checks.{late, clockOutside, atEnd}
+use Rattle.model.specs.Checks.{late, overdue, clockOutside, atEnd}
 use Rattle.liveness.proofs.Answers.{no-yes}
 use Rattle.liveness.proofs.Link.{correct-below}
 use Rattle.types.specs.PlanFunctions.{nextInitialWord, clockTimeWord}
 use Rattle.pacemaker.specs.Limits.{Within}
 use Rattle.pacemaker.proofs.LimitLaws.{within, next-within, next-word, time-word, past-views}
-use Rattle.simulator.specs.Inner.{Fit, lateAt, someLate, seat}
+use Rattle.simulator.specs.Inner.{Fit, lateAt, seat}
 use Rattle.simulator.specs.Leaps.{later, WaitsFor, WaitsForAll, Waits, RestsFor, Rests}
 
 -- one that passed is enough later too
@@ -79,6 +79,7 @@ module _ (gst delta time : ℕ) (ws : List ℕ) (most : ℕ) where
 
 pub waits-settled : (s : State) (most r : ℕ) → s .run .settled ≡ true
     → WaitsForAll (s .run .gst) (s .run .plan .delta) (s .run .time) (s .network) (s .run .held) most r → Waits s most r
+unfolding overdue
 waits-settled s most r e x = record {
   few = x .few;
   quiet = λ j l. rw e (x .quiet j l);
@@ -86,6 +87,7 @@ waits-settled s most r e x = record {
 }
 
 pub waits-unsettled : (s : State) (most : ℕ) → s .run .settled ≡ false → Waits s most most
+unfolding overdue
 waits-unsettled s most e = record { few = omega arith; quiet = λ j l. rw e refl; ends = λ z l. absurd (omega arith) }
 
 -- ---- clocks

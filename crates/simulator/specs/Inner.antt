@@ -95,12 +95,9 @@ pub record Whole (r : Run) : Type 0 where
 
 -- ---- a single tick
 
--- a held message is late, once the network has settled
+-- the held message i is late at a time of a settled network: `overdueAt` of it
 abbrev pub lateAt : ℕ → ℕ → ℕ → List ℕ → ℕ → Bool
 lateAt gst delta time ws i = late gst delta time (sentAt ws i)
-
-abbrev pub someLate : State → Bool
-someLate s = s .run .settled && some (lateAt (s .run .gst) (s .run .plan .delta) (s .run .time) (s .network)) (s .run .held)
 
 -- the processor as it stands in the run
 abbrev pub seat : Run → ℕ → Processor

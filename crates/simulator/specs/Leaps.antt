@@ -13,11 +13,11 @@ use Rattle.model.specs.State.{State, stateOf, withTime, withClocks, clockOf, vi
 use Rattle.model.specs.Checks.{late, overdue, unsound}
 use Rattle.model.specs.Events.{ticks}
 use Rattle.pacemaker.specs.Limits.{timeMost}
-use Rattle.simulator.specs.Inner.{Fit, Whole, lateAt, someLate, TickedTo, ranTo}
+use Rattle.simulator.specs.Inner.{Fit, Whole, lateAt, TickedTo, ranTo}
 
 -- ---- quiet ticks
 
--- d more on each correct clock below k
+-- d more on each correct clock below k; a single tick's `clocksOn` is that of 1
 unfoldable pub clocksBy : ℕ → Plan → ℕ → List ℕ → ℕ → List ℕ
 clocksBy d plan faulty clocks zero = clocks
 clocksBy d plan faulty clocks (suc k) =
@@ -60,8 +60,8 @@ pub record WaitsForAll (gst delta time : ℕ) (ws : List ℕ) (k most r : ℕ) :
 -- the same of a state
 pub record Waits (s : State) (most r : ℕ) : Type 0 where
   pub few : r ≤ most
-  pub quiet : (j : ℕ) → j < r → someLate (later s j) ≡ false
-  pub ends : r ≡ 0 → 0 < most → someLate s ≡ true
+  pub quiet : (j : ℕ) → j < r → overdue (later s j) ≡ false
+  pub ends : r ≡ 0 → 0 < most → overdue s ≡ true
 
 -- that r ticks, of up to `most`, keep the clock before the next initial view's clock time
 pub record RestsFor (plan : Plan) (faulty : ℕ) (c : Processor) (most r : ℕ) : Type 0 where

@@ -34,7 +34,7 @@ fn least(a: u64, b: u64) -> u64
     b
 }
 
-// How many ticks, up to so many, find a message that was sent then not late, once the network has settled. A message of the future waits for its time at least.
+// How many ticks, up to so many, find a message not late that was sent at `sent`, once the network has settled. A message of the future waits for its time at least.
 fn wait_for(gst: u64, delta: u64, time: u64, sent: u64, most: u64) -> u64
     ensures { λ r. ⌜ WaitsFor gst delta time sent most r ⌝ }
 {
@@ -79,7 +79,7 @@ pub(crate) fn wait(head: Head, network: &[u64], most: u64) -> u64
     most
 }
 
-// How many ticks, up to so many, keep the clock of q before the next initial view's clock time, if q is correct.
+// How many ticks, up to so many, keep a processor's clock before the next initial view's clock time, if it is correct.
 fn rest_for(plan: Plan, faulty: u64, processor: Processor, most: u64) -> u64
     requires { ⌜ Within plan × (correct plan faulty (processor .number) ≡ true → clockOutside plan (processor .clock) (processor .view) ≡ false) ⌝ }
     ensures { λ r. ⌜ RestsFor plan faulty processor most r ⌝ }

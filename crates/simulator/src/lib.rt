@@ -16,7 +16,7 @@ use types::Run;
 use types::Sends;
 use types::Setup;
 ghost use mathlib.Core.Path.{_≡_};
-ghost use Rattle.model.specs.State.{stateOf, runFrom, headOf, handedBack, leftBehind};
+ghost use Rattle.model.specs.State.{stateOf, runFrom, handedBack, leftBehind};
 ghost use Rattle.model.specs.Checks.{unsound};
 ghost use Rattle.simulator.specs.Contracts.{Opens, Applies, KnownSound};
 
@@ -33,40 +33,6 @@ pub(crate) struct Reaction {
 pub(crate) struct Due {
     pub(crate) ends: bool,
     pub(crate) sent: usize,
-}
-
-// The run whose tables are lent beside its head.
-fn gather(head: Head, clocks: &[u64; 64], views: &[u64; 64]) -> Run
-    ensures { λ r. ⌜ r ≡ runFrom head (now (clocks .entry)) (now (views .entry)) ⌝ }
-{
-    let own_clocks = *clocks;
-    let own_views = *views;
-    let plan = head.plan;
-    Run {
-        plan: plan,
-        faulty: head.faulty,
-        time: head.time,
-        settled: head.settled,
-        gst: head.gst,
-        held: head.held,
-        clocks: own_clocks,
-        views: own_views,
-    }
-}
-
-// The head of a run.
-fn head_of(run: Run) -> Head
-    ensures { λ r. ⌜ r ≡ headOf run ⌝ }
-{
-    let plan = run.plan;
-    Head {
-        plan: plan,
-        faulty: run.faulty,
-        time: run.time,
-        settled: run.settled,
-        gst: run.gst,
-        held: run.held,
-    }
 }
 
 // A setup is opened in place of the run at hand: the run's tables are lent beside its head.
@@ -89,7 +55,7 @@ pub fn open_lent(
         *clocks = first_clocks;
         *views = first_views;
         return Outcome {
-            head: head_of(next),
+            head: types::head_of(next),
             answer: Answer::Done(0, next.held),
         };
     }
@@ -114,7 +80,7 @@ fn is_unsound(
     if known {
         return false;
     }
-    checks::unsound(gather(head, clocks, views), tally, network)
+    checks::unsound(types::gather(head, clocks, views), tally, network)
 }
 
 // An event is applied to a run whose tables are lent beside its head. A caller that knows the run to be sound says so, and check 9 is not made.
@@ -152,11 +118,18 @@ pub fn open(run: Run, setup: Setup, tally: &mut [u64], network: &mut [u64]) -> A
 {
     let mut clocks = run.clocks;
     let mut views = run.views;
-    let outcome = open_lent(head_of(run), setup, &mut clocks, &mut views, tally, network);
+    let outcome = open_lent(
+        types::head_of(run),
+        setup,
+        &mut clocks,
+        &mut views,
+        tally,
+        network,
+    );
     let head = outcome.head;
     let answer = outcome.answer;
     Applied {
-        run: gather(head, &clocks, &views),
+        run: types::gather(head, &clocks, &views),
         answer: answer,
     }
 }
@@ -168,7 +141,7 @@ pub fn apply(run: Run, event: Event, tally: &mut [u64], network: &mut [u64]) -> 
     let mut clocks = run.clocks;
     let mut views = run.views;
     let outcome = apply_lent(
-        head_of(run),
+        types::head_of(run),
         false,
         event,
         &mut clocks,
@@ -179,7 +152,7 @@ pub fn apply(run: Run, event: Event, tally: &mut [u64], network: &mut [u64]) -> 
     let head = outcome.head;
     let answer = outcome.answer;
     Applied {
-        run: gather(head, &clocks, &views),
+        run: types::gather(head, &clocks, &views),
         answer: answer,
     }
 }

@@ -15,14 +15,13 @@ ghost use mathlib.Core.Path.{_≡_};
 ghost use mathlib.Core.Bool.{true, false};
 ghost use mathlib.Core.List.{List};
 ghost use Prim.Native.Nat.{_+_, _^_, _<_, _≤_, ℕ};
-ghost use lib.ListN.{length};
 ghost use Rattle.types.specs.Quantities.{correct};
 ghost use Rattle.model.specs.State.{stateOf, runFrom, leftBehind, capacity};
-ghost use Rattle.model.specs.Checks.{unsound};
+ghost use Rattle.model.specs.Checks.{overdue, unsound};
 ghost use Rattle.model.specs.Events.{ticksAnswer, tickRun};
 ghost use Rattle.model.specs.Processors.{processorUnsound};
 ghost use Rattle.pacemaker.specs.Steps.{movingBy, Named};
-ghost use Rattle.simulator.specs.Inner.{Reacts, Arrives, Fit, Whole, Foretells, CanTick, TickMade, TickedTo, ranTo, someLate};
+ghost use Rattle.simulator.specs.Inner.{Reacts, Arrives, Fit, Whole, Foretells, CanTick, TickMade, TickedTo, ranTo};
 ghost use Rattle.simulator.specs.Leaps.{Ready, Advances};
 
 // What an input makes of a processor, by the pacemaker's own step.
@@ -167,7 +166,7 @@ struct Ticked {
     check: u64,
 }
 
-// The tick that brings a clock to an initial view, no message being overdue; or nothing and the check that refuses it.
+// One tick, no message being overdue; or nothing and the check that refuses it.
 fn tick_once(
     head: Head,
     clocks: &mut [u64; 64],
@@ -176,22 +175,22 @@ fn tick_once(
     network: &mut [u64],
 ) -> Ticked
     requires { ⌜ Fit (runFrom head (now clocks) (now views)) × Whole (runFrom head (now clocks) (now views)) × (head .held ≤ capacity (now network)) × (head .time + 1 < 2 ^ 64)
-        × (someLate (stateOf (runFrom head (now clocks) (now views)) (now tally) (now network)) ≡ false) ⌝ }
+        × (overdue (stateOf (runFrom head (now clocks) (now views)) (now tally) (now network)) ≡ false) ⌝ }
     ensures { λ r. ⌜ TickedTo (stateOf (runFrom head (now (clocks .entry)) (now (views .entry))) (now (tally .entry)) (now (network .entry)))
-        (stateOf (runFrom (r .head) (now (clocks .exit)) (now (views .exit))) (now (tally .exit)) (now (network .exit))) (r .check) × (r .count ≡ 1) ⌝ }
+        (stateOf (runFrom (r .head) (now (clocks .exit)) (now (views .exit))) (now (tally .exit)) (now (network .exit))) (r .check) × (r .check ≡ 0 → r .count ≡ 1) ⌝ }
 {
     let due = foretell(head, clocks, views);
     if due.ends {
         return Ticked {
             head: head,
-            count: 1,
+            count: 0,
             check: 17,
         };
     }
     if buffers::capacity(network) < head.held + due.sent {
         return Ticked {
             head: head,
-            count: 1,
+            count: 0,
             check: 18,
         };
     }
@@ -220,7 +219,7 @@ fn advance(
     if waiting == 0 {
         return Ticked {
             head: head,
-            count: 1,
+            count: 0,
             check: 16,
         };
     }
@@ -254,9 +253,9 @@ fn stop(head: Head, count: u64, check: u64) -> Outcome
     }
 }
 
-// A table has its 64 entries. The compiler makes nothing of this; the proofs hear it.
-fn sized(table: [u64; 64])
-    ensures { λ r. ⌜ length table ≡ 64 ⌝ }
+// A table has its 64 entries: the proofs hear of it where it is lent as a slice.
+fn sized(table: &[u64])
+    ensures { λ r. ⌜ now (table .entry) ≡ now (table .entry) ⌝ }
 {}
 
 // Up to m ticks: they end before the first that a check refuses. A sound run's clocks end it, whatever m is.
@@ -272,8 +271,8 @@ pub(crate) fn run_ticks(
     ensures { λ r. ⌜ leftBehind r (now (clocks .exit)) (now (views .exit)) (now (tally .exit)) (now (network .exit))
         ≡ tickRun m (stateOf (runFrom head (now (clocks .entry)) (now (views .entry))) (now (tally .entry)) (now (network .entry))) ⌝ }
 {
-    sized(*clocks);
-    sized(*views);
+    sized(clocks);
+    sized(views);
     let mut at = head;
     let mut count = 0;
     while count < m {

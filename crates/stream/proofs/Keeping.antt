@@ -44,12 +44,6 @@ moved-more w used filled i e a b x h =
 pub moved-all : (w : List ℕ) (used filled i : ℕ) (e : List ℕ) → Moved w used filled i e → filled - used ≤ i → e ≡ paste w 0 (drop used w) (filled - used)
 moved-all w used filled i e x h = let q : i ≡ filled - used = omega (arith, x .few) in x .words ∙ ap (paste w 0 (drop used w)) q
 
--- what is used of the bytes from `used` on is within them
-pub used-most : (w : List ℕ) (used k : ℕ) → used ≤ length w → k ≤ length (take (length w - used) (drop used w)) → used + k ≤ length w
-used-most w used k a h =
-    let l : length (take (length w - used) (drop used w)) ≡ length w - used = length-take-le (length w - used) (drop used w) (omega (arith, length-drop used w)) in
-    omega arith
-
 -- a read behind the first k bytes leaves these
 pub first-kept : (k : ℕ) (w f : List ℕ) → k ≤ length w → take k (take k w ++ f) ≡ take k w
 first-kept k w f h = take-at (take k w) f k (length-take-le k w h)

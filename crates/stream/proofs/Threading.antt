@@ -16,7 +16,9 @@ use Rattle.printout.specs.Printout.{Standing, standingOf, unopened}
 use Rattle.printout.specs.Contracts.{placeOf, Fed, fed, Begun, Serves}
 use Rattle.printout.proofs.Feeding.{fed-append}
 use Rattle.printout.proofs.Promises.{goes-on}
+use Rattle.driver.specs.Contracts.{KnownReachable}
 use Rattle.driver.proofs.Serving.{rest-lent, left-over}
+use Rattle.driver.proofs.Knowing.{known-unopened, known-fed, known-on}
 use Rattle.stream.specs.declared.Progress.{Progress}
 use Rattle.stream.specs.Threads.{Leads, Threads, Reaches}
 use Rattle.stream.proofs.Keeping.{kept-bytes}
@@ -61,6 +63,11 @@ going-more x late bytes tally network s passed used out tally' network' r after 
         subst (λ (l : List ℕ). Leads (standingOf s tally network) begun' (take (r .used) l) (standingOf (r .session) tally' network') (r .late)) (rest-lent used bytes)
         (record { state = f .state; begins = f .begins })
 
+-- what is known of where they began is known of where they led
+pub going-known : (known : Bool) (x : Standing) (late : Bool) (bytes tally network : List ℕ) (s : Session) (passed : Bool) (used : ℕ)
+    → KnownReachable known x → Going x late bytes tally network s passed used → KnownReachable known (standingOf s tally network)
+going-known known x late bytes tally network s passed used h g = known-on known x late (take used bytes) (standingOf s tally network) h (λ begun b. g .leads begun b .state)
+
 -- a call that used nothing was the last
 pub going-stops : (x : Standing) (passed : Bool) (bytes out tally' network' : List ℕ) (used : ℕ) (r : Served) (after : List ℕ)
     → Serves x passed (midOf used (length bytes - used) bytes) out tally' network' r after → r .used ≡ 0 → printedMost ≤ length out → nextLine (drop (used + r .used) bytes) ≡ Unfinished
@@ -83,6 +90,13 @@ reaches-start out tally network window s e = record {
   within = omega arith;
   rest = λ h. refl;
 }
+
+-- an open run comes from an accepted opening, since none was open at first
+pub reaches-known : (known : Bool) (tally₀ network₀ out tally network window : List ℕ) (r : Progress) → Reaches (standingOf unopened tally₀ network₀) out tally network window r
+    → KnownReachable known (standingOf (r .session) tally network)
+reaches-known known tally₀ network₀ out tally network window r h =
+    let x : Standing = standingOf unopened tally₀ network₀ in
+    subst (KnownReachable known) (sym (h .leads .state)) (known-fed known (placeOf x []) (h .input) (known-unopened known tally₀ network₀))
 
 -- a read leaves the bytes that were not used
 pub reaches-read : (x : Standing) (out tally network w w' : List ℕ) (r : Progress) → Reaches x out tally network w r → take (r .bytes) w' ≡ take (r .bytes) w → length w' ≡ length w

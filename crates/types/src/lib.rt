@@ -2,6 +2,7 @@
 ghost use mathlib.Core.Path.{_≡_};
 ghost use Rattle.types.specs.Quantities.{tolerated, perLeader, initial, correct};
 ghost use Rattle.types.specs.Messages.{kindOf, viewIn, processorIn, stageOf, isSignature, lacksForm};
+ghost use Rattle.types.specs.Runs.{runFrom, headOf};
 ghost use Rattle.types.specs.PlanFunctions.{leadWord, nextInitialWord, clockTimeWord, addresseeWord};
 
 // The protocol's parameters (document 01: the plan): processors, delay, slot, view limit.
@@ -251,6 +252,40 @@ pub struct Head {
     pub settled: bool,
     pub gst: u64,
     pub held: usize,
+}
+
+// The head of a run.
+pub fn head_of(run: Run) -> Head
+    ensures { λ r. ⌜ r ≡ headOf run ⌝ }
+{
+    let plan = run.plan;
+    Head {
+        plan: plan,
+        faulty: run.faulty,
+        time: run.time,
+        settled: run.settled,
+        gst: run.gst,
+        held: run.held,
+    }
+}
+
+// The run put together again.
+pub fn gather(head: Head, clocks: &[u64; 64], views: &[u64; 64]) -> Run
+    ensures { λ r. ⌜ r ≡ runFrom head (now (clocks .entry)) (now (views .entry)) ⌝ }
+{
+    let own_clocks = *clocks;
+    let own_views = *views;
+    let plan = head.plan;
+    Run {
+        plan: plan,
+        faulty: head.faulty,
+        time: head.time,
+        settled: head.settled,
+        gst: head.gst,
+        held: head.held,
+        clocks: own_clocks,
+        views: own_views,
+    }
 }
 
 // The answer to an opening or an event. Done: ticks done, messages held. Stopped: the same, and the check that ended the ticks.

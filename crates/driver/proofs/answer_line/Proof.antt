@@ -1,21 +1,26 @@
-use Rattle.driver.proofs.Texts.{line-few, line-answered}
 use native.Mathlib.Omega.{arith}
+use Rattle.driver.proofs.Knowing.{known-nothing}
+use Rattle.driver.proofs.Texts.{line-few, line-answered}
 use borrow.Author.Needs.{needs}
 use Rattle.driver.proofs.answer_line.Statement.{statement}
 use Rattle.driver.proofs.answer_line.Tie as tie
 use Rattle.driver.proofs.answer_line.Reads as reads
 use Rattle.driver.proofs.answer_line.Lts as lts
-use Rattle.driver.proofs.printing.print_reading.Reads as print-reading-reads
-use Rattle.reader.proofs.read_line.Reads as read-line-reads
+use Rattle.driver.proofs.gather.Reads as gather-reads
+use Rattle.types.proofs.head_of.Reads as head-of-reads
+use Rattle.driver.proofs.turns.answer_whole.Reads as answer-whole-reads
 
 returns : tie.Need-returns
 returns c = line-few _ _ _ (omega (arith, c .if1 .taken))
 
-read-line-requires : tie.Need-read-line-requires
-read-line-requires c κs = search needs
+head-of-requires : tie.Need-head-of-requires
+head-of-requires c κs = search needs
 
-print-reading-requires : tie.Need-print-reading-requires
-print-reading-requires c κs = search needs
+answer-whole-requires : tie.Need-answer-whole-requires
+answer-whole-requires c κs = (omega (arith, c .before .before .before .before .before .before .before .before .before .if1 .left), known-nothing _)
+
+gather-requires : tie.Need-gather-requires
+gather-requires c κs = search needs
 
 same-length : tie.Need-same-length
 same-length c = search needs
@@ -27,15 +32,16 @@ same-length-3 : tie.Need-same-length-3
 same-length-3 c = search needs
 
 returns-2 : tie.Need-returns-2
-returns-2 c = line-answered _ _ _ _ _ _ _ _ (omega (arith, c .before .before .before .before .before .before .before .before .before .before .before .before .if1 .left)) (c .before .before .before .before .before .before .before .before .before .before .before .read-line .ensures .0) (c .before .before .before .before .before .before .before .print-reading .ensures)
+returns-2 c = rw (c .gather .ensures) (line-answered _ _ _ _ _ _ _ (omega (arith, c .before .before .before .before .before .before .before .before .before .before .before .before .before .before .before .before .before .before .before .before .if1 .left)) (rw (c .before .before .before .before .before .before .before .before .before .before .before .before .before .before .before .before .head-of .ensures) at (c .before .before .before .before .before .before .before .before .before .before .answer-whole .ensures)))
 
 pub answer-line-spec : {M : Type 1} → statement M
 answer-line-spec =
     tie.close
     (tie.spec
     returns
-    read-line-requires
-    print-reading-requires
+    head-of-requires
+    answer-whole-requires
+    gather-requires
     same-length
     same-length-2
     same-length-3

@@ -6,8 +6,8 @@ use Rattle.simulator.proofs.apply.Tie as tie
 use Rattle.simulator.proofs.apply.Reads as reads
 use Rattle.simulator.proofs.apply.Lts as lts
 use Rattle.simulator.proofs.apply_lent.Reads as apply-lent-reads
-use Rattle.simulator.proofs.gather.Reads as gather-reads
-use Rattle.simulator.proofs.head_of.Reads as head-of-reads
+use Rattle.types.proofs.gather.Reads as gather-reads
+use Rattle.types.proofs.head_of.Reads as head-of-reads
 
 head-of-requires : tie.Need-head-of-requires
 head-of-requires c κs = search needs

@@ -5,7 +5,7 @@ use Rattle.simulator.proofs.is_unsound.Tie as tie
 use Rattle.simulator.proofs.is_unsound.Reads as reads
 use Rattle.simulator.proofs.is_unsound.Lts as lts
 use Rattle.checks.proofs.unsound.Reads as unsound-reads
-use Rattle.simulator.proofs.gather.Reads as gather-reads
+use Rattle.types.proofs.gather.Reads as gather-reads
 
 returns : tie.Need-returns
 returns c = sym (c .before .before .before .pre (c .if1 .taken))

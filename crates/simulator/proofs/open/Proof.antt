@@ -3,8 +3,8 @@ use Rattle.simulator.proofs.open.Statement.{statement}
 use Rattle.simulator.proofs.open.Tie as tie
 use Rattle.simulator.proofs.open.Reads as reads
 use Rattle.simulator.proofs.open.Lts as lts
-use Rattle.simulator.proofs.gather.Reads as gather-reads
-use Rattle.simulator.proofs.head_of.Reads as head-of-reads
+use Rattle.types.proofs.gather.Reads as gather-reads
+use Rattle.types.proofs.head_of.Reads as head-of-reads
 use Rattle.simulator.proofs.open_lent.Reads as open-lent-reads
 
 head-of-requires : tie.Need-head-of-requires

@@ -7,7 +7,7 @@ use Rattle.simulator.proofs.open_lent.Tie as tie
 use Rattle.simulator.proofs.open_lent.Reads as reads
 use Rattle.simulator.proofs.open_lent.Lts as lts
 use Rattle.checks.proofs.setup_check.Reads as setup-check-reads
-use Rattle.simulator.proofs.head_of.Reads as head-of-reads
+use Rattle.types.proofs.head_of.Reads as head-of-reads
 use Rattle.simulator.proofs.opening.start.Reads as start-reads
 
 setup-check-requires : tie.Need-setup-check-requires

@@ -5,10 +5,10 @@ use Rattle.driver.proofs.replies.answer_opening.Tie as tie
 use Rattle.driver.proofs.replies.answer_opening.Reads as reads
 use Rattle.driver.proofs.replies.answer_opening.Lts as lts
 use Rattle.driver.proofs.replies.stays_open.Reads as stays-open-reads
-use Rattle.simulator.proofs.open.Reads as open-reads
+use Rattle.simulator.proofs.open_lent.Reads as open-lent-reads
 
-open-requires : tie.Need-open-requires
-open-requires c κs = search needs
+open-lent-requires : tie.Need-open-lent-requires
+open-lent-requires c κs = search needs
 
 stays-open-requires : tie.Need-stays-open-requires
 stays-open-requires c κs = search needs
@@ -20,8 +20,8 @@ same-length-2 : tie.Need-same-length-2
 same-length-2 c = search needs
 
 returns : tie.Need-returns
-returns c = opening-applied _ _ _ _ (c .before .before .before .before .before .before .«open» .ensures) (c .stays-open .ensures)
+returns c = opening-applied _ _ _ _ (c .before .before .before .before .before .before .open-lent .ensures) (c .stays-open .ensures)
 
 pub answer-opening-spec : {M : Type 1} → statement M
 answer-opening-spec =
-    tie.close (tie.spec open-requires stays-open-requires same-length same-length-2 returns)
+    tie.close (tie.spec open-lent-requires stays-open-requires same-length same-length-2 returns)

@@ -1,9 +1,9 @@
-use Rattle.driver.proofs.Serving.{turn-none, turn-late, turn-long, turn-line, turn-endless}
-use Rattle.lines.proofs.Splitting.{line-inside, long-inside}
-use lib.Seq.{length-take-le}
-use mathlib.Core.Logic.{inl, inr}
-use mathlib.Core.Path.{refl, sym, _∙_}
 use native.Mathlib.Omega.{arith}
+use mathlib.Core.Path.{refl, sym, _∙_}
+use mathlib.Core.Logic.{inl, inr}
+use lib.Seq.{length-take-le}
+use Rattle.lines.proofs.Splitting.{line-inside, long-inside}
+use Rattle.driver.proofs.Serving.{turn-none, turn-late, turn-long, turn-line, turn-endless}
 use borrow.Author.Needs.{needs}
 use Rattle.driver.proofs.turns.answer_next.Statement.{statement}
 use Rattle.driver.proofs.turns.answer_next.Tie as tie
@@ -29,7 +29,7 @@ same-length : tie.Need-same-length
 same-length c = search needs
 
 returns-2 : tie.Need-returns-2
-returns-2 c = turn-late _ _ _ _ _ _ _ _ _ _ (c .before .before .before .before .if2 .taken) (c .before .before .before .before .before .before .before .before .next-line .ensures) (c .before .before .before .before .before .before .next .given .1) (c .before .before .refuse-line .ensures) (omega (arith, c .before .before .before .before .before .before .before .before .before .if1 .left))
+returns-2 c = turn-late _ _ _ _ _ _ _ _ _ _ (c .before .before .before .before .if2 .taken) (c .before .before .before .before .before .before .before .before .next-line .ensures) (c .before .before .before .before .before .before .next .given .1) (c .before .before .refuse-line .ensures _ _ _ _) (omega (arith, c .before .before .before .before .before .before .before .before .before .if1 .left))
 
 slice-aggregate-answer-whole : tie.Need-slice-aggregate-answer-whole
 slice-aggregate-answer-whole c = sym (length-take-le _ _ (omega (arith, line-inside _ _ _ (c .before .before .before .before .before .next-line .ensures) (c .before .before .before .next .given .1))))
@@ -59,13 +59,13 @@ same-length-4 : tie.Need-same-length-4
 same-length-4 c = search needs
 
 returns-3 : tie.Need-returns-3
-returns-3 c = turn-line _ _ _ _ _ _ _ _ _ _ (c .before .before .before .before .before .before .before .before .before .before .before .if2 .left) (c .before .before .before .before .before .before .before .before .before .before .before .before .before .before .before .next-line .ensures) (c .before .before .before .before .before .before .before .before .before .before .before .before .before .next .given .1) (c .before .before .before .before .before .before .answer-whole .ensures) (omega (arith, c .before .before .before .before .before .before .before .before .before .before .before .before .before .before .before .before .if1 .left))
+returns-3 c = turn-line _ _ _ _ _ _ _ _ _ _ (c .before .before .before .before .before .before .before .before .before .before .before .before .before .if2 .left) (c .before .before .before .before .before .before .before .before .before .before .before .before .before .before .before .before .before .next-line .ensures) (c .before .before .before .before .before .before .before .before .before .before .before .before .before .before .before .next .given .1) (c .before .before .before .before .before .before .answer-whole .ensures) (omega (arith, c .before .before .before .before .before .before .before .before .before .before .before .before .before .before .before .before .before .before .if1 .left))
 
 same-length-5 : tie.Need-same-length-5
 same-length-5 c = search needs
 
 returns-4 : tie.Need-returns-4
-returns-4 c = turn-long _ _ _ _ _ _ _ _ _ _ (c .before .before .before .before .before .before .before .next-line .ensures) (c .before .before .before .before .before .next2 .given .1) (c .before .before .refuse-line2 .ensures) (omega (arith, c .before .before .before .before .before .before .before .before .if1 .left))
+returns-4 c = turn-long _ _ _ _ _ _ _ _ _ _ (c .before .before .before .before .before .before .before .next-line .ensures) (c .before .before .before .before .before .next2 .given .1) (c .before .before .refuse-line2 .ensures _ _ _ _) (omega (arith, c .before .before .before .before .before .before .before .before .if1 .left))
 
 returns-5 : tie.Need-returns-5
 returns-5 c = turn-none _ _ _ _ _ _ _ refl (inr (sym (c .before .before .next-line .ensures) ∙ c .enum-told .given .1))

@@ -4,17 +4,17 @@ use Rattle.driver.proofs.turns.answer_whole.Statement.{statement}
 use Rattle.driver.proofs.turns.answer_whole.Tie as tie
 use Rattle.driver.proofs.turns.answer_whole.Reads as reads
 use Rattle.driver.proofs.turns.answer_whole.Lts as lts
-use Rattle.driver.proofs.printing.print_reading.Reads as print-reading-reads
-use Rattle.reader.proofs.read_line.Reads as read-line-reads
+use Rattle.driver.proofs.printing.print_answer.Reads as print-answer-reads
+use Rattle.driver.proofs.replies.answer_reading.Reads as answer-reading-reads
 
-read-line-requires : tie.Need-read-line-requires
-read-line-requires c κs = search needs
+answer-reading-requires : tie.Need-answer-reading-requires
+answer-reading-requires c κs = search needs
 
-print-reading-requires : tie.Need-print-reading-requires
-print-reading-requires c κs = search needs
+add-t20 : tie.Need-add-t20
+add-t20 c = search needs
 
-add-t16 : tie.Need-add-t16
-add-t16 c = search needs
+print-answer-requires : tie.Need-print-answer-requires
+print-answer-requires c κs = search needs
 
 same-length : tie.Need-same-length
 same-length c = search needs
@@ -26,15 +26,15 @@ same-length-3 : tie.Need-same-length-3
 same-length-3 c = search needs
 
 returns : tie.Need-returns
-returns c = line-passed _ _ _ _ _ _ _ _ (c .before .before .before .before .before .before .before .before .before .before .before .read-line .ensures .0) (c .before .before .before .before .before .before .before .print-reading .ensures)
+returns c = line-passed _ _ _ _ _ _ (c .before .before .before .before .before .before .before .before .before .answer-reading .ensures) (c .before .before .print-answer .ensures)
 
 pub answer-whole-spec : {M : Type 1} → statement M
 answer-whole-spec =
     tie.close
     (tie.spec
-    read-line-requires
-    print-reading-requires
-    add-t16
+    answer-reading-requires
+    add-t20
+    print-answer-requires
     same-length
     same-length-2
     same-length-3

@@ -24,7 +24,7 @@ same-length c = search needs
 returns : tie.Need-returns
 returns c =
     let s : State = stateOf (runFrom (c .before .before .before .before .before .args .head) (c .before .before .before .before .before .args .clocks .now) (c .before .before .before .before .before .args .views .now)) (c .before .before .before .before .before .args .tally .now) (c .before .before .before .before .before .args .network .now) in
-    advance-late s (c .before .before .before .before .before .pre .0) (c .before .before .before .before .before .args .most) 1 (subst (λ (w : ℕ). Waits s (c .before .before .before .before .before .args .most) w) (c .if1 .taken) (c .before .wait .ensures (c .before .before .before .before .before .args .clocks .now) (c .before .before .before .before .before .args .views .now) (c .before .before .before .before .before .args .tally .now))) (c .before .before .before .before .before .pre .1)
+    advance-late s (c .before .before .before .before .before .pre .0) (c .before .before .before .before .before .args .most) 0 (subst (λ (w : ℕ). Waits s (c .before .before .before .before .before .args .most) w) (c .if1 .taken) (c .before .wait .ensures (c .before .before .before .before .before .args .clocks .now) (c .before .before .before .before .before .args .views .now) (c .before .before .before .before .before .args .tally .now))) (c .before .before .before .before .before .pre .1)
 
 rest-requires : tie.Need-rest-requires
 rest-requires c κs = search needs
@@ -56,8 +56,7 @@ same-length-4 c = search needs
 returns-3 : tie.Need-returns-3
 returns-3 c =
     let s : State = stateOf (runFrom (c .before .before .before .before .before .before .before .before .before .before .before .before .before .before .before .before .before .before .args .head) (c .before .before .before .before .before .before .before .before .before .before .before .before .before .before .before .before .before .before .args .clocks .now) (c .before .before .before .before .before .before .before .before .before .before .before .before .before .before .before .before .before .before .args .views .now)) (c .before .before .before .before .before .before .before .before .before .before .before .before .before .before .before .before .before .before .args .tally .now) (c .before .before .before .before .before .before .before .before .before .before .before .before .before .before .before .before .before .before .args .network .now) in
-    let k : c .before .before .before .before .tick-once .result .count ≡ 1 = c .before .before .before .before .tick-once .ensures .1 in
-    rw k (advance-once s (c .before .before .before .before .before .before .before .before .before .before .before .before .before .before .before .before .before .before .pre .0) (c .before .before .before .before .before .before .before .before .before .before .before .before .before .before .before .before .before .before .args .most) (c .before .before .before .before .before .before .before .before .before .before .before .before .before .before .before .before .before .before .pre .1) _ _ (c .before .before .before .before .tick-once .ensures .0))
+    advance-once s (c .before .before .before .before .before .before .before .before .before .before .before .before .before .before .before .before .before .before .pre .0) (c .before .before .before .before .before .before .before .before .before .before .before .before .before .before .before .before .before .before .args .most) (c .before .before .before .before .before .before .before .before .before .before .before .before .before .before .before .before .before .before .pre .1) _ _ _ (c .before .before .before .before .tick-once .ensures .0) (c .before .before .before .before .tick-once .ensures .1)
 
 pub advance-spec : {M : Type 1} → statement M
 advance-spec =

@@ -18,7 +18,7 @@ foretell-requires c κs = search needs
 returns : tie.Need-returns
 returns c =
     let s : State = stateOf (runFrom (c .before .before .before .before .before .before .args .head) (c .before .before .before .before .before .before .args .clocks .now) (c .before .before .before .before .before .before .args .views .now)) (c .before .before .before .before .before .before .args .tally .now) (c .before .before .before .before .before .before .args .network .now) in
-    (once-ends s (c .before .before .before .before .before .before .pre .1 .clocks) (c .before .before .before .before .before .before .pre .4) (sym (c .before .foretell .ensures .ends) ∙ c .if1 .taken), refl)
+    (once-ends s (c .before .before .before .before .before .before .pre .1 .clocks) (c .before .before .before .before .before .before .pre .4) (sym (c .before .foretell .ensures .ends) ∙ c .if1 .taken), λ z. absurd (omega (arith, z)))
 
 capacity-requires : tie.Need-capacity-requires
 capacity-requires c κs = search needs
@@ -32,7 +32,7 @@ same-length c = search needs
 returns-2 : tie.Need-returns-2
 returns-2 c =
     let s : State = stateOf (runFrom (c .before .before .before .before .before .before .before .before .before .before .before .args .head) (c .before .before .before .before .before .before .before .before .before .before .before .args .clocks .now) (c .before .before .before .before .before .before .before .before .before .before .before .args .views .now)) (c .before .before .before .before .before .before .before .before .before .before .before .args .tally .now) (c .before .before .before .before .before .before .before .before .before .before .before .args .network .now) in
-    (once-full s (c .before .before .before .before .before .before .before .before .before .before .before .pre .1 .clocks) (c .before .before .before .before .before .before .before .before .before .before .before .pre .4) (sym (c .before .before .before .before .before .before .foretell .ensures .ends) ∙ c .before .before .before .before .before .if1 .left) (c .before .before .before .before .before .before .foretell .result .sent) (c .before .before .before .before .before .before .foretell .ensures .sent (c .before .before .before .before .before .if1 .left) (c .before .before .before .before .before .before .before .before .before .before .before .args .tally .now) (c .before .before .before .before .before .before .before .before .before .before .before .args .network .now)) (rw (c .before .before .before .capacity .ensures) at (c .if2 .taken)), refl)
+    (once-full s (c .before .before .before .before .before .before .before .before .before .before .before .pre .1 .clocks) (c .before .before .before .before .before .before .before .before .before .before .before .pre .4) (sym (c .before .before .before .before .before .before .foretell .ensures .ends) ∙ c .before .before .before .before .before .if1 .left) (c .before .before .before .before .before .before .foretell .result .sent) (c .before .before .before .before .before .before .foretell .ensures .sent (c .before .before .before .before .before .if1 .left) (c .before .before .before .before .before .before .before .before .before .before .before .args .tally .now) (c .before .before .before .before .before .before .before .before .before .before .before .args .network .now)) (rw (c .before .before .before .capacity .ensures) at (c .if2 .taken)), λ z. absurd (omega (arith, z)))
 
 arrive-all-requires : tie.Need-arrive-all-requires
 arrive-all-requires c κs = record {
@@ -54,7 +54,7 @@ returns-3 c =
     let s : State = stateOf (runFrom (c .before .before .before .before .before .before .before .before .before .before .before .before .before .before .before .before .before .before .before .before .args .head) (c .before .before .before .before .before .before .before .before .before .before .before .before .before .before .before .before .before .before .before .before .args .clocks .now) (c .before .before .before .before .before .before .before .before .before .before .before .before .before .before .before .before .before .before .before .before .args .views .now)) (c .before .before .before .before .before .before .before .before .before .before .before .before .before .before .before .before .before .before .before .before .args .tally .now) (c .before .before .before .before .before .before .before .before .before .before .before .before .before .before .before .before .before .before .before .before .args .network .now) in (
       once-done s (c .before .before .before .before .before .before .before .before .before .before .before .before .before .before .before .before .before .before .before .before .pre .1 .clocks) (c .before .before .before .before .before .before .before .before .before .before .before .before .before .before .before .before .before .before .before .before .pre .4) (sym (c .before .before .before .before .before .before .before .before .before .before .before .before .before .before .before .foretell .ensures .ends) ∙ c .before .before .before .before .before .before .before .before .before .before .before .before .before .before .if1 .left) (c .before .before .before .before .before .before .before .before .before .before .before .before .before .before .before .foretell .result .sent) (c .before .before .before .before .before .before .before .before .before .before .before .before .before .before .before .foretell .ensures .sent (c .before .before .before .before .before .before .before .before .before .before .before .before .before .before .if1 .left) (c .before .before .before .before .before .before .before .before .before .before .before .before .before .before .before .before .before .before .before .before .args .tally .now) (c .before .before .before .before .before .before .before .before .before .before .before .before .before .before .before .before .before .before .before .before .args .network .now)) (rw (c .before .before .before .before .before .before .before .before .before .before .before .before .capacity .ensures) at (c .before .before .before .before .before .before .before .before .before .if2 .left)) _ (c .before .before .before .before .arrive-all .ensures)
           (went-ticked s (c .before .before .before .before .before .before .before .before .before .before .before .before .before .before .before .before .before .before .before .before .pre .1 .clocks) (c .before .before .before .before .before .before .before .before .before .before .before .before .before .before .before .before .before .before .before .before .pre .1 .views) (c .before .before .before .before .before .before .before .before .before .before .before .before .before .before .before .before .before .before .before .before .pre .0) (sym (c .before .before .before .before .before .before .before .before .before .before .before .before .before .before .before .foretell .ensures .ends) ∙ c .before .before .before .before .before .before .before .before .before .before .before .before .before .before .if1 .left) (omega (arith, c .before .before .before .before .before .before .before .before .before .before .before .before .capacity .ensures, c .before .before .before .before .before .before .before .before .before .if2 .left, c .before .before .before .before .before .before .before .before .before .before .before .before .before .before .before .foretell .ensures .sent (c .before .before .before .before .before .before .before .before .before .before .before .before .before .before .if1 .left) (c .before .before .before .before .before .before .before .before .before .before .before .before .before .before .before .before .before .before .before .before .args .tally .now) (c .before .before .before .before .before .before .before .before .before .before .before .before .before .before .before .before .before .before .before .before .args .network .now)))),
-      refl,
+      λ z. refl,
     )
 
 pub tick-once-spec : {M : Type 1} → statement M

@@ -4,9 +4,13 @@
  * Link with target/staticlib/libfever.a, which `rt staticlib fever` proves and writes (x86-64 Linux).
  *
  * Numbers are 64-bit. Memory is lent as a pointer and how many elements there are; nothing is kept between calls and nothing is
- * allocated. What is lent to one call must not overlap, and nobody else may write it meanwhile. Every function takes every
- * argument: there is nothing that a caller has to see to first. A call that is refused answers a check's number and has changed
- * nothing that was lent. The contract of each function is in crates/fever/specs/Contracts.antt, the layouts are in Layout.antt.
+ * allocated. The caller sees to this: each pointer is aligned for its elements and points to as many initialised ones as its length
+ * says, and is not NULL even where the length is 0; what is lent to one call does not overlap, what is only read included; and
+ * nobody else writes it meanwhile. Beyond that every function takes any words, any lengths and any numbers.
+ *
+ * Open, apply, step and read answer a check's number where they refuse, the two that write answer 0, and a call that refuses has
+ * changed nothing that was lent. A run of ticks that is stopped answers the check that ended it, and the ticks before are done. The
+ * contract of each function is in crates/fever/specs/Contracts.antt, the layouts are in Layout.antt.
  *
  * The checks: 1 no such form, or too few elements lent; 2 to 8 refuse an opening; 9 to 18 an event; one processor uses 9, 10, 11 and
  * 17. The README lists them.

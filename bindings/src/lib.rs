@@ -1,8 +1,11 @@
 //! The Fever pacemaker and its simulator, proved in Rattle and linked from `libfever.a`.
 //!
-//! A run is opened from a [`Setup`] and moved by one [`Event`] after the other; tally and network are lent by the caller. A call
-//! that is refused answers the number of the first check whose sentence holds, and has changed nothing. [`step`] moves one
-//! [`Processor`] alone. Lines of a schedule are read and written by [`read_line`], [`write_event`] and [`write_setup`].
+//! A run is opened from a [`Setup`] and moved by one [`Event`] after the other; tally and network are lent by the caller. [`step`]
+//! moves one [`Processor`] alone. Lines of a schedule are read and written by [`read_line`], [`write_event`] and [`write_setup`].
+//!
+//! [`open`], [`apply`] and [`step`] name the first check whose sentence holds where they refuse, [`read_line`] and the two that
+//! write answer `None`; a call that refuses has changed nothing. A run of ticks that is stopped names the check that ended it and
+//! the ticks done.
 //!
 //! ```
 //! use fever::{apply, open, Answer, Event, Plan, Run, Setup};

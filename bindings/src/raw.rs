@@ -1,4 +1,5 @@
-//! The functions of the archive over plain slices and numbers, with the layouts of `include/fever.h`. Each takes every argument.
+//! The functions of the archive over plain slices and numbers, with the layouts of `include/fever.h`. Each takes any slices and
+//! numbers.
 
 /// The words of a run; words behind them are never touched.
 pub const RUN_WORDS: usize = 137;
@@ -72,8 +73,9 @@ mod archive {
 
 /// `fever_open`: 0, or the check that refuses the setup.
 pub fn open(setup: &[u64], run: &mut [u64], tally: &mut [u64], network: &mut [u64]) -> u64 {
-    // SAFETY: each pointer and length are those of a slice that lives through the call; the three that are written do not overlap,
-    // being `&mut`; the function stays within the lengths and keeps no pointer.
+    // SAFETY: each pointer and length are those of a slice that lives through the call; no two slices overlap where one is `&mut`,
+    // and at most one is not; an empty slice's pointer is aligned and not null, and is not followed; the function stays within the
+    // lengths and keeps no pointer.
     unsafe {
         archive::fever_open(
             setup.as_ptr(),
@@ -125,8 +127,8 @@ pub fn step(
     input: u64,
     view: u64,
 ) -> u64 {
-    // SAFETY: pointer and length are those of a slice that lives through the call and that nobody else reads or writes; the
-    // function stays within the length and keeps no pointer.
+    // SAFETY: pointer and length are those of a slice that lives through the call and overlaps no other, being `&mut`; an empty
+    // slice's pointer is aligned and not null, and is not followed; the function stays within the length and keeps no pointer.
     unsafe {
         archive::fever_step(
             n,

@@ -72,7 +72,7 @@ fn plan_in(words: &[u64]) -> Plan {
 pub struct Run([u64; raw::RUN_WORDS]);
 
 impl Run {
-    /// No run: every word is 0, and every event is refused by check 9.
+    /// No run: every word is 0, and every event that has a form is refused by check 9.
     pub fn unopened() -> Run {
         Run([0; raw::RUN_WORDS])
     }

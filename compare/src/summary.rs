@@ -32,7 +32,7 @@ impl Summary {
 
     /// What is missing of a comparison that says something: enough events,
     /// every check met on both ways and every one that ends ticks, demand 3 due
-    /// whole in each round.
+    /// whole as often as there are rounds.
     pub fn missing(&self) -> Option<String> {
         let mut library = Counts::default();
         for (_, counts) in &self.library {
@@ -50,8 +50,10 @@ impl Summary {
                 return Some(format!("check {check} hardly ended ticks, {way}"));
             }
         }
-        let due = self.program.due;
-        (due < self.rounds).then(|| format!("demand 3's second sentence was due only {due} times"))
+        let (due, calls) = (self.program.due, library.due);
+        (due < self.rounds || calls == 0).then(|| {
+            format!("demand 3's second sentence was due {due} times, through the library {calls}")
+        })
     }
 }
 
@@ -83,6 +85,7 @@ mod tests {
         };
         program.met[1..].fill(LEAST_MET);
         program.stopped[16..].fill(LEAST_MET);
+        program.due = 1;
         let library = vec![("calls", program.clone())];
         program.due = 3;
         program.events = LEAST_EVENTS;
@@ -98,7 +101,8 @@ mod tests {
             let missing = summary.missing().unwrap_or_default();
             assert!(missing.contains(told), "{missing}");
         };
-        lacks(|summary| summary.rounds = 4, "second sentence");
+        lacks(|summary| summary.rounds = 4, "due 3 times");
+        lacks(|summary| summary.library[0].1.due = 0, "library 0");
         lacks(|summary| summary.library[0].1.met[17] = 1, "check 17");
         lacks(|summary| summary.program.stopped[18] = 0, "ended ticks");
         lacks(|summary| summary.program.events = 1, "only 2 events");

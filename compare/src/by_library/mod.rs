@@ -41,7 +41,7 @@ pub fn compare(seed: u64, rounds: u64) -> Result<Vec<(&'static str, Counts)>, Di
             let mut draws = Draws::new(seed.wrapping_add(place as u64));
             let mut counts = Counts::default();
             for number in 0..rounds * cases {
-                let which = format!("case {number} of {name}, seed {seed}");
+                let which = format!("case {number} of {name}: --rounds {rounds} --seed {seed}");
                 last.leave(&which);
                 let mut drawn = draws.branch();
                 guarded(|| case(&mut drawn, &mut counts)).unwrap_or_else(|| panicked(&which))?;
@@ -51,10 +51,11 @@ pub fn compare(seed: u64, rounds: u64) -> Result<Vec<(&'static str, Counts)>, Di
         .collect()
 }
 
-/// The reference panicked where a state was made ready.
+/// A panic outside of the calls that are compared, as where a state is made
+/// ready.
 fn panicked(which: &str) -> Result<(), Difference> {
     Err(Difference {
-        what: "the reference panicked".to_owned(),
+        what: "a panic outside of the calls that are compared".to_owned(),
         name: "panic.case".to_owned(),
         contents: format!("{which}\n").into_bytes(),
     })

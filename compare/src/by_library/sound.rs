@@ -12,8 +12,8 @@ use crate::openings;
 use crate::wild;
 use reference::Event;
 
-/// Calls in one sequence, mostly; the longest come under demand 3's second
-/// sentence.
+/// Calls in one sequence, one of these; the longest may come under demand 3's
+/// second sentence.
 const CALLS: [u64; 4] = [60, 60, 60, 500];
 /// The refusals in a row after which a sequence is given up.
 const MOST_REFUSALS: u64 = 10;

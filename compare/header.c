@@ -1,0 +1,144 @@
+/*
+ * Document 01's printed schedule from C: each line is read, written again, and done by the exported functions as include/fever.h
+ * declares them. Prints what it got; ends with 1 where that is not what the document prints, or where a refusal changed something.
+ */
+#include "fever.h"
+
+#include <inttypes.h>
+#include <stdarg.h>
+#include <stdio.h>
+#include <string.h>
+
+#define VIEWS 6
+#define MESSAGES 16
+
+static const char *const schedule[] = {"(open 4 2 4 6 0 (0 0 0 0))", "(deliver (view 0 0))", "(deliver (view 0 1))",
+                                       "(tick 3)",                   "(settle)",             "(tick 3)"};
+
+static const char expected[] = "(done 0 8)\n(done 0 7)\n(done 0 10)\n(done 3 10)\n(done 0 10)\n(stopped 2 10 16)\n"
+                               "(cabinet 0 0 5)\n(cabinet 1 0 5)\n(cabinet 2 0 5)\n(cabinet 3 0 5)\n";
+
+static uint64_t run[FEVER_RUN_WORDS];
+static uint64_t tally[VIEWS * FEVER_TALLY_ROW_WORDS];
+static uint64_t network[MESSAGES * FEVER_NETWORK_MESSAGE_WORDS];
+static uint64_t reading[FEVER_READING_WORDS];
+
+#define COUNT(words) (sizeof(words) / sizeof((words)[0]))
+
+static char printed[1024];
+static int wrong;
+
+/* Adds to what is printed. */
+static void print(const char *form, ...)
+{
+    size_t used = strlen(printed);
+    va_list numbers;
+    va_start(numbers, form);
+    vsnprintf(printed + used, sizeof(printed) - used, form, numbers);
+    va_end(numbers);
+}
+
+/* Says what is not as it should be, if it is not. */
+static void demand(int holds, const char *what)
+{
+    if (!holds) {
+        printf("not so: %s\n", what);
+        wrong = 1;
+    }
+}
+
+/* Whether the line that was read is written as it stood, in just the bytes that it needs and in no fewer. */
+static void write_again(const char *line)
+{
+    uint8_t out[FEVER_LINE_BYTES];
+    size_t needed = strlen(line) + 1;
+    int fewer;
+    for (fewer = 0; fewer < 2; fewer++) {
+        size_t lent = needed - (size_t)fewer;
+        uint64_t written;
+        memset(out, 'x', sizeof(out));
+        if (reading[FEVER_READING_FORM] == FEVER_OPEN) {
+            written = fever_write_setup(reading + FEVER_READING_SETUP, FEVER_SETUP_WORDS, out, lent);
+        } else {
+            written = fever_write_event(reading[FEVER_READING_FORM], reading[FEVER_READING_KIND], reading[FEVER_READING_VIEW],
+                                        reading[FEVER_READING_PROCESSOR], out, lent);
+        }
+        if (fewer) {
+            demand(written == 0 && out[0] == 'x', "a byte too few is refused");
+        } else {
+            demand(written == needed && memcmp(out, line, needed - 1) == 0 && out[needed - 1] == '\n', "the same line");
+            demand(out[needed] == 'x', "nothing behind the newline");
+        }
+    }
+}
+
+/* Reads a line and does what it says. */
+static void answer(const char *line)
+{
+    uint64_t before = run[FEVER_RUN_TIME];
+    uint64_t check;
+    uint64_t ticks;
+    demand(fever_read_line((const uint8_t *)line, strlen(line), reading, COUNT(reading)) == 0, "the line is read");
+    write_again(line);
+    if (reading[FEVER_READING_FORM] == FEVER_OPEN) {
+        check = fever_open(reading + FEVER_READING_SETUP, FEVER_SETUP_WORDS, run, COUNT(run), tally, COUNT(tally), network,
+                           COUNT(network));
+    } else {
+        check = fever_apply(run, COUNT(run), reading[FEVER_READING_FORM], reading[FEVER_READING_KIND],
+                            reading[FEVER_READING_VIEW], reading[FEVER_READING_PROCESSOR], tally, COUNT(tally), network,
+                            COUNT(network));
+    }
+    ticks = run[FEVER_RUN_TIME] - before;
+    if (check == 0) {
+        print("(done %" PRIu64 " %" PRIu64 ")\n", ticks, run[FEVER_RUN_HELD]);
+    } else if (ticks > 0) {
+        print("(stopped %" PRIu64 " %" PRIu64 " %" PRIu64 ")\n", ticks, run[FEVER_RUN_HELD], check);
+    } else {
+        print("(refused %" PRIu64 ")\n", check);
+    }
+}
+
+/* A refused event leaves every word; a run that lacks a word is refused by 1, one that was never opened by 9. */
+static void refuse(void)
+{
+    uint64_t words[FEVER_RUN_WORDS];
+    uint64_t unopened[FEVER_RUN_WORDS] = {0};
+    memcpy(words, run, sizeof(run));
+    demand(fever_apply(run, COUNT(run), FEVER_SETTLE, 0, 0, 0, tally, COUNT(tally), network, COUNT(network)) != 0,
+           "settling twice is refused");
+    demand(fever_apply(run, COUNT(run) - 1, FEVER_TICK, 0, 1, 0, tally, COUNT(tally), network, COUNT(network)) == 1,
+           "136 words are too few");
+    demand(memcmp(words, run, sizeof(run)) == 0, "a refused event leaves the run");
+    demand(fever_apply(unopened, COUNT(unopened), FEVER_TICK, 0, 1, 0, tally, COUNT(tally), network, COUNT(network)) == 9,
+           "no run is open");
+    demand(fever_read_line((const uint8_t *)"(tick 0)", 8, reading, COUNT(reading)) == 1, "0 ticks are no form");
+}
+
+/* One processor: the quorum certificate for view 2 takes it to view 3, which is initial. */
+static void step(void)
+{
+    uint64_t processor[FEVER_PROCESSOR_WORDS] = {0, 2, 0, 7};
+    demand(fever_step(4, 2, 4, VIEWS, processor, COUNT(processor), FEVER_INPUT_QC, 2) == 0, "the step is done");
+    demand(processor[FEVER_PROCESSOR_CLOCK] == 12 && processor[FEVER_PROCESSOR_VIEW] == 3 &&
+               processor[FEVER_PROCESSOR_SENDS] == FEVER_SENDS_VIEW_AND_VOTE,
+           "clock 12, view 3, a view message and a vote");
+    demand(fever_step(4, 2, 4, VIEWS, processor, COUNT(processor), FEVER_INPUT_QC, VIEWS - 1) == 17, "no view is left");
+}
+
+int main(void)
+{
+    size_t line;
+    uint64_t processor;
+    for (line = 0; line < COUNT(schedule); line++) {
+        answer(schedule[line]);
+    }
+    for (processor = 0; processor < run[FEVER_RUN_N]; processor++) {
+        print("(cabinet %" PRIu64 " %" PRIu64 " %" PRIu64 ")\n", processor, run[FEVER_RUN_VIEWS + processor],
+              run[FEVER_RUN_CLOCKS + processor]);
+    }
+    refuse();
+    step();
+    demand(strcmp(printed, expected) == 0, "this is what document 01 prints");
+    fputs(printed, stdout);
+    return wrong;
+}

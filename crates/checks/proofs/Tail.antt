@@ -1,34 +1,59 @@
--- The words beyond the last message, one by one. Assumes nothing.
+-- The words beyond the last message, gathered one by one. Assumes nothing.
 use mathlib.Core.Path.{_≡_, refl, sym, ap, _∙_}
-use mathlib.Core.Bool.{true, false, not}
+use mathlib.Core.Bool.{Bool, true, false, not, _||_}
 use mathlib.Core.List.{List, [], _∷_}
 use Prim.Native.Nat.{ℕ, zero, suc, _+_, _≤_, _<_}
 use native.Mathlib.Omega.{arith}
 use native.Mathlib.Numerals.{add-one}
+use lib.Bits.{bitOr, or-add-and, and-le-l, and-le-r, or-zero-l}
 use lib.Dec.{eqb}
 use lib.ListN.{length, getD, drop}
 use borrow.Author.Tests.{eq-eqb, ne-eqb}
 use Rattle.base.specs.Choice.{or-first, not-no}
 use Rattle.model.specs.Checks.{someNonZero}
 
+-- what is gathered so far, or one of the words from i on, is not 0
+abbrev pub found : ℕ → ℕ → List ℕ → Bool
+found seen i ws = not (eqb seen 0) || someNonZero (drop i ws)
+
+-- a union is 0 where both parts are
+union-zero : (a b : ℕ) → bitOr a b ≡ 0 → (a ≡ 0) × (b ≡ 0)
+union-zero a b e =
+    (omega (arith, or-add-and a b, and-le-r a b), omega (arith, or-add-and a b, and-le-l a b))
+
+union-of : (a b : ℕ) → not (eqb (bitOr a b) 0) ≡ (not (eqb a 0) || not (eqb b 0))
+union-of zero b = ap (λ (x : ℕ). not (eqb x 0)) (or-zero-l b)
+union-of (suc a) b =
+    not-no _ (ne-eqb (bitOr (suc a) b) 0 (λ e. absurd (omega (arith, union-zero (suc a) b e .0))))
+    ∙ sym (or-first _ (not (eqb b 0)) (not-no _ (ne-eqb (suc a) 0 (λ e. absurd (omega arith)))))
+
+or-shift : (a b c : Bool) → ((a || b) || c) ≡ (a || (b || c))
+or-shift true b c = refl
+or-shift false b c = refl
+
+next : (i : ℕ) (ws : List ℕ) → i < length ws → someNonZero (drop i ws) ≡ (not (eqb (getD ws i 0) 0) || someNonZero (drop (suc i) ws))
+next i [] l = absurd (omega arith)
+next zero (x ∷ xs) l = refl
+next (suc i) (x ∷ xs) l = next i xs (omega arith)
+
+-- word i is gathered
+pub found-more : (seen i : ℕ) (ws : List ℕ) → i < length ws → found (bitOr seen (getD ws i 0)) (i + 1) ws ≡ found seen i ws
+found-more seen i ws l =
+    ap (λ (k : ℕ). found (bitOr seen (getD ws i 0)) k ws) (add-one i)
+    ∙ ap (λ (b : Bool). b || someNonZero (drop (suc i) ws)) (union-of seen (getD ws i 0))
+    ∙ or-shift (not (eqb seen 0)) (not (eqb (getD ws i 0) 0)) (someNonZero (drop (suc i) ws))
+    ∙ ap (λ (b : Bool). not (eqb seen 0) || b) (sym (next i ws l))
+
+none : (i : ℕ) (ws : List ℕ) → length ws ≤ i → someNonZero (drop i ws) ≡ false
+none zero [] l = refl
+none (suc i) [] l = refl
+none zero (x ∷ xs) l = absurd (omega arith)
+none (suc i) (x ∷ xs) l = none i xs (omega arith)
+
+or-nothing : (a b : Bool) → b ≡ false → (a || b) ≡ a
+or-nothing true b e = refl
+or-nothing false b e = e
+
 -- none is left
-pub tail-end : (i : ℕ) (ws : List ℕ) → length ws ≤ i → someNonZero (drop i ws) ≡ false
-tail-end zero [] l = refl
-tail-end (suc i) [] l = refl
-tail-end zero (x ∷ xs) l = absurd (omega arith)
-tail-end (suc i) (x ∷ xs) l = tail-end i xs (omega arith)
-
--- the next is not 0
-pub tail-here : (i : ℕ) (ws : List ℕ) → i < length ws → (getD ws i 0 ≡ 0 → ⊥) → someNonZero (drop i ws) ≡ true
-tail-here i [] l d = absurd (omega arith)
-tail-here zero (x ∷ xs) l d = or-first (not (eqb x 0)) (someNonZero xs) (not-no _ (ne-eqb x 0 d))
-tail-here (suc i) (x ∷ xs) l d = tail-here i xs (omega arith) d
-
-next-zero : (i : ℕ) (ws : List ℕ) → i < length ws → getD ws i 0 ≡ 0 → someNonZero (drop i ws) ≡ someNonZero (drop (suc i) ws)
-next-zero i [] l e = absurd (omega arith)
-next-zero zero (x ∷ xs) l e = rw (eq-eqb x 0 e)
-next-zero (suc i) (x ∷ xs) l e = next-zero i xs (omega arith) e
-
--- the next is 0
-pub tail-on : (i : ℕ) (ws : List ℕ) → i < length ws → getD ws i 0 ≡ 0 → someNonZero (drop i ws) ≡ someNonZero (drop (i + 1) ws)
-tail-on i ws l e = next-zero i ws l e ∙ ap (λ (k : ℕ). someNonZero (drop k ws)) (sym (add-one i))
+pub found-all : (seen i : ℕ) (ws : List ℕ) → length ws ≤ i → not (eqb seen 0) ≡ found seen i ws
+found-all seen i ws l = sym (or-nothing (not (eqb seen 0)) (someNonZero (drop i ws)) (none i ws l))

@@ -7,10 +7,9 @@ use lib.ListN.{getD}
 use Rattle.types.specs.declared.Plan.{Plan}
 use Rattle.types.specs.declared.Message.{Message}
 use Rattle.types.specs.declared.Setup.{Setup}
-use Rattle.types.specs.declared.Run.{Run}
 use Rattle.types.specs.Quantities.{tolerated, startLimit, correct}
 use Rattle.types.specs.Messages.{kindOf, viewIn, processorIn, addressee}
-use Rattle.model.specs.State.{State, stateOf, runOf, clockOf, viewOf, isCorrect}
+use Rattle.model.specs.State.{State, stateOf, runOf}
 use Rattle.model.specs.Checks.{noView, noProcessor, clockOutside, supporting}
 
 -- 7: q is correct and its start clock 3Γ or more
@@ -26,8 +25,8 @@ abbrev pub aloneAt : Setup → ℕ → Bool
 aloneAt u q = correct (u .plan) (u .faulty) q && ltb (supporting (u .plan) (u .faulty) (u .clocks) (getD (u .clocks) q 0)) (tolerated (u .plan) + 1)
 
 -- 9: q is correct and its clock outside its view
-abbrev pub outsideAt : Run → ℕ → Bool
-outsideAt r q = isCorrect r q && clockOutside (r .plan) (clockOf r q) (viewOf r q)
+abbrev pub outsideAt : Plan → ℕ → List ℕ → List ℕ → ℕ → Bool
+outsideAt plan faulty clocks views q = correct plan faulty q && clockOutside plan (getD clocks q 0) (getD views q 0)
 
 -- 9: a held message that names too much, is for no correct processor or was sent later than now
 abbrev pub heldUnsound : Plan → ℕ → ℕ → Message → ℕ → Bool

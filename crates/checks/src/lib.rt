@@ -1,9 +1,9 @@
 // Check 9 on whatever is handed in, and checks 2 to 8 of an opening.
 use buffers::Stored;
+use types::Head;
 use types::Message;
 use types::Plan;
 use types::Processor;
-use types::Run;
 use types::Setup;
 ghost use mathlib.Core.Path.{_≡_};
 ghost use mathlib.Core.Bool.{false, not, _&&_, _||_};
@@ -13,7 +13,7 @@ ghost use lib.ListN.{drop};
 ghost use Rattle.base.specs.Count.{bit};
 ghost use Rattle.base.specs.Scan.{some};
 ghost use Rattle.types.specs.Quantities.{correct, startLimit};
-ghost use Rattle.model.specs.State.{stateOf, capacity};
+ghost use Rattle.model.specs.State.{stateOf, runFrom, capacity};
 ghost use Rattle.model.specs.Checks.{planOutside, faultyOutside, lengthsOutside, clockOutside, messageUnsound, someNonZero, unsound, startTooHigh, supporting, tooFarAhead};
 ghost use Rattle.pacemaker.specs.Limits.{Within};
 ghost use Rattle.checks.specs.Scans.{outsideAt, heldUnsound, flying, aloneAt};
@@ -91,15 +91,15 @@ fn clock_unsound(plan: Plan, faulty: u64, q: u64, clock: u64, view: u64) -> bool
 }
 
 // Whether some correct clock is outside its view.
-fn clocks_unsound(run: Run) -> bool
-    requires { ⌜ planOutside (run .plan) ≡ false ⌝ }
-    ensures { λ r. ⌜ r ≡ some (outsideAt run) (run .plan .n) ⌝ }
+fn clocks_unsound(plan: Plan, faulty: u64, clocks: &[u64; 64], views: &[u64; 64]) -> bool
+    requires { ⌜ planOutside plan ≡ false ⌝ }
+    ensures { λ r. ⌜ r ≡ some (outsideAt plan faulty (now (clocks .entry)) (now (views .entry))) (plan .n) ⌝ }
 {
-    let n = run.plan.n;
+    let n = plan.n;
     let mut q = 0;
     while q < n {
         let i = q as usize;
-        if clock_unsound(run.plan, run.faulty, q, run.clocks[i], run.views[i]) {
+        if clock_unsound(plan, faulty, q, clocks[i], views[i]) {
             return true;
         }
         q += 1;
@@ -166,43 +166,48 @@ fn settling_unsound(time: u64, settled: bool, gst: u64) -> bool
     gst != 0
 }
 
-// Whether some word from a place on is not 0.
+// Whether some word from a place on is not 0. All are read: without a way out of the loop they are read several at a time.
 fn tail_not_zero(network: &[u64], from: usize) -> bool
     ensures { λ r. ⌜ r ≡ someNonZero (drop from (now (network .entry))) ⌝ }
 {
+    let mut seen = 0;
     let mut i = from;
     while i < network.len() {
-        if network[i] != 0 {
-            return true;
-        }
+        seen = seen | network[i];
         i += 1;
     }
-    false
+    seen != 0
 }
 
-// Check 9.
-pub fn unsound(run: Run, tally: &[u64], network: &[u64]) -> bool
-    ensures { λ r. ⌜ r ≡ unsound (stateOf run (now (tally .entry)) (now (network .entry))) ⌝ }
+// Check 9, of a run whose tables are lent beside its head.
+pub fn unsound(
+    head: Head,
+    clocks: &[u64; 64],
+    views: &[u64; 64],
+    tally: &[u64],
+    network: &[u64],
+) -> bool
+    ensures { λ r. ⌜ r ≡ unsound (stateOf (runFrom head (now (clocks .entry)) (now (views .entry))) (now (tally .entry)) (now (network .entry))) ⌝ }
 {
-    if limits_broken(run.plan, run.faulty, tally.len(), network.len()) {
+    if limits_broken(head.plan, head.faulty, tally.len(), network.len()) {
         return true;
     }
-    if clocks_unsound(run) {
+    if clocks_unsound(head.plan, head.faulty, clocks, views) {
         return true;
     }
-    if run.plan.end_time() <= run.time {
+    if head.plan.end_time() <= head.time {
         return true;
     }
-    if buffers::capacity(network) < run.held {
+    if buffers::capacity(network) < head.held {
         return true;
     }
-    if messages_unsound(run.plan, run.faulty, run.time, run.held, network) {
+    if messages_unsound(head.plan, head.faulty, head.time, head.held, network) {
         return true;
     }
-    if settling_unsound(run.time, run.settled, run.gst) {
+    if settling_unsound(head.time, head.settled, head.gst) {
         return true;
     }
-    tail_not_zero(network, buffers::MESSAGE_WORDS * run.held)
+    tail_not_zero(network, buffers::MESSAGE_WORDS * head.held)
 }
 
 // Whether q is correct and its start clock too high.

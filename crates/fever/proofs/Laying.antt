@@ -1,5 +1,5 @@
 -- The words of a run and of what was read, written piece by piece. Assumes nothing.
-use mathlib.Core.Path.{_≡_, refl, ap, _∙_}
+use mathlib.Core.Path.{_≡_, refl, ap, ap₂, _∙_}
 use mathlib.Core.List.{List, [], _∷_, _++_}
 use Prim.Native.Nat.{ℕ, _+_, _≤_}
 use native.Mathlib.Omega.{arith}
@@ -9,9 +9,9 @@ use Rattle.types.specs.declared.Setup.{Setup}
 use Rattle.types.specs.Quantities.{tableClocks}
 use Rattle.lines.specs.declared.Reading.{Reading}
 use Rattle.writer.specs.Stamps.{stamp, Room, Stamped}
-use Rattle.writer.proofs.Stamping.{room-first, room-second, written-then}
+use Rattle.writer.proofs.Stamping.{room-second, written-then}
 use Rattle.fever.specs.declared.Numbers.{Numbers}
-use Rattle.fever.specs.Layout.{clocksWord, runLength, settledAs, runWords, readingLength, readNumbers, readingWords}
+use Rattle.fever.specs.Layout.{clocksWord, runLength, settledAs, runNumbers, runWords, readingLength, readNumbers, readingWords}
 
 -- words from the first on
 pub laid : (d e w : List ℕ) (b n : ℕ) → length w ≡ n → Stamped d 0 w b e → e ≡ w ++ drop n d
@@ -27,12 +27,6 @@ module _ (numbers clocks views d : List ℕ) (nine : length numbers ≡ clocksWo
   run-room : Room d 0 (numbers ++ (clocks ++ views))
   run-room = record { fits = omega (arith, run-length) }
 
-  pub clocks-room : (e : List ℕ) (a : ℕ) → Stamped d 0 numbers a e → Room e a clocks
-  clocks-room e a x = room-first clocks views (room-second (clocks ++ views) x run-room)
-
-  pub views-room : (e f : List ℕ) (a b : ℕ) → Stamped d 0 numbers a e → Stamped e a clocks b f → Room f b views
-  views-room e f a b x y = room-second views y (room-second (clocks ++ views) x run-room)
-
   tables-laid : (e f g : List ℕ) (a b c : ℕ) → Stamped d 0 numbers a e → Stamped e a clocks b f → Stamped f b views c g → g ≡ numbers ++ (clocks ++ views) ++ drop runLength d
   tables-laid e f g a b c x y z =
       laid d g (numbers ++ (clocks ++ views)) c runLength run-length (written-then (clocks ++ views) x (written-then views y (λ h. z)) run-room)
@@ -41,11 +35,13 @@ module _ (numbers clocks views d : List ℕ) (nine : length numbers ≡ clocksWo
 abbrev numbersWith : Run → ℕ → List ℕ
 numbersWith r s = r .plan .n ∷ r .plan .delta ∷ r .plan .gamma ∷ r .plan .views ∷ r .faulty ∷ r .time ∷ s ∷ r .gst ∷ r .held ∷ []
 
-pub run-laid : (r : Run) (s : ℕ) (d e f g : List ℕ) (a b c : ℕ) → length (r .clocks) ≡ tableClocks → length (r .views) ≡ tableClocks → runLength ≤ length d
-    → s ≡ settledAs (r .settled) → Stamped d 0 (numbersWith r s) a e → Stamped e a (r .clocks) b f → Stamped f b (r .views) c g → g ≡ runWords r ++ drop runLength d
-run-laid r s d e f g a b c k v fits q x y z =
-    tables-laid (numbersWith r s) (r .clocks) (r .views) d refl k v fits e f g a b c x y z
-    ∙ ap (λ (n : ℕ). numbersWith r n ++ (r .clocks ++ r .views) ++ drop runLength d) q
+pub run-laid : (r : Run) (s : ℕ) (clocks views d e f g : List ℕ) (a b c : ℕ) → clocks ≡ r .clocks → views ≡ r .views
+    → length clocks ≡ tableClocks → length views ≡ tableClocks → runLength ≤ length d → s ≡ settledAs (r .settled)
+    → Stamped d 0 (numbersWith r s) a e → Stamped e a clocks b f → Stamped f b views c g → g ≡ runWords r ++ drop runLength d
+run-laid r s clocks views d e f g a b c i j k v fits q x y z =
+    tables-laid (numbersWith r s) clocks views d refl k v fits e f g a b c x y z
+    ∙ ap (λ (n : ℕ). numbersWith r n ++ (clocks ++ views) ++ drop runLength d) q
+    ∙ ap₂ (λ (l m : List ℕ). runNumbers r ++ (l ++ m) ++ drop runLength d) i j
 
 -- ---- what was read: nine numbers and a table
 

@@ -37,9 +37,11 @@ pub extern "C" fn fever_open(
         return 1;
     }
     let start = words::setup_in(setup);
-    let before = words::run_in(run);
-    let applied = simulator::open(before, start, tally, network);
-    words::put_applied(run, applied)
+    let head = words::head_in(run);
+    let mut clocks = words::table_in(run, words::CLOCKS);
+    let mut views = words::table_in(run, words::VIEWS);
+    let outcome = simulator::open_lent(head, start, &mut clocks, &mut views, tally, network);
+    words::put_outcome(run, outcome, &clocks, &views)
 }
 
 // An event is applied.

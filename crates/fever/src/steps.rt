@@ -32,9 +32,19 @@ pub(crate) fn apply_event(
     if 1 < run[words::SETTLED] {
         return 9;
     }
-    let before = words::run_in(run);
-    let applied = simulator::apply(before, event, tally, network);
-    words::put_applied(run, applied)
+    let head = words::head_in(run);
+    let mut clocks = words::table_in(run, words::CLOCKS);
+    let mut views = words::table_in(run, words::VIEWS);
+    let outcome = simulator::apply_lent(
+        head,
+        false,
+        event,
+        &mut clocks,
+        &mut views,
+        tally,
+        network,
+    );
+    words::put_outcome(run, outcome, &clocks, &views)
 }
 
 // How many messages a processor sends.

@@ -2,16 +2,16 @@
 use crate::events;
 use lines::Reading;
 use types::Answer;
-use types::Applied;
+use types::AppliedHead;
+use types::Head;
 use types::Plan;
-use types::Run;
 use types::Setup;
 ghost use mathlib.Core.Path.{_≡_};
 ghost use mathlib.Core.List.{_++_};
 ghost use Prim.Native.Nat.{_+_, _≤_};
 ghost use lib.ListN.{length, drop};
 ghost use Rattle.types.specs.Quantities.{tableClocks};
-ghost use Rattle.model.specs.State.{checkOf};
+ghost use Rattle.model.specs.State.{runFrom, headOf, checkOf};
 ghost use Rattle.writer.specs.Stamps.{Room, Stamped};
 ghost use Rattle.fever.specs.Layout.{planIn, tableIn, setupLength, setupIn, runLength, runIn, settledAs, runWords, readingLength, readingWords};
 ghost use Rattle.fever.specs.Contracts.{runLeft};
@@ -35,15 +35,15 @@ const GST: usize = 7;
 
 const HELD: usize = 8;
 
-const CLOCKS: usize = 9;
+pub(crate) const CLOCKS: usize = 9;
 
-const VIEWS: usize = 73;
+pub(crate) const VIEWS: usize = 73;
 
 // The clocks of a table.
 const TABLE: usize = 64;
 
 // The 64 words from a place on.
-fn table_in(words: &[u64], at: usize) -> [u64; 64]
+pub(crate) fn table_in(words: &[u64], at: usize) -> [u64; 64]
     requires { ⌜ at + tableClocks ≤ length (now words) ⌝ }
     ensures { λ r. ⌜ r ≡ tableIn at (now (words .entry)) ⌝ }
 {
@@ -83,23 +83,19 @@ pub(crate) fn setup_in(words: &[u64]) -> Setup
     }
 }
 
-// The run in the first 137 words.
-pub(crate) fn run_in(words: &[u64]) -> Run
+// The run in the first 137 words, but for its tables.
+pub(crate) fn head_in(words: &[u64]) -> Head
     requires { ⌜ runLength ≤ length (now words) ⌝ }
-    ensures { λ r. ⌜ r ≡ runIn (now (words .entry)) ⌝ }
+    ensures { λ r. ⌜ r ≡ headOf (runIn (now (words .entry))) ⌝ }
 {
     let plan = plan_in(words);
-    let clocks = table_in(words, CLOCKS);
-    let views = table_in(words, VIEWS);
-    Run {
+    Head {
         plan: plan,
         faulty: words[FAULTY],
         time: words[TIME],
         settled: words[SETTLED] == 1,
         gst: words[GST],
         held: words[HELD] as usize,
-        clocks: clocks,
-        views: views,
     }
 }
 
@@ -126,43 +122,56 @@ pub(crate) fn put_words(words: &mut [u64], at: usize, values: &[u64]) -> usize
     at + k
 }
 
-// The first 137 words become those of the run.
-fn put_run(words: &mut [u64], run: Run)
+// The table, apart from any words: so it is put among them as a whole, and not word by word.
+fn own_table(table: &[u64; 64]) -> [u64; 64]
+    ensures { λ r. ⌜ r ≡ now (table .entry) ⌝ }
+{
+    *table
+}
+
+// The first 137 words become those of the run whose tables are lent beside its head.
+fn put_run(words: &mut [u64], head: Head, clocks: &[u64; 64], views: &[u64; 64])
     requires { ⌜ runLength ≤ length (now words) ⌝ }
-    ensures { λ r. ⌜ now (words .exit) ≡ runWords run ++ drop runLength (now (words .entry)) ⌝ }
+    ensures { λ r. ⌜ now (words .exit) ≡ runWords (runFrom head (now (clocks .entry)) (now (views .entry))) ++ drop runLength (now (words .entry)) ⌝ }
 {
     let numbers = [
-        run.plan.n,
-        run.plan.delta,
-        run.plan.gamma,
-        run.plan.views,
-        run.faulty,
-        run.time,
-        settled_word(run.settled),
-        run.gst,
-        run.held as u64,
+        head.plan.n,
+        head.plan.delta,
+        head.plan.gamma,
+        head.plan.views,
+        head.faulty,
+        head.time,
+        settled_word(head.settled),
+        head.gst,
+        head.held as u64,
     ];
-    let clocks = run.clocks;
-    let views = run.views;
     let next = put_words(words, 0, &numbers);
-    let last = put_words(words, next, &clocks);
-    put_words(words, last, &views);
+    let own_clocks = own_table(clocks);
+    let last = put_words(words, next, &own_clocks);
+    let own_views = own_table(views);
+    put_words(words, last, &own_views);
 }
 
 // What a call left of the run, if it was accepted. Answers the check that refused it or ended its ticks, or 0.
-pub(crate) fn put_applied(words: &mut [u64], applied: Applied) -> u64
+pub(crate) fn put_outcome(
+    words: &mut [u64],
+    outcome: AppliedHead,
+    clocks: &[u64; 64],
+    views: &[u64; 64],
+) -> u64
     requires { ⌜ runLength ≤ length (now words) ⌝ }
-    ensures { λ r. ⌜ (r ≡ checkOf (applied .answer)) × (now (words .exit) ≡ runLeft (now (words .entry)) (applied .answer) (applied .run)) ⌝ }
+    ensures { λ r. ⌜ (r ≡ checkOf (outcome .answer)) × (now (words .exit) ≡
+        runLeft (now (words .entry)) (outcome .answer) (runFrom (outcome .head) (now (clocks .entry)) (now (views .entry)))) ⌝ }
 {
-    let run = applied.run;
-    let answer = applied.answer;
+    let head = outcome.head;
+    let answer = outcome.answer;
     match answer {
         Answer::Done(_, _) => {
-            put_run(words, run);
+            put_run(words, head, clocks, views);
             0
         }
         Answer::Stopped(_, _, check) => {
-            put_run(words, run);
+            put_run(words, head, clocks, views);
             check
         }
         Answer::Refused(check) => check,

@@ -11,7 +11,7 @@ use Rattle.types.specs.declared.Message.{Message}
 use Rattle.types.specs.declared.Run.{Run}
 use Rattle.types.specs.declared.Answer.{Answer}
 use Rattle.types.specs.declared.Applied.{Applied}
-use Rattle.types.specs.declared.Outcome.{Outcome}
+use Rattle.types.specs.declared.AppliedHead.{AppliedHead}
 use Rattle.types.specs.declared.Answer.the-variants.{Done, Stopped, Refused}
 use Rattle.types.specs.Quantities.{correct, rowWords, messageWords}
 use Rattle.types.specs.Messages.{kindOf, viewIn, processorIn}
@@ -156,7 +156,7 @@ abbrev pub handedBack : Applied → List ℕ → List ℕ → After
 handedBack a tally network = record { state = stateOf (a .run) tally network; answer = a .answer }
 
 -- the same where the run's tables are lent too
-abbrev pub leftBehind : Outcome → List ℕ → List ℕ → List ℕ → List ℕ → After
+abbrev pub leftBehind : AppliedHead → List ℕ → List ℕ → List ℕ → List ℕ → After
 leftBehind o clocks views tally network = record { state = stateOf (runFrom (o .head) clocks views) tally network; answer = o .answer }
 
 -- "A refusal answers its number alone and changes nothing"

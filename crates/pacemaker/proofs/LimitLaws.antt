@@ -1,10 +1,10 @@
 -- What checks 2 to 4 and 9 let pass at one processor's own face. Assumes nothing.
-use mathlib.Core.Path.{_≡_, refl, sym, ap}
+use mathlib.Core.Path.{_≡_, refl, sym, ap, _∙_}
 use mathlib.Core.Logic.{⊎-elim}
 use mathlib.Core.Bool.{Bool, true, false, not, _||_, cond}
-use Prim.Native.Nat.{ℕ, _+_, _*_, _/_, _%_, _≤_, _<_}
+use Prim.Native.Nat.{ℕ, _%_, _≤_, _<_}
 use native.Mathlib.Omega.{arith}
-use native.Mathlib.Nat.{mul-le-mul, mul-le-mul-right, div-lt-iff-lt-mul}
+use native.Mathlib.Nat.{mul-le-mul, mul-le-mul-right, lt-of-mul-lt-mul-right}
 use lib.Dec.{leb, ltb}
 use borrow.Author.Tests.{ltb-false, leb-false, eqb-true, not-false, lt-ltb, le-ltb, le-leb, lt-leb}
 use Rattle.base.specs.Tests.{le?}
@@ -76,12 +76,8 @@ next-within p s w l = omega (arith, eqb-true (p .views % 3) 0 (s .views-initial)
 pub next-word : (p : Plan) → Within p → (w : ℕ) → w < p .views → nextInitialWord p w ≡ nextInitial p w
 next-word p s w l = sym (next-fits p w (omega (arith, next-within p s w l, s .views-most)))
 
--- one more than a clock before the end is within the views
-pub slot-within : (p : Plan) → Within p → (clock : ℕ) → clock < endTime p → (clock + 1) / p .gamma ≤ p .views
-slot-within p s clock l =
-    let pos : 0 < p .gamma = omega (arith, s .delta-least, s .gamma-least) in
-    let below : clock + 1 < (p .views + 1) * p .gamma = omega arith in
-    omega (arith, div-lt-iff-lt-mul pos .1 below)
+pub next-before-end : (p : Plan) → Within p → (w : ℕ) → w < p .views → clockTime p (nextInitial p w) ≤ endTime p
+next-before-end p s w l = mul-le-mul-right (p .gamma) (next-within p s w l)
 
 -- from the view limit on, a clock at the view's time has reached the end
 pub past-views : (p : Plan) (clock view : ℕ) → p .views ≤ view → clockOutside p clock view ≡ true
@@ -92,19 +88,21 @@ past-views p clock view l =
     (λ (h : clock < endTime p). or-second (atEnd p clock) (ltb clock (clockTime p view)) (lt-ltb clock (clockTime p view) (omega arith)))
     (le? (endTime p) clock))
 
--- the tests of a clock, in order
-pub outside-end : (p : Plan) (clock view : ℕ) → endTime p ≤ clock → clockOutside p clock view ≡ true
-outside-end p clock view l = or-first (atEnd p clock || ltb clock (clockTime p view)) _ (or-first (atEnd p clock) _ (le-leb _ _ l))
-
+-- the other tests of a clock
 pub outside-view : (p : Plan) (clock view : ℕ) → clock < clockTime p view → clockOutside p clock view ≡ true
 outside-view p clock view l = or-first (atEnd p clock || ltb clock (clockTime p view)) _ (or-second (atEnd p clock) _ (lt-ltb _ _ l))
 
-pub outside-next : (p : Plan) (clock view next : ℕ) → clock < endTime p → clockTime p view ≤ clock → next ≡ clockTime p (nextInitial p view)
+pub outside-next : (p : Plan) → Within p → (clock view next : ℕ) → view < p .views → clockTime p view ≤ clock → next ≡ clockTime p (nextInitial p view)
     → leb next clock ≡ clockOutside p clock view
-outside-next p clock view next before reached is =
-    or-rest _ (leb (clockTime p (nextInitial p view)) clock) (leb next clock)
-    (or-neither (atEnd p clock) (ltb clock (clockTime p view)) (lt-leb _ _ before) (le-ltb _ _ reached))
-    (ap (λ (x : ℕ). leb x clock) is)
+outside-next p s clock view next low reached is = ⊎-elim
+    (λ (l : clockTime p (nextInitial p view) ≤ clock). last ∙ le-leb _ _ l ∙ sym (or-second (atEnd p clock || ltb clock (clockTime p view)) _ (le-leb _ _ l)))
+    (λ (l : clock < clockTime p (nextInitial p view)).
+    let before : clock < endTime p = omega (arith, next-before-end p s view low) in
+    or-rest _ _ _ (or-neither (atEnd p clock) (ltb clock (clockTime p view)) (lt-leb _ _ before) (le-ltb _ _ reached)) last)
+    (le? (clockTime p (nextInitial p view)) clock)
+  where
+    last : leb next clock ≡ leb (clockTime p (nextInitial p view)) clock
+    last = ap (λ (x : ℕ). leb x clock) is
 
 -- ---- check 9
 
@@ -119,3 +117,7 @@ sound p c e =
       reached = ltb-false _ _ (d .1);
       not-next = leb-false _ _ (b .1);
     }
+
+-- its view is below the view limit
+pub view-below : (p : Plan) (c : Processor) → Sound p c → c .view < p .views
+view-below p c s = lt-of-mul-lt-mul-right (p .gamma) (omega (arith, s .reached, s .before-end))

@@ -2,11 +2,13 @@
 use mathlib.Core.Path.{_≡_, refl, sym, ap, subst, _∙_}
 use mathlib.Core.Bool.{Bool, true, false, _||_, cond}
 use mathlib.Core.List.{[], _∷_}
-use Prim.Native.Nat.{ℕ, _+_, _/_, _%_, _≤_, _<_}
+use Prim.Native.Nat.{ℕ, _+_, _≤_, _<_}
 use native.Mathlib.Omega.{arith}
-use lib.Dec.{eqb, ltb}
-use borrow.Author.Tests.{lt-ltb, le-ltb, le-leb, lt-leb, eq-eqb, ne-eqb}
-use Rattle.base.specs.Choice.{cond-yes, cond-no, or-first, and-both, and-not-first, and-not-second, not-yes, not-no}
+use native.Mathlib.Nat.{mul-le-mul-right}
+use lib.Dec.{ltb}
+use borrow.Author.Tests.{lt-ltb, le-ltb, le-leb, lt-leb, ne-eqb}
+use Rattle.base.specs.Tests.{by-cond}
+use Rattle.base.specs.Choice.{cond-yes, cond-no, or-first, and-both, and-not-second, not-yes, not-no}
 use Rattle.types.specs.declared.Plan.{Plan}
 use Rattle.types.specs.declared.Message.the-variants.{View, Vote}
 use Rattle.types.specs.declared.Processor.{Processor}
@@ -16,11 +18,12 @@ use Rattle.types.specs.declared.Sends.{Sends}
 use Rattle.types.specs.declared.Sends.the-variants.{Vote as VoteFor, ViewAndVote}
 use Rattle.types.specs.declared.Stepped.{Stepped}
 use Rattle.types.specs.declared.Stepped.the-variants.{Sent, Refused}
-use Rattle.types.specs.Quantities.{initial, clockTime}
-use Rattle.model.specs.Moves.{Entry, stay, into, entryMessages, byClock, byQuorum, byView}
+use Rattle.types.specs.Quantities.{initial, clockTime, endTime}
+use Rattle.model.specs.Moves.{Entry, stay, into, entryClock, entryMessages, byClock, byQuorum, byView}
 use Rattle.model.specs.Checks.{noProcessor, noView, atEnd}
 use Rattle.model.specs.Processors.{Moved, Gives, messagesOf, moving, processorUnsound, stepped}
-use Rattle.pacemaker.specs.Steps.{refusing, sending, ending, stepping}
+use Rattle.pacemaker.specs.Limits.{Sound}
+use Rattle.pacemaker.specs.Steps.{refusing, sending, ending, entryInto, stepping}
 
 -- ---- the answer
 
@@ -61,18 +64,35 @@ entered plan c clock w t next x is-t is-next is-x i = record {
   check = 0;
 }
 
+-- of a sound processor's entries that into the view limit ends, and no other does
+module _ (plan : Plan) (c : Processor) (s : Sound plan c) (w : ℕ) where
+  pub entry-ends : plan .views ≤ w → refusing c 17 ≡ entryInto plan c w
+  entry-ends l = ends plan c _ (le-leb (endTime plan) (entryClock plan (c .clock) w) (omega (arith, late, forward)))
+    where
+      time : ℕ
+      time = clockTime plan w
+
+      late : endTime plan ≤ time
+      late = mul-le-mul-right (plan .gamma) l
+
+      forward : time ≡ entryClock plan (c .clock) w
+      forward = cond-yes _ _ _ _ (lt-ltb (c .clock) time (omega (arith, late, s .before-end))) refl
+
+  pub entry-goes-on : w < plan .views → moving plan (c .number) (c .clock) (c .view) (into w) ≡ entryInto plan c w
+  entry-goes-on l = goes-on plan c _ (lt-leb (endTime plan) _ (by-cond (λ (x : ℕ). x < endTime plan) (ltb (c .clock) time) time (c .clock)
+      (λ t. early) (λ t. s .before-end)))
+    where
+      time : ℕ
+      time = clockTime plan w
+
+      early : time < endTime plan
+      early = omega (arith, mul-le-mul-right (plan .gamma) l, s .within .delta-least, s .within .gamma-least)
+
+-- and one that stays as it is goes on
+pub stays : (plan : Plan) (c : Processor) → Sound plan c → sending c [] ≡ ending plan c (moving plan (c .number) (c .clock) (c .view) stay)
+stays plan c s = goes-on plan c (sending c []) (lt-leb _ _ (s .before-end))
+
 -- ---- rules 1 to 3
-
-module _ (plan : Plan) where
-  pub between-slots : (clock : ℕ) → 0 < clock % plan .gamma → stay ≡ byClock plan clock
-  between-slots clock l =
-      cond-no _ _ _ _ (and-not-first _ (initial plan (clock / plan .gamma)) (ne-eqb _ _ (λ (e : clock % plan .gamma ≡ 0). omega arith))) refl
-
-  pub at-initial : (clock : ℕ) → clock % plan .gamma ≤ 0 → initial plan (clock / plan .gamma) ≡ true → into (clock / plan .gamma) ≡ byClock plan clock
-  at-initial clock l i = let z : clock % plan .gamma ≡ 0 = omega arith in cond-yes _ _ _ _ (and-both _ _ (eq-eqb _ _ z) i) refl
-
-  pub at-other : (clock : ℕ) → initial plan (clock / plan .gamma) ≡ false → stay ≡ byClock plan clock
-  at-other clock i = cond-no _ _ _ _ (and-not-second (eqb (clock % plan .gamma) 0) _ i) refl
 
 module _ (plan : Plan) (c : Processor) where
   -- a tick that makes the entry e

@@ -11,6 +11,7 @@ use Rattle.types.specs.declared.Input.the-variants.{Tick, Vc, Qc}
 use Rattle.types.specs.Quantities.{initial}
 use Rattle.types.specs.Messages.{viewStage, voteStage}
 use Rattle.model.specs.Checks.{Check, judged, noView, notInitial, atEnd}
+use Rattle.model.specs.Moves.{into}
 use Rattle.model.specs.Processors.{Moved, clockAt, entryBy, moving}
 
 -- "A refusal answers its number alone and changes nothing"
@@ -28,6 +29,10 @@ movingBy plan c i = moving plan (c .number) (clockAt c i) (c .view) (entryBy pla
 -- the move m of c, unless check 17 refuses it
 abbrev pub ending : Plan → Processor → Moved → Moved
 ending plan c m = judged (refusing c) ((17, atEnd plan (m .processor .clock)) ∷ []) m
+
+-- the entry of c into w, unless check 17 refuses it
+abbrev pub entryInto : Plan → Processor → ℕ → Moved
+entryInto plan c w = ending plan c (moving plan (c .number) (c .clock) (c .view) (into w))
 
 -- the checks of the view that an input names
 abbrev pub viewChecks : Plan → Input → List Check

@@ -8,12 +8,11 @@ ghost use mathlib.Core.Path.{_≡_};
 ghost use mathlib.Core.Bool.{cond};
 ghost use Prim.Native.Nat.{_≤_, _<_};
 ghost use lib.Dec.{ltb};
-ghost use Rattle.types.specs.Quantities.{initial, clockTime};
+ghost use Rattle.types.specs.Quantities.{initial, nextInitial, clockTime};
 ghost use Rattle.model.specs.Checks.{nOutside, delaysOutside, viewsOutside, clockOutside};
-ghost use Rattle.model.specs.Moves.{stay, into};
-ghost use Rattle.model.specs.Processors.{Gives, messagesOf, moving, processorUnsound, stepped};
+ghost use Rattle.model.specs.Processors.{Gives, messagesOf, processorUnsound, stepped};
 ghost use Rattle.pacemaker.specs.Limits.{planCheck, Within, Sound};
-ghost use Rattle.pacemaker.specs.Steps.{refusing, sending, ending, stepping};
+ghost use Rattle.pacemaker.specs.Steps.{refusing, sending, entryInto, stepping};
 
 // Check 2.
 fn n_outside(plan: Plan) -> bool
@@ -78,10 +77,19 @@ fn time_of(plan: Plan, w: u64) -> u64
     requires { ⌜ Within plan × (w ≤ plan .views) ⌝ }
     ensures { λ r. ⌜ r ≡ clockTime plan w ⌝ }
 {
-    plan.clock_time(w)
+    w * plan.gamma
 }
 
-// Whether the clock lies outside its view. From the view limit on no clock is both at its view's time and before the end.
+// The first initial view above w, which is the view limit at most.
+fn next_of(plan: Plan, w: u64) -> u64
+    requires { ⌜ Within plan × (w < plan .views) ⌝ }
+    ensures { λ r. ⌜ (r ≡ nextInitial plan w) × (r ≤ plan .views) ⌝ }
+{
+    plan.next_initial(w)
+}
+
+// Whether the clock lies outside its view. From the view limit on no clock is both at its view's time and before the end; below it a clock before the next
+// initial view's time is before the end.
 fn clock_outside(plan: Plan, processor: Processor) -> bool
     requires { ⌜ Within plan ⌝ }
     ensures { λ r. ⌜ r ≡ clockOutside plan (processor .clock) (processor .view) ⌝ }
@@ -90,13 +98,10 @@ fn clock_outside(plan: Plan, processor: Processor) -> bool
     if plan.views <= view {
         return true;
     }
-    if time_of(plan, plan.views) <= processor.clock {
-        return true;
-    }
     if processor.clock < time_of(plan, view) {
         return true;
     }
-    time_of(plan, plan.next_initial(view)) <= processor.clock
+    time_of(plan, next_of(plan, view)) <= processor.clock
 }
 
 // Check 9 of one processor: the plan's limits, and its own clock and view.
@@ -126,14 +131,10 @@ fn refuse(processor: Processor, check: u64) -> Outcome
     }
 }
 
-// The move to `after`, unless its clock has reached the end: check 17.
-fn finish(plan: Plan, before: Processor, after: Processor, sends: Sends) -> Outcome
-    requires { ⌜ Within plan ⌝ }
-    ensures { λ r. ⌜ Gives (ending plan before (sending after (messagesOf (after .number) sends))) (r .processor) (r .answer) ⌝ }
+// A move: the processor that it leaves, and what that one sends.
+fn accept(after: Processor, sends: Sends) -> Outcome
+    ensures { λ r. ⌜ Gives (sending after (messagesOf (after .number) sends)) (r .processor) (r .answer) ⌝ }
 {
-    if time_of(plan, plan.views) <= after.clock {
-        return refuse(before, 17);
-    }
     Outcome {
         processor: after,
         answer: Stepped::Sent(sends),
@@ -160,53 +161,43 @@ fn entry_sends(plan: Plan, w: u64) -> Sends
     Sends::Vote(w)
 }
 
-// The entry into view w of a processor whose clock stands at `clock`.
-fn enter(plan: Plan, processor: Processor, clock: u64, w: u64) -> Outcome
-    requires { ⌜ Within plan × (w ≤ plan .views) ⌝ }
-    ensures { λ r. ⌜ Gives (ending plan processor (moving plan (processor .number) clock (processor .view) (into w))) (r .processor) (r .answer) ⌝ }
+// The entry into view w. That into the view limit would bring the clock to the end, which no other does: check 17.
+fn enter(plan: Plan, processor: Processor, w: u64) -> Outcome
+    requires { ⌜ Sound plan processor × (w ≤ plan .views) ⌝ }
+    ensures { λ r. ⌜ Gives (entryInto plan processor w) (r .processor) (r .answer) ⌝ }
 {
-    let next = raise(clock, time_of(plan, w));
-    let sends = entry_sends(plan, w);
     let after = Processor {
         number: processor.number,
-        clock: next,
+        clock: raise(processor.clock, time_of(plan, w)),
         view: w,
     };
-    finish(plan, processor, after, sends)
+    if w == plan.views {
+        return refuse(processor, 17);
+    }
+    accept(after, entry_sends(plan, w))
 }
 
-// No entry: the view stays, and nothing is sent.
-fn remain(plan: Plan, processor: Processor, clock: u64) -> Outcome
-    requires { ⌜ Within plan ⌝ }
-    ensures { λ r. ⌜ Gives (ending plan processor (moving plan (processor .number) clock (processor .view) stay)) (r .processor) (r .answer) ⌝ }
-{
-    let after = Processor {
-        number: processor.number,
-        clock: clock,
-        view: processor.view,
-    };
-    finish(plan, processor, after, Sends::Nothing)
-}
-
-// Rule 1. Most ticks end at the first test, which spares them the second division.
+// Rule 1. The clock stands before the next initial view's clock time, so that is the only one that a tick can bring it to.
 fn tick(plan: Plan, processor: Processor) -> Outcome
     requires { ⌜ Sound plan processor ⌝ }
     ensures { λ r. ⌜ Gives (stepping plan processor Input.Tick) (r .processor) (r .answer) ⌝ }
 {
     let clock = processor.clock + 1;
-    if 0 < clock % plan.gamma {
-        return remain(plan, processor, clock);
+    let next = next_of(plan, processor.view);
+    if clock < time_of(plan, next) {
+        let after = Processor {
+            number: processor.number,
+            clock: clock,
+            view: processor.view,
+        };
+        return accept(after, Sends::Nothing);
     }
-    let w = clock / plan.gamma;
-    if plan.initial(w) {
-        return enter(plan, processor, clock, w);
-    }
-    remain(plan, processor, clock)
+    enter(plan, processor, next)
 }
 
 // Rule 3.
 fn take_view(plan: Plan, processor: Processor, w: u64) -> Outcome
-    requires { ⌜ Within plan ⌝ }
+    requires { ⌜ Sound plan processor ⌝ }
     ensures { λ r. ⌜ Gives (stepping plan processor (Input.Vc w)) (r .processor) (r .answer) ⌝ }
 {
     if plan.views <= w {
@@ -214,25 +205,25 @@ fn take_view(plan: Plan, processor: Processor, w: u64) -> Outcome
     }
     if plan.initial(w) {
         if processor.view < w {
-            return enter(plan, processor, processor.clock, w);
+            return enter(plan, processor, w);
         }
-        return remain(plan, processor, processor.clock);
+        return accept(processor, Sends::Nothing);
     }
     refuse(processor, 11)
 }
 
 // Rule 2.
 fn take_quorum(plan: Plan, processor: Processor, w: u64) -> Outcome
-    requires { ⌜ Within plan ⌝ }
+    requires { ⌜ Sound plan processor ⌝ }
     ensures { λ r. ⌜ Gives (stepping plan processor (Input.Qc w)) (r .processor) (r .answer) ⌝ }
 {
     if plan.views <= w {
         return refuse(processor, 10);
     }
     if processor.view <= w {
-        return enter(plan, processor, processor.clock, w + 1);
+        return enter(plan, processor, w + 1);
     }
-    remain(plan, processor, processor.clock)
+    accept(processor, Sends::Nothing)
 }
 
 // The step of a sound processor below n.

@@ -18,7 +18,7 @@ use Rattle.types.specs.declared.Event.the-variants.{Deliver, Sign, Show, Settle
 use Rattle.types.specs.declared.Run.{Run}
 use Rattle.types.specs.declared.Answer.the-variants.{Done, Refused}
 use Rattle.types.specs.declared.Head.{Head}
-use Rattle.types.specs.declared.Outcome.{Outcome}
+use Rattle.types.specs.declared.AppliedHead.{AppliedHead}
 use Rattle.types.specs.Quantities.{lead}
 use Rattle.types.specs.Messages.{viewIn, processorIn, stageOf, lacksForm}
 use Rattle.model.specs.State.{State, After, stateOf, runFrom, headOf, withHeld, leftBehind, isCorrect, capacity, refused, done}
@@ -35,11 +35,11 @@ use Rattle.simulator.proofs.Ticking.{state-by}
 use Rattle.simulator.proofs.Deciding.{named-passed, named-refused, change-sent}
 
 -- what was left behind, by its parts
-pub refused-is : (s : State) (x : Outcome) (k : ℕ) → (x .head ≡ headOf (s .run)) × (x .answer ≡ Refused k)
+pub refused-is : (s : State) (x : AppliedHead) (k : ℕ) → (x .head ≡ headOf (s .run)) × (x .answer ≡ Refused k)
     → leftBehind x (s .run .clocks) (s .run .views) (s .tally) (s .network) ≡ refused s k
 refused-is s x k e = λ i. record { state = stateOf (runFrom (e .0 i) (s .run .clocks) (s .run .views)) (s .tally) (s .network); answer = e .1 i }
 
-pub done-is : (s : State) (h : Head) (c v t ws : List ℕ) (x : Outcome) → (x .head ≡ h) × (x .answer ≡ Done 0 (h .held)) → stateOf (runFrom h c v) t ws ≡ s
+pub done-is : (s : State) (h : Head) (c v t ws : List ℕ) (x : AppliedHead) → (x .head ≡ h) × (x .answer ≡ Done 0 (h .held)) → stateOf (runFrom h c v) t ws ≡ s
     → leftBehind x c v t ws ≡ done s
 done-is s h c v t ws x e q = (λ i. record { state = stateOf (runFrom (e .0 i) c v) t ws; answer = e .1 i }) ∙ ap done q
 

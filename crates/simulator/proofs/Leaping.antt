@@ -1,28 +1,28 @@
 -- A leap over quiet ticks is the run of them, and several ticks after one another are the run of all. Assumes nothing.
 use mathlib.Core.Path.{_≡_, refl, sym, ap, ap₂, _∙_, subst}
-use mathlib.Core.Bool.{Bool, true, false, _&&_, cond}
+use mathlib.Core.Bool.{Bool, true, false, cond}
 use mathlib.Core.Logic.{_⊎_, inl, inr, ⊎-elim}
 use mathlib.Core.List.{List}
-use Prim.Native.Nat.{ℕ, zero, suc, _+_, _-_, _*_, _^_, _/_, _%_, _≤_, _<_}
+use Prim.Native.Nat.{ℕ, zero, suc, _+_, _-_, _^_, _≤_, _<_}
 use native.Mathlib.Omega.{arith}
 use native.Mathlib.Numerals.{add-one}
-use native.Mathlib.Nat.{add-zero, div-add-mod', lt-of-mul-lt-mul-right}
-use lib.Dec.{T, eqb, eqb→eq, leb→le}
+use native.Mathlib.Nat.{add-zero}
+use lib.Dec.{T, leb→le}
 use lib.ListN.{length, getD, set, length-set}
 use lib.Seq.{ext-getD, set-getD, getD-set-same, getD-set-other}
 use borrow.Author.Tests.{lt-leb}
-use Rattle.base.specs.Choice.{cond-no, or-parts}
+use Rattle.base.specs.Choice.{or-parts}
 use Rattle.base.specs.Scan.{some}
-use Rattle.base.specs.Tests.{T-left, T-right, T-true, T-false, le?, by-cond}
+use Rattle.base.specs.Tests.{T-left, T-right, T-true, le?, by-cond}
 use Rattle.base.specs.ScanLaws.{some-none}
 use Rattle.types.specs.declared.Plan.{Plan}
 use Rattle.types.specs.declared.Run.{Run}
 use Rattle.types.specs.declared.Processor.{Processor}
 use Rattle.types.specs.declared.Input.the-variants.{Tick}
 use Rattle.types.specs.declared.Sends.the-variants.{Nothing}
-use Rattle.types.specs.Quantities.{nMost, perLeader, initial, nextInitial, clockTime, endTime, correct}
+use Rattle.types.specs.Quantities.{nMost, endTime, correct}
 use Rattle.model.specs.State.{State, stateOf, runOf, clockOf, viewOf, isCorrect, capacity}
-use Rattle.model.specs.Moves.{Change, changed, still, also, Entry, stay, into, byClock, entries, taking, clocksOn, advanced, arrival, arrivals, made}
+use Rattle.model.specs.Moves.{Change, changed, still, also, Entry, stay, byClock, entries, taking, clocksOn, advanced, arrival, arrivals, made}
 use Rattle.types.specs.PlanFunctions.{nextInitialWord, clockTimeWord}
 use Rattle.model.specs.Checks.{planOutside, clockOutside, atEnd, overdue, unsound}
 use Rattle.model.specs.Processors.{Moved, moving, processorUnsound}
@@ -34,6 +34,7 @@ use Rattle.buffers.specs.WordLaws.{posted-none}
 use Rattle.pacemaker.specs.Limits.{Within, timeMost}
 use Rattle.pacemaker.specs.Steps.{movingBy}
 use Rattle.pacemaker.proofs.LimitLaws.{within, sound}
+use Rattle.pacemaker.proofs.TickLaws.{no-arrival}
 use Rattle.simulator.specs.Inner.{Reacts, Fit, Whole, Went, TickedTo, arrivedBelow, endsAt, ranTo}
 use Rattle.simulator.specs.Leaps.{clocksBy, leapt, later, NoneArrives, QuietTicksAdd, Waits, Rests, ClocksFit, Strides, Ready, Advances}
 use Rattle.simulator.proofs.Fitness.{fit-of, room-of, time-of, some-correct, clock-below, end-most}
@@ -186,27 +187,7 @@ strides-ready s₀ s count sound x =
 
 -- ---- a quiet tick
 
--- a clock between its view's time and the next initial view's comes to no initial view
-no-arrival : (plan : Plan) (clock view : ℕ) → clockTime plan view ≤ clock → clock + 1 < clockTime plan (nextInitial plan view) → byClock plan (clock + 1) ≡ stay
-unfolding perLeader
-no-arrival plan clock view low high = sym (cond-no due stay (into w) stay (T-false due here) refl)
-  where
-    w : ℕ
-    w = (clock + 1) / plan .gamma
-
-    due : Bool
-    due = eqb ((clock + 1) % plan .gamma) 0 && initial plan w
-
-    here : T due → ⊥
-    here t =
-        let m : (clock + 1) % plan .gamma ≡ 0 = eqb→eq _ _ (T-left (eqb ((clock + 1) % plan .gamma) 0) (initial plan w) t) in
-        let i : w % 3 ≡ 0 = eqb→eq _ _ (T-right (eqb ((clock + 1) % plan .gamma) 0) (initial plan w) t) in
-        let g : w * plan .gamma ≡ clock + 1 = omega (arith, div-add-mod' (clock + 1) (plan .gamma)) in
-        let above : view < w = lt-of-mul-lt-mul-right (plan .gamma) (omega arith) in
-        let below : w < nextInitial plan view = lt-of-mul-lt-mul-right (plan .gamma) (omega arith) in
-        omega arith
-
--- what the pacemaker's step would say of it
+-- what the pacemaker's step would say of one before the next initial view's time
 pub quiet-reacts : (plan : Plan) (c : Processor) → processorUnsound plan c ≡ false → (next time : ℕ) → next ≡ nextInitialWord plan (c .view) → time ≡ clockTimeWord plan next
     → c .clock + 1 < time → Reacts plan c (movingBy plan c Tick) (reaction (record { number = c .number; clock = c .clock + 1; view = c .view }) Nothing false)
 quiet-reacts plan c e next time is-next is-time l =

@@ -13,7 +13,7 @@ use Rattle.base.specs.Choice.{cond-yes, cond-no}
 use Rattle.types.specs.declared.Run.{Run}
 use Rattle.types.specs.declared.Answer.the-variants.{Done, Stopped, Refused}
 use Rattle.types.specs.declared.Head.{Head}
-use Rattle.types.specs.declared.Outcome.{Outcome}
+use Rattle.types.specs.declared.AppliedHead.{AppliedHead}
 use Rattle.model.specs.State.{State, After, stateOf, runFrom, leftBehind, checkOf, capacity, refused}
 use Rattle.model.specs.Moves.{advanced, arrivals, made}
 use Rattle.model.specs.Checks.{overdue, reachesEnd, overfull}
@@ -102,7 +102,7 @@ ticks-ended m count check s₀ s s' l e t positive = go check (t .number) positi
 after-by : (a b : After) → a .state ≡ b .state → a .answer ≡ b .answer → a ≡ b
 after-by a b e f = λ i. record { state = e i; answer = f i }
 
-pub run-ended : (m count check : ℕ) (s₀ s' : State) (o : Outcome) (clocks views : List ℕ) → ticks m s₀ ≡ ranTo s' count check → runFrom (o .head) clocks views ≡ s' .run
+pub run-ended : (m count check : ℕ) (s₀ s' : State) (o : AppliedHead) (clocks views : List ℕ) → ticks m s₀ ≡ ranTo s' count check → runFrom (o .head) clocks views ≡ s' .run
     → o .answer ≡ ticksAnswer (ranTo s' count check) → leftBehind o clocks views (s' .tally) (s' .network) ≡ tickRun m s₀
 unfolding tickRun
 run-ended m count check s₀ s' o clocks views e r a = after-by _ _

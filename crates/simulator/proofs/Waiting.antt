@@ -5,7 +5,6 @@ use mathlib.Core.Logic.{_⊎_, ⊎-elim}
 use mathlib.Core.List.{List}
 use Prim.Native.Nat.{ℕ, zero, suc, _+_, _-_, _≤_, _<_, max}
 use native.Mathlib.Omega.{arith}
-use native.Mathlib.Nat.{mul-le-mul-right}
 use lib.Dec.{leb, ltb}
 use borrow.Author.Tests.{le-leb, lt-leb, leb-false, ltb-false}
 use Rattle.base.specs.Tests.{T-true, le?}
@@ -22,7 +21,7 @@ use Rattle.liveness.proofs.Answers.{no-yes}
 use Rattle.liveness.proofs.Link.{correct-below}
 use Rattle.types.specs.PlanFunctions.{nextInitialWord, clockTimeWord}
 use Rattle.pacemaker.specs.Limits.{Within}
-use Rattle.pacemaker.proofs.LimitLaws.{within, next-within, next-word, time-word, past-views}
+use Rattle.pacemaker.proofs.LimitLaws.{within, next-within, next-word, next-before-end, time-word, past-views}
 use Rattle.simulator.specs.Inner.{Fit, lateAt, seat}
 use Rattle.simulator.specs.Leaps.{later, WaitsFor, WaitsForAll, Waits, RestsFor, Rests}
 
@@ -103,7 +102,7 @@ module _ (plan : Plan) (ok : Within plan) (clock view : ℕ) (inside : clockOuts
       f ∙ ap (clockTimeWord plan) n ∙ time-word plan ok (nextInitial plan view) (next-within plan ok view view-low)
 
   pub next-small : clockTime plan (nextInitial plan view) ≤ endTime plan
-  next-small = mul-le-mul-right (plan .gamma) (next-within plan ok view view-low)
+  next-small = next-before-end plan ok view view-low
 
   pub before-next : clock < clockTime plan (nextInitial plan view)
   before-next = leb-false _ _ (or-parts (atEnd plan clock || ltb clock (clockTime plan view)) (leb (clockTime plan (nextInitial plan view)) clock) inside .1)

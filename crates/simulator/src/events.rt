@@ -4,11 +4,11 @@ use crate::Reaction;
 use crate::moves;
 use crate::ticks;
 use types::Answer;
+use types::AppliedHead;
 use types::Event;
 use types::Head;
 use types::Input;
 use types::Message;
-use types::Outcome;
 use types::Plan;
 use types::Processor;
 use types::Sends;
@@ -26,21 +26,21 @@ ghost use Rattle.model.specs.Events.{applied};
 ghost use Rattle.simulator.specs.Inner.{Fit, Decides, ReachesCorrect, seat, namedCheck, sentBy, signedChange, movedChange, changeBy, sentFor, finished};
 
 // A refusal: the check's number alone.
-pub(crate) fn refuse(head: Head, check: u64) -> Outcome
+pub(crate) fn refuse(head: Head, check: u64) -> AppliedHead
     ensures { λ r. ⌜ (r .head ≡ head) × (r .answer ≡ Answer.Refused check) ⌝ }
 {
-    Outcome {
+    AppliedHead {
         head: head,
         answer: Answer::Refused(check),
     }
 }
 
 // An event done that is no tick.
-fn done(head: Head) -> Outcome
+fn done(head: Head) -> AppliedHead
     ensures { λ r. ⌜ (r .head ≡ head) × (r .answer ≡ Answer.Done 0 (head .held)) ⌝ }
 {
     let held = head.held;
-    Outcome {
+    AppliedHead {
         head: head,
         answer: Answer::Done(0, held),
     }
@@ -240,7 +240,7 @@ pub(crate) fn deliver(
     views: &mut [u64; 64],
     tally: &mut [u64],
     network: &mut [u64],
-) -> Outcome
+) -> AppliedHead
     requires { ⌜ unsound (stateOf (runFrom head (now clocks) (now views)) (now tally) (now network)) ≡ false ⌝ }
     ensures { λ r. ⌜ leftBehind r (now (clocks .exit)) (now (views .exit)) (now (tally .exit)) (now (network .exit))
         ≡ applied (Event.Deliver message) (stateOf (runFrom head (now (clocks .entry)) (now (views .entry))) (now (tally .entry)) (now (network .entry))) ⌝ }
@@ -274,7 +274,7 @@ fn finish(
     views: &mut [u64; 64],
     tally: &mut [u64],
     network: &mut [u64],
-) -> Outcome
+) -> AppliedHead
     requires { ⌜ (unsound (stateOf (runFrom head (now clocks) (now views)) (now tally) (now network)) ≡ false) × (namedCheck (head .plan) message ≡ 0)
         × ReachesCorrect (runFrom head (now clocks) (now views)) message ⌝ }
     ensures { λ r. ⌜ leftBehind r (now (clocks .exit)) (now (views .exit)) (now (tally .exit)) (now (network .exit))
@@ -298,7 +298,7 @@ pub(crate) fn sign(
     views: &mut [u64; 64],
     tally: &mut [u64],
     network: &mut [u64],
-) -> Outcome
+) -> AppliedHead
     requires { ⌜ (lacksForm (Event.Sign message) ≡ false) × (unsound (stateOf (runFrom head (now clocks) (now views)) (now tally) (now network)) ≡ false) ⌝ }
     ensures { λ r. ⌜ leftBehind r (now (clocks .exit)) (now (views .exit)) (now (tally .exit)) (now (network .exit))
         ≡ applied (Event.Sign message) (stateOf (runFrom head (now (clocks .entry)) (now (views .entry))) (now (tally .entry)) (now (network .entry))) ⌝ }
@@ -336,7 +336,7 @@ pub(crate) fn show(
     views: &mut [u64; 64],
     tally: &mut [u64],
     network: &mut [u64],
-) -> Outcome
+) -> AppliedHead
     requires { ⌜ (lacksForm (Event.Show message) ≡ false) × (unsound (stateOf (runFrom head (now clocks) (now views)) (now tally) (now network)) ≡ false) ⌝ }
     ensures { λ r. ⌜ leftBehind r (now (clocks .exit)) (now (views .exit)) (now (tally .exit)) (now (network .exit))
         ≡ applied (Event.Show message) (stateOf (runFrom head (now (clocks .entry)) (now (views .entry))) (now (tally .entry)) (now (network .entry))) ⌝ }
@@ -355,7 +355,7 @@ pub(crate) fn show(
 }
 
 // From now on the network keeps its delay.
-pub(crate) fn settle(head: Head) -> Outcome
+pub(crate) fn settle(head: Head) -> AppliedHead
     ensures { λ r. ⌜ ((c v t ws : List ℕ) → unsound (stateOf (runFrom head c v) t ws) ≡ false
         → leftBehind r c v t ws ≡ applied Event.Settle (stateOf (runFrom head c v) t ws)) ⌝ }
 {

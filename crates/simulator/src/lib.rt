@@ -8,9 +8,9 @@ mod ticks;
 
 use types::Answer;
 use types::Applied;
+use types::AppliedHead;
 use types::Event;
 use types::Head;
-use types::Outcome;
 use types::Processor;
 use types::Run;
 use types::Sends;
@@ -43,7 +43,7 @@ pub fn open_lent(
     views: &mut [u64; 64],
     tally: &mut [u64],
     network: &mut [u64],
-) -> Outcome
+) -> AppliedHead
     ensures { λ r. ⌜ Opens setup (stateOf (runFrom head (now (clocks .entry)) (now (views .entry))) (now (tally .entry)) (now (network .entry)))
         (leftBehind r (now (clocks .exit)) (now (views .exit)) (now (tally .exit)) (now (network .exit))) ⌝ }
 {
@@ -54,12 +54,12 @@ pub fn open_lent(
         let first_views = next.views;
         *clocks = first_clocks;
         *views = first_views;
-        return Outcome {
+        return AppliedHead {
             head: types::head_of(next),
             answer: Answer::Done(0, next.held),
         };
     }
-    Outcome {
+    AppliedHead {
         head: head,
         answer: Answer::Refused(check),
     }
@@ -80,7 +80,7 @@ fn is_unsound(
     if known {
         return false;
     }
-    checks::unsound(types::gather(head, clocks, views), tally, network)
+    checks::unsound(head, clocks, views, tally, network)
 }
 
 // An event is applied to a run whose tables are lent beside its head. A caller that knows the run to be sound says so, and check 9 is not made.
@@ -92,7 +92,7 @@ pub fn apply_lent(
     views: &mut [u64; 64],
     tally: &mut [u64],
     network: &mut [u64],
-) -> Outcome
+) -> AppliedHead
     requires { ⌜ KnownSound known (stateOf (runFrom head (now clocks) (now views)) (now tally) (now network)) ⌝ }
     ensures { λ r. ⌜ Applies event (stateOf (runFrom head (now (clocks .entry)) (now (views .entry))) (now (tally .entry)) (now (network .entry)))
         (leftBehind r (now (clocks .exit)) (now (views .exit)) (now (tally .exit)) (now (network .exit))) ⌝ }

@@ -4,9 +4,9 @@ use crate::Reaction;
 use crate::leaps;
 use crate::moves;
 use types::Answer;
+use types::AppliedHead;
 use types::Head;
 use types::Input;
-use types::Outcome;
 use types::Plan;
 use types::Processor;
 use types::Sends;
@@ -236,18 +236,18 @@ fn advance(
 }
 
 // The answer to ticks that a check ended: none done is a refusal.
-fn stop(head: Head, count: u64, check: u64) -> Outcome
+fn stop(head: Head, count: u64, check: u64) -> AppliedHead
     requires { ⌜ 0 < check ⌝ }
     ensures { λ r. ⌜ (r .head ≡ head) × ((c v t ws : List ℕ) → r .answer ≡ ticksAnswer (ranTo (stateOf (runFrom head c v) t ws) count check)) ⌝ }
 {
     let held = head.held;
     if count == 0 {
-        return Outcome {
+        return AppliedHead {
             head: head,
             answer: Answer::Refused(check),
         };
     }
-    Outcome {
+    AppliedHead {
         head: head,
         answer: Answer::Stopped(count, held, check),
     }
@@ -266,7 +266,7 @@ pub(crate) fn run_ticks(
     views: &mut [u64; 64],
     tally: &mut [u64],
     network: &mut [u64],
-) -> Outcome
+) -> AppliedHead
     requires { ⌜ (0 < m) × (unsound (stateOf (runFrom head (now clocks) (now views)) (now tally) (now network)) ≡ false) ⌝ }
     ensures { λ r. ⌜ leftBehind r (now (clocks .exit)) (now (views .exit)) (now (tally .exit)) (now (network .exit))
         ≡ tickRun m (stateOf (runFrom head (now (clocks .entry)) (now (views .entry))) (now (tally .entry)) (now (network .entry))) ⌝ }
@@ -284,7 +284,7 @@ pub(crate) fn run_ticks(
         count += t.count;
     }
     let held = at.held;
-    Outcome {
+    AppliedHead {
         head: at,
         answer: Answer::Done(count, held),
     }

@@ -303,7 +303,7 @@ pub struct Applied {
 }
 
 // The same, the run's tables being lent.
-pub struct Outcome {
+pub struct AppliedHead {
     pub head: Head,
     pub answer: Answer,
 }

@@ -1,11 +1,11 @@
-use Rattle.checks.specs.Scans.{outsideAt}
-use Rattle.pacemaker.proofs.LimitLaws.{within}
-use Rattle.base.specs.ScanLaws.{some-start, some-on, some-here, some-below}
-use Rattle.base.specs.Scan.{some}
-use native.Mathlib.Omega.{arith}
-use Prim.Native.Nat.{_-_}
-use mathlib.Core.Bool.{false}
 use mathlib.Core.Path.{_≡_, sym, _∙_}
+use mathlib.Core.Bool.{false}
+use Prim.Native.Nat.{_-_}
+use native.Mathlib.Omega.{arith}
+use Rattle.base.specs.Scan.{some}
+use Rattle.base.specs.ScanLaws.{some-start, some-on, some-here, some-below}
+use Rattle.pacemaker.proofs.LimitLaws.{within}
+use Rattle.checks.specs.Scans.{outsideAt}
 use Rattle.checks.proofs.clocks_unsound.Statement.{statement}
 use Rattle.checks.proofs.clocks_unsound.Tie as tie
 use Rattle.checks.proofs.clocks_unsound.Reads as reads
@@ -13,43 +13,43 @@ use Rattle.checks.proofs.clocks_unsound.Lts as lts
 use Rattle.checks.proofs.clock_unsound.Reads as clock-unsound-reads
 
 abbrev Inv-loop : tie.InvT-loop
-Inv-loop run n q₀ q = some (outsideAt run) q ≡ false
+Inv-loop plan faulty clocks views n q₀ q = some (outsideAt plan faulty clocks views) q ≡ false
 
 abbrev μ-loop : tie.MeasureT-loop
-μ-loop run n q₀ q = run .plan .n - q
+μ-loop plan faulty clocks views n q₀ q = plan .n - q
 
 loop-holds : tie.Need-loop-holds Inv-loop μ-loop
 loop-holds c = some-start _
 
 mul-clock-unsound : tie.Need-mul-clock-unsound Inv-loop μ-loop
-mul-clock-unsound c = omega (arith, within (c .before .before .before .args .t1 .plan) (c .before .before .before .pre) .n-most)
+mul-clock-unsound c = omega (arith, within (c .before .before .args .plan) (c .before .before .pre) .n-most)
 
 element-copy-out-clock-unsound : tie.Need-element-copy-out-clock-unsound Inv-loop μ-loop
-element-copy-out-clock-unsound c = omega (arith, within (c .before .before .before .args .t1 .plan) (c .before .before .before .pre) .n-most)
+element-copy-out-clock-unsound c = omega (arith, within (c .before .before .args .plan) (c .before .before .pre) .n-most)
 
 mul-clock-unsound-2 : tie.Need-mul-clock-unsound-2 Inv-loop μ-loop
-mul-clock-unsound-2 c = omega (arith, within (c .before .before .before .before .args .t1 .plan) (c .before .before .before .before .pre) .n-most)
+mul-clock-unsound-2 c = omega (arith, within (c .before .before .before .args .plan) (c .before .before .before .pre) .n-most)
 
 element-copy-out-clock-unsound-2 : tie.Need-element-copy-out-clock-unsound-2 Inv-loop μ-loop
-element-copy-out-clock-unsound-2 c = omega (arith, within (c .before .before .before .before .args .t1 .plan) (c .before .before .before .before .pre) .n-most)
+element-copy-out-clock-unsound-2 c = omega (arith, within (c .before .before .before .args .plan) (c .before .before .before .pre) .n-most)
 
 clock-unsound-requires : tie.Need-clock-unsound-requires Inv-loop μ-loop
-clock-unsound-requires c κs = c .before .before .before .before .before .pre
+clock-unsound-requires c κs = c .before .before .before .before .pre
 
 returns : tie.Need-returns Inv-loop μ-loop
-returns c = sym (some-here (outsideAt (c .before .before .before .before .before .before .before .args .t1)) (c .before .before .before .before .before .before .before .args .t1 .plan .n) (c .before .before .before .before .before .before .loop .q) (c .before .before .before .before .before .loop-test .taken) (sym (c .before .clock-unsound .ensures) ∙ c .if1 .taken))
+returns c = sym (some-here (outsideAt (c .before .before .before .before .before .before .args .plan) (c .before .before .before .before .before .before .args .faulty) (c .before .before .before .before .before .before .args .clocks .now) (c .before .before .before .before .before .before .args .views .now)) (c .before .before .before .before .before .before .args .plan .n) (c .before .before .before .before .before .loop .q) (c .before .before .before .before .loop-test .taken) (sym (c .before .clock-unsound .ensures) ∙ c .if1 .taken))
 
 add-q : tie.Need-add-q Inv-loop μ-loop
-add-q c = omega (arith, within (c .before .before .before .before .before .before .before .args .t1 .plan) (c .before .before .before .before .before .before .before .pre) .n-most)
+add-q c = omega (arith, within (c .before .before .before .before .before .before .args .plan) (c .before .before .before .before .before .before .pre) .n-most)
 
 loop-less : tie.Need-loop-less Inv-loop μ-loop
 loop-less c = omega arith
 
 loop-again : tie.Need-loop-again Inv-loop μ-loop
-loop-again c = some-on (outsideAt (c .before .before .before .before .before .before .before .args .t1)) (c .before .before .before .before .before .before .loop .q) (c .before .before .before .before .before .before .loop .inv) (sym (c .before .clock-unsound .ensures) ∙ c .if1 .left)
+loop-again c = some-on (outsideAt (c .before .before .before .before .before .before .args .plan) (c .before .before .before .before .before .before .args .faulty) (c .before .before .before .before .before .before .args .clocks .now) (c .before .before .before .before .before .before .args .views .now)) (c .before .before .before .before .before .loop .q) (c .before .before .before .before .before .loop .inv) (sym (c .before .clock-unsound .ensures) ∙ c .if1 .left)
 
 returns-2 : tie.Need-returns-2 Inv-loop μ-loop
-returns-2 c = sym (some-below (outsideAt (c .before .before .args .t1)) (c .before .before .args .t1 .plan .n) (c .before .loop .q) (c .before .loop .inv) (c .loop-test .left))
+returns-2 c = sym (some-below (outsideAt (c .before .before .args .plan) (c .before .before .args .faulty) (c .before .before .args .clocks .now) (c .before .before .args .views .now)) (c .before .before .args .plan .n) (c .before .loop .q) (c .before .loop .inv) (c .loop-test .left))
 
 pub clocks-unsound-spec : {M : Type 1} → statement M
 clocks-unsound-spec =

@@ -4,10 +4,11 @@ use Rattle.fever.proofs.fever_open.Statement.{statement}
 use Rattle.fever.proofs.fever_open.Tie as tie
 use Rattle.fever.proofs.fever_open.Reads as reads
 use Rattle.fever.proofs.fever_open.Lts as lts
-use Rattle.fever.proofs.words.put_applied.Reads as put-applied-reads
-use Rattle.fever.proofs.words.run_in.Reads as run-in-reads
+use Rattle.fever.proofs.words.head_in.Reads as head-in-reads
+use Rattle.fever.proofs.words.put_outcome.Reads as put-outcome-reads
 use Rattle.fever.proofs.words.setup_in.Reads as setup-in-reads
-use Rattle.simulator.proofs.open.Reads as open-reads
+use Rattle.fever.proofs.words.table_in.Reads as table-in-reads
+use Rattle.simulator.proofs.open_lent.Reads as open-lent-reads
 
 returns : tie.Need-returns
 returns c = opening-short _ _ (c .if1 .taken)
@@ -18,14 +19,20 @@ returns-2 c = opening-run-short _ _ (c .if2 .taken)
 setup-in-requires : tie.Need-setup-in-requires
 setup-in-requires c κs = c .before .if1 .left
 
-run-in-requires : tie.Need-run-in-requires
-run-in-requires c κs = c .before .before .if2 .left
+head-in-requires : tie.Need-head-in-requires
+head-in-requires c κs = c .before .before .if2 .left
 
-open-requires : tie.Need-open-requires
-open-requires c κs = tt
+table-in-requires : tie.Need-table-in-requires
+table-in-requires c κs = search needs
 
-put-applied-requires : tie.Need-put-applied-requires
-put-applied-requires c κs = c .before .before .before .before .before .before .before .before .before .before .before .if2 .left
+table-in-requires-2 : tie.Need-table-in-requires-2
+table-in-requires-2 c κs = search needs
+
+open-lent-requires : tie.Need-open-lent-requires
+open-lent-requires c κs = tt
+
+put-outcome-requires : tie.Need-put-outcome-requires
+put-outcome-requires c κs = c .before .before .before .before .before .before .before .before .before .before .before .before .before .before .before .before .before .before .before .if2 .left
 
 same-length : tie.Need-same-length
 same-length c = search needs
@@ -37,7 +44,9 @@ same-length-3 : tie.Need-same-length-3
 same-length-3 c = search needs
 
 returns-3 : tie.Need-returns-3
-returns-3 c = opening-done _ _ _ _ _ _ _ _ _ (c .before .before .before .before .before .before .before .before .before .before .before .before .before .before .before .if1 .left) (c .before .before .before .before .before .before .before .before .before .before .before .before .before .before .if2 .left) (c .before .before .before .before .before .before .before .before .before .before .before .before .before .setup-in .ensures) (c .before .before .before .before .before .before .before .before .before .before .before .run-in .ensures) (c .before .before .before .before .before .before .before .before .«open» .ensures) (c .before .before .put-applied .ensures .0) (c .before .before .put-applied .ensures .1)
+returns-3 c = opening-done _ _ _ _ _ _ _ _ _ _ _ _ _ (c .before .before .before .before .before .before .before .before .before .before .before .before .before .before .before .before .before .before .before .before .before .before .before .if1 .left) (c .before .before .before .before .before .before .before .before .before .before .before .before .before .before .before .before .before .before .before .before .before .before .if2 .left) (c .before .before .before .before .before .before .before .before .before .before .before .before .before .before .before .before .before .before .before .before .before .setup-in .ensures)
+    (record { head = c .before .before .before .before .before .before .before .before .before .before .before .before .before .before .before .before .before .before .before .head-in .ensures; clocks-in = c .before .before .before .before .before .before .before .before .before .before .before .before .before .before .before .before .before .table-in .ensures; views-in = c .before .before .before .before .before .before .before .before .before .before .before .before .before .before .before .table-in2 .ensures })
+    (c .before .before .before .before .before .before .before .before .before .before .open-lent .ensures) (record { check = c .before .before .put-outcome .ensures .0; words = c .before .before .put-outcome .ensures .1 })
 
 pub fever-open-spec : {M : Type 1} → statement M
 fever-open-spec =
@@ -46,9 +55,11 @@ fever-open-spec =
     returns
     returns-2
     setup-in-requires
-    run-in-requires
-    open-requires
-    put-applied-requires
+    head-in-requires
+    table-in-requires
+    table-in-requires-2
+    open-lent-requires
+    put-outcome-requires
     same-length
     same-length-2
     same-length-3

@@ -1,13 +1,14 @@
 use native.Mathlib.Omega.{arith}
-use Rattle.pacemaker.proofs.StepLaws.{as-moved, no-view-voted, voted, at-or-above, below}
+use mathlib.Core.Path.{_∙_}
+use Rattle.pacemaker.proofs.StepLaws.{as-moved, no-view-voted, stays, voted, at-or-above, below}
 use borrow.Author.Needs.{needs}
 use Rattle.pacemaker.proofs.take_quorum.Statement.{statement}
 use Rattle.pacemaker.proofs.take_quorum.Tie as tie
 use Rattle.pacemaker.proofs.take_quorum.Reads as reads
 use Rattle.pacemaker.proofs.take_quorum.Lts as lts
+use Rattle.pacemaker.proofs.accept.Reads as accept-reads
 use Rattle.pacemaker.proofs.enter.Reads as enter-reads
 use Rattle.pacemaker.proofs.refuse.Reads as refuse-reads
-use Rattle.pacemaker.proofs.remain.Reads as remain-reads
 
 refuse-requires : tie.Need-refuse-requires
 refuse-requires c κs = search needs
@@ -30,17 +31,18 @@ returns-2 c =
     (at-or-above (a .plan) (a .processor) (a .w) (omega (arith, c .before .if2 .taken))))
     (c .enter .ensures)
 
-remain-requires : tie.Need-remain-requires
-remain-requires c κs = search needs
+accept-requires : tie.Need-accept-requires
+accept-requires c κs = search needs
 
 returns-3 : tie.Need-returns-3
 returns-3 c =
-    let a = c .before .before .before .before .before .args in
-    as-moved (voted (a .plan) (a .processor) (a .w) _ (c .before .before .before .if1 .left)
+    let start = c .before .before .before .before .before in
+    let a = start .args in
+    as-moved (stays (a .plan) (a .processor) (start .pre) ∙ voted (a .plan) (a .processor) (a .w) _ (c .before .before .before .if1 .left)
     (below (a .plan) (a .processor) (a .w) (omega (arith, c .before .if2 .left))))
-    (c .remain .ensures)
+    (c .accept .ensures)
 
 pub take-quorum-spec : {M : Type 1} → statement M
 take-quorum-spec =
     tie.close
-    (tie.spec refuse-requires returns add-enter enter-requires returns-2 remain-requires returns-3)
+    (tie.spec refuse-requires returns add-enter enter-requires returns-2 accept-requires returns-3)

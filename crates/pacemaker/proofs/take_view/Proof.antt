@@ -1,15 +1,15 @@
 use native.Mathlib.Omega.{arith}
 use mathlib.Core.Path.{sym, _∙_}
-use Rattle.pacemaker.proofs.StepLaws.{as-moved, no-view, not-initial, certified, above, not-above}
+use Rattle.pacemaker.proofs.StepLaws.{as-moved, no-view, not-initial, stays, certified, above, not-above}
 use borrow.Author.Needs.{needs}
 use Rattle.pacemaker.proofs.take_view.Statement.{statement}
 use Rattle.pacemaker.proofs.take_view.Tie as tie
 use Rattle.pacemaker.proofs.take_view.Reads as reads
 use Rattle.pacemaker.proofs.take_view.Lts as lts
 use Rattle.types.proofs.Plan.initial.Reads as initial-reads
+use Rattle.pacemaker.proofs.accept.Reads as accept-reads
 use Rattle.pacemaker.proofs.enter.Reads as enter-reads
 use Rattle.pacemaker.proofs.refuse.Reads as refuse-reads
-use Rattle.pacemaker.proofs.remain.Reads as remain-reads
 
 refuse-requires : tie.Need-refuse-requires
 refuse-requires c κs = search needs
@@ -33,16 +33,17 @@ returns-2 c =
     (above (a .plan) (a .processor) (a .w) i (omega (arith, c .before .if3 .taken))))
     (c .enter .ensures)
 
-remain-requires : tie.Need-remain-requires
-remain-requires c κs = search needs
+accept-requires : tie.Need-accept-requires
+accept-requires c κs = search needs
 
 returns-3 : tie.Need-returns-3
 returns-3 c =
-    let a = c .before .before .before .before .before .before .before .args in
+    let start = c .before .before .before .before .before .before .before in
+    let a = start .args in
     let i = sym (c .before .before .before .before .initial .ensures) ∙ c .before .before .before .if2 .taken in
-    as-moved (certified (a .plan) (a .processor) (a .w) _ (c .before .before .before .before .before .if1 .left) i
+    as-moved (stays (a .plan) (a .processor) (start .pre) ∙ certified (a .plan) (a .processor) (a .w) _ (c .before .before .before .before .before .if1 .left) i
     (not-above (a .plan) (a .processor) (a .w) (omega (arith, c .before .if3 .left))))
-    (c .remain .ensures)
+    (c .accept .ensures)
 
 refuse-requires-2 : tie.Need-refuse-requires-2
 refuse-requires-2 c κs = search needs
@@ -62,7 +63,7 @@ take-view-spec =
     initial-requires
     enter-requires
     returns-2
-    remain-requires
+    accept-requires
     returns-3
     refuse-requires-2
     returns-4)

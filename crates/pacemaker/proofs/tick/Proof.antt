@@ -1,72 +1,60 @@
-use mathlib.Core.Path.{sym, _∙_}
-use Prim.Native.Nat.{_+_}
+use mathlib.Core.Path.{ap, _∙_}
 use native.Mathlib.Omega.{arith}
-use Rattle.pacemaker.proofs.LimitLaws.{time-small, slot-within}
-use Rattle.pacemaker.proofs.StepLaws.{as-moved, ticked, between-slots, at-initial, at-other}
+use Rattle.types.specs.Quantities.{clockTime}
+use Rattle.pacemaker.specs.Steps.{entryInto}
+use Rattle.pacemaker.proofs.LimitLaws.{time-small, view-below}
+use Rattle.pacemaker.proofs.StepLaws.{as-moved}
+use Rattle.pacemaker.proofs.TickLaws.{tick-passes, tick-arrives}
 use borrow.Author.Needs.{needs}
 use Rattle.pacemaker.proofs.tick.Statement.{statement}
 use Rattle.pacemaker.proofs.tick.Tie as tie
 use Rattle.pacemaker.proofs.tick.Reads as reads
 use Rattle.pacemaker.proofs.tick.Lts as lts
-use Rattle.types.proofs.Plan.initial.Reads as initial-reads
+use Rattle.pacemaker.proofs.accept.Reads as accept-reads
 use Rattle.pacemaker.proofs.enter.Reads as enter-reads
-use Rattle.pacemaker.proofs.remain.Reads as remain-reads
+use Rattle.pacemaker.proofs.next_of.Reads as next-of-reads
+use Rattle.pacemaker.proofs.time_of.Reads as time-of-reads
 
 add-clock : tie.Need-add-clock
 add-clock c =
-    let a = c .before .args in
-    omega (arith, time-small (a .plan) (c .before .pre .within) (a .plan .views) (omega arith), c .before .pre .before-end)
+    let plan = c .before .args .plan in
+    omega (arith, time-small plan (c .before .pre .within) (plan .views) (omega arith), c .before .pre .before-end)
 
-rem-if1 : tie.Need-rem-if1
-rem-if1 c = search needs
+next-of-requires : tie.Need-next-of-requires
+next-of-requires c κs = (c .before .pre .within, view-below (c .before .args .plan) (c .before .args .processor) (c .before .pre))
 
-remain-requires : tie.Need-remain-requires
-remain-requires c κs = c .before .before .before .pre .within
+time-of-requires : tie.Need-time-of-requires
+time-of-requires c κs = (c .before .before .pre .within, c .next-of .ensures .1)
+
+accept-requires : tie.Need-accept-requires
+accept-requires c κs = search needs
 
 returns : tie.Need-returns
 returns c =
-    let a = c .before .before .before .before .args in
-    as-moved (ticked (a .plan) (a .processor) _ (between-slots (a .plan) (a .processor .clock + 1) (c .before .if1 .taken))) (c .remain .ensures)
-
-div-w : tie.Need-div-w
-div-w c = search needs
-
-initial-requires : tie.Need-initial-requires
-initial-requires c κs = search needs
+    let start = c .before .before .before .before .before in
+    let time = c .before .before .time-of .ensures ∙ ap (clockTime (start .args .plan)) (c .before .before .before .next-of .ensures .0) in
+    as-moved (tick-passes (start .args .plan) (start .args .processor) (start .pre) (omega (arith, time, c .before .if1 .taken))) (c .accept .ensures)
 
 enter-requires : tie.Need-enter-requires
-enter-requires c κs =
-    let a = c .before .before .before .before .before .before .args in
-    let s = c .before .before .before .before .before .before .pre in
-    (s .within, slot-within (a .plan) (s .within) (a .processor .clock) (s .before-end))
+enter-requires c κs = (c .before .before .before .before .pre, c .before .before .next-of .ensures .1)
 
 returns-2 : tie.Need-returns-2
 returns-2 c =
-    let a = c .before .before .before .before .before .before .before .args in
-    let i = sym (c .before .before .initial .ensures) ∙ c .before .if2 .taken in
-    as-moved (ticked (a .plan) (a .processor) _ (at-initial (a .plan) (a .processor .clock + 1) (c .before .before .before .before .if1 .left) i))
+    let start = c .before .before .before .before .before in
+    let next = c .before .before .before .next-of .ensures .0 in
+    let time = c .before .before .time-of .ensures ∙ ap (clockTime (start .args .plan)) next in
+    as-moved (ap (entryInto (start .args .plan) (start .args .processor)) next
+    ∙ tick-arrives (start .args .plan) (start .args .processor) (start .pre) (omega (arith, time, c .before .if1 .left)))
     (c .enter .ensures)
-
-remain-requires-2 : tie.Need-remain-requires-2
-remain-requires-2 c κs = c .before .before .before .before .before .before .pre .within
-
-returns-3 : tie.Need-returns-3
-returns-3 c =
-    let a = c .before .before .before .before .before .before .before .args in
-    let i = sym (c .before .before .initial .ensures) ∙ c .before .if2 .left in
-    as-moved (ticked (a .plan) (a .processor) _ (at-other (a .plan) (a .processor .clock + 1) i)) (c .remain2 .ensures)
 
 pub tick-spec : {M : Type 1} → statement M
 tick-spec =
     tie.close
     (tie.spec
     add-clock
-    rem-if1
-    remain-requires
+    next-of-requires
+    time-of-requires
+    accept-requires
     returns
-    div-w
-    initial-requires
     enter-requires
-    returns-2
-    remain-requires-2
-    returns-3)
+    returns-2)

@@ -1,10 +1,11 @@
-use mathlib.Core.Path.{refl}
-use Rattle.fever.proofs.Laying.{clocks-room, views-room, run-laid}
+use Rattle.model.specs.State.{runFrom}
+use Rattle.fever.proofs.Laying.{run-laid}
 use borrow.Author.Needs.{needs}
 use Rattle.fever.proofs.words.put_run.Statement.{statement}
 use Rattle.fever.proofs.words.put_run.Tie as tie
 use Rattle.fever.proofs.words.put_run.Reads as reads
 use Rattle.fever.proofs.words.put_run.Lts as lts
+use Rattle.fever.proofs.words.own_table.Reads as own-table-reads
 use Rattle.fever.proofs.words.put_words.Reads as put-words-reads
 use Rattle.fever.proofs.words.settled_word.Reads as settled-word-reads
 
@@ -17,23 +18,29 @@ slice-aggregate-put-words c = search needs
 put-words-requires : tie.Need-put-words-requires
 put-words-requires c κs = search needs
 
+own-table-requires : tie.Need-own-table-requires
+own-table-requires c κs = search needs
+
 slice-aggregate-put-words-2 : tie.Need-slice-aggregate-put-words-2
 slice-aggregate-put-words-2 c = search needs
 
 put-words-requires-2 : tie.Need-put-words-requires-2
-put-words-requires-2 c κs = clocks-room _ (c .before .before .before .before .before .before .before .before .before .before .before .args .run .clocks) (c .before .before .before .before .before .before .before .before .before .before .before .args .run .views) _ refl (search needs) (search needs) (c .before .before .before .before .before .before .before .before .before .before .before .pre) _ _ (c .before .before .before .before .put-words .ensures)
+put-words-requires-2 c κs = search needs
+
+own-table-requires-2 : tie.Need-own-table-requires-2
+own-table-requires-2 c κs = search needs
 
 slice-aggregate-put-words-3 : tie.Need-slice-aggregate-put-words-3
 slice-aggregate-put-words-3 c = search needs
 
 put-words-requires-3 : tie.Need-put-words-requires-3
-put-words-requires-3 c κs = views-room _ _ (c .before .before .before .before .before .before .before .before .before .before .before .before .before .before .before .before .args .run .views) _ refl (search needs) (search needs) (c .before .before .before .before .before .before .before .before .before .before .before .before .before .before .before .before .pre) _ _ _ _ (c .before .before .before .before .before .before .before .before .before .put-words .ensures) (c .before .before .before .before .put-words2 .ensures)
+put-words-requires-3 c κs = search needs
 
 same-length : tie.Need-same-length
 same-length c = search needs
 
 returns : tie.Need-returns
-returns c = run-laid (c .before .before .before .before .before .before .before .before .before .before .before .before .before .before .before .before .before .before .before .args .run) _ _ _ _ _ _ _ _ (search needs) (search needs) (c .before .before .before .before .before .before .before .before .before .before .before .before .before .before .before .before .before .before .before .pre) (c .before .before .before .before .before .before .before .before .before .before .before .before .before .before .before .before .before .settled-word .ensures) (c .before .before .before .before .before .before .before .before .before .before .before .before .put-words .ensures) (c .before .before .before .before .before .before .before .put-words2 .ensures) (c .before .before .put-words3 .ensures)
+returns c = run-laid (runFrom (c .before .before .before .before .before .before .before .before .before .before .before .before .before .before .before .before .before .before .before .args .head) (c .before .before .before .before .before .before .before .before .before .before .before .before .before .before .before .before .before .before .before .args .clocks .now) (c .before .before .before .before .before .before .before .before .before .before .before .before .before .before .before .before .before .before .before .args .views .now)) _ _ _ _ _ _ _ _ _ _ (c .before .before .before .before .before .before .before .before .before .before .before .own-table .ensures) (c .before .before .before .before .before .own-table2 .ensures) (search needs) (search needs) (c .before .before .before .before .before .before .before .before .before .before .before .before .before .before .before .before .before .before .before .pre) (c .before .before .before .before .before .before .before .before .before .before .before .before .before .before .before .before .before .settled-word .ensures) (c .before .before .before .before .before .before .before .before .before .before .before .before .before .before .put-words .ensures) (c .before .before .before .before .before .before .before .before .put-words2 .ensures) (c .before .before .put-words3 .ensures)
 
 pub put-run-spec : {M : Type 1} → statement M
 put-run-spec =
@@ -42,8 +49,10 @@ put-run-spec =
     settled-word-requires
     slice-aggregate-put-words
     put-words-requires
+    own-table-requires
     slice-aggregate-put-words-2
     put-words-requires-2
+    own-table-requires-2
     slice-aggregate-put-words-3
     put-words-requires-3
     same-length

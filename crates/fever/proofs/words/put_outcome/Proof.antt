@@ -1,9 +1,9 @@
 use mathlib.Core.Path.{refl}
 use borrow.Author.Needs.{needs}
-use Rattle.fever.proofs.words.put_applied.Statement.{statement}
-use Rattle.fever.proofs.words.put_applied.Tie as tie
-use Rattle.fever.proofs.words.put_applied.Reads as reads
-use Rattle.fever.proofs.words.put_applied.Lts as lts
+use Rattle.fever.proofs.words.put_outcome.Statement.{statement}
+use Rattle.fever.proofs.words.put_outcome.Tie as tie
+use Rattle.fever.proofs.words.put_outcome.Reads as reads
+use Rattle.fever.proofs.words.put_outcome.Lts as lts
 use Rattle.fever.proofs.words.put_run.Reads as put-run-reads
 
 enum-told : tie.Need-enum-told
@@ -36,8 +36,8 @@ returns-2 c = (rw (c .before .before .before .before .before .answer .given .1) 
 returns-3 : tie.Need-returns-3
 returns-3 c = (rw (c .before .answer2 .given .1) refl, rw (c .before .answer2 .given .1) refl)
 
-pub put-applied-spec : {M : Type 1} → statement M
-put-applied-spec =
+pub put-outcome-spec : {M : Type 1} → statement M
+put-outcome-spec =
     tie.close
     (tie.spec
     enum-told

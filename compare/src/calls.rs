@@ -46,14 +46,19 @@ impl State {
         }
     }
 
-    /// Makes a call of the reference.
-    pub fn refer(&mut self, call: &Call) -> u64 {
+    /// The words that a call is lent.
+    fn lent(&mut self) -> (&mut [u64], &mut [u64], &mut [u64]) {
         let Self {
             run,
             tally,
             network,
         } = self;
-        let (run, tally, network) = (run.front_mut(), tally.front_mut(), network.front_mut());
+        (run.front_mut(), tally.front_mut(), network.front_mut())
+    }
+
+    /// Makes a call of the reference.
+    pub fn refer(&mut self, call: &Call) -> u64 {
+        let (run, tally, network) = self.lent();
         match call {
             Call::Open(setup) => reference_calls::open(setup, run, tally, network),
             Call::Apply(numbers) => reference_calls::apply(run, *numbers, tally, network),
@@ -62,12 +67,7 @@ impl State {
 
     /// Makes a call of the library.
     pub fn prove(&mut self, call: &Call) -> u64 {
-        let Self {
-            run,
-            tally,
-            network,
-        } = self;
-        let (run, tally, network) = (run.front_mut(), tally.front_mut(), network.front_mut());
+        let (run, tally, network) = self.lent();
         match call {
             Call::Open(setup) => raw::open(setup, run, tally, network),
             &Call::Apply([form, kind, view, processor]) => {

@@ -1,28 +1,25 @@
 -- What check 9 asks of a held message, by what its words decode to. Assumes nothing.
 use mathlib.Core.Path.{_≡_, refl, ap, _∙_}
-use mathlib.Core.Bool.{Bool, true, false, not, _||_}
+use mathlib.Core.Bool.{Bool, true, false, _||_}
 use mathlib.Core.List.{List}
 use Prim.Native.Nat.{ℕ, _<_}
 use lib.Dec.{ltb}
+use Rattle.base.specs.Choice.{or-first}
 use Rattle.base.specs.Scan.{some}
 use Rattle.types.specs.declared.Plan.{Plan}
 use Rattle.types.specs.declared.Message.{Message}
 use Rattle.types.specs.declared.Run.{Run}
-use Rattle.types.specs.Quantities.{correct}
-use Rattle.types.specs.Messages.{kindOf, viewIn, processorIn, kindLeast, kindMost, addressee}
+use Rattle.types.specs.Messages.{kindOf, viewIn, processorIn, kindLeast, kindMost}
 use Rattle.model.specs.State.{stateOf, kindAt, viewAt, processorAt, sentAt, capacity}
-use Rattle.model.specs.Checks.{noView, noProcessor, messageUnsound}
+use Rattle.model.specs.Checks.{heldUnsound, messageUnsound}
 use Rattle.buffers.specs.declared.Stored.the-variants.{Holds, Unknown}
 use Rattle.buffers.specs.Kinds.{stored}
 use Rattle.buffers.specs.KindLaws.{stored-holds, stored-unknown}
-use Rattle.checks.specs.Scans.{heldUnsound, flying}
+use Rattle.checks.specs.Scans.{flying}
 
--- the first of five tests passes, or is left out
-first-passes : (k v p a s : Bool) → k ≡ true → (k || v || p || a || s) ≡ true
-first-passes k v p a s e = rw e
-
-first-fails : (k v p a s : Bool) → k ≡ false → (v || p || a || s) ≡ (k || v || p || a || s)
-first-fails k v p a s e = rw e
+-- a first test that fails is left out
+first-fails : (k h : Bool) → k ≡ false → h ≡ (k || h)
+first-fails k h e = rw e
 
 -- four tests in turn
 pub four1 : (v p a s : Bool) → v ≡ true → true ≡ (v || p || a || s)
@@ -41,31 +38,27 @@ module _ (plan : Plan) (faulty time : ℕ) (ws : List ℕ) (i : ℕ) where
   abbrev kindOutside : Bool
   kindOutside = ltb (kindAt ws i) kindLeast || ltb kindMost (kindAt ws i)
 
-  abbrev toFaulty : ℕ → ℕ → ℕ → Bool
-  toFaulty kind w p = not (correct plan faulty (addressee plan kind w p))
-
   -- of no kind
   pub kind-unsound : i < capacity ws → stored ws i ≡ Unknown → messageUnsound (flying plan faulty time ws) i ≡ true
   unfolding messageUnsound
-  kind-unsound l e = first-passes kindOutside (noView plan (viewAt ws i)) (noProcessor plan (processorAt ws i))
-      (toFaulty (kindAt ws i) (viewAt ws i) (processorAt ws i)) (ltb time (sentAt ws i)) (stored-unknown ws i l e)
+  kind-unsound l e = or-first kindOutside _ (stored-unknown ws i l e)
 
-  tests-as : (k w p k' w' p' : ℕ) → k ≡ k' → w ≡ w' → p ≡ p' → (noView plan w' || noProcessor plan p' || toFaulty k' w' p' || ltb time (sentAt ws i))
-      ≡ (noView plan w || noProcessor plan p || toFaulty k w p || ltb time (sentAt ws i))
+  tests-as : (k w p k' w' p' : ℕ) → k ≡ k' → w ≡ w' → p ≡ p'
+      → heldUnsound plan faulty time k' w' p' (sentAt ws i) ≡ heldUnsound plan faulty time k w p (sentAt ws i)
   tests-as k w p k' w' p' a b c = rw (a, b, c)
 
-  held-as : (m : Message) → stored ws i ≡ Holds m → heldUnsound plan faulty time m (sentAt ws i) ≡ messageUnsound (flying plan faulty time ws) i
+  held-as : (m : Message) → stored ws i ≡ Holds m
+      → heldUnsound plan faulty time (kindOf m) (viewIn m) (processorIn m) (sentAt ws i) ≡ messageUnsound (flying plan faulty time ws) i
   unfolding messageUnsound
   held-as m e =
       let h = stored-holds ws i m e in
       tests-as (kindAt ws i) (viewAt ws i) (processorAt ws i) (kindOf m) (viewIn m) (processorIn m) (h .0) (h .1) (h .2)
-      ∙ first-fails kindOutside (noView plan (viewAt ws i)) (noProcessor plan (processorAt ws i))
-      (toFaulty (kindAt ws i) (viewAt ws i) (processorAt ws i)) (ltb time (sentAt ws i)) (h .3)
+      ∙ first-fails kindOutside _ (h .3)
 
   -- a message, asked with its sending time
-  pub held-unsound : (m : Message) (sent : ℕ) (r : Bool) → stored ws i ≡ Holds m → sent ≡ sentAt ws i → r ≡ heldUnsound plan faulty time m sent
+  pub held-unsound : (m : Message) (sent : ℕ) (r : Bool) → stored ws i ≡ Holds m → sent ≡ sentAt ws i → r ≡ heldUnsound plan faulty time (kindOf m) (viewIn m) (processorIn m) sent
       → r ≡ messageUnsound (flying plan faulty time ws) i
-  held-unsound m sent r e q x = x ∙ ap (heldUnsound plan faulty time m) q ∙ held-as m e
+  held-unsound m sent r e q x = x ∙ ap (heldUnsound plan faulty time (kindOf m) (viewIn m) (processorIn m)) q ∙ held-as m e
 
 -- the rest of the run does not matter
 pub some-flying : (r : Run) (t ws : List ℕ) (k : ℕ)

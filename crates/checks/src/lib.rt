@@ -14,9 +14,10 @@ ghost use Rattle.base.specs.Count.{bit};
 ghost use Rattle.base.specs.Scan.{some};
 ghost use Rattle.types.specs.Quantities.{correct, startLimit};
 ghost use Rattle.model.specs.State.{stateOf, runFrom, capacity};
-ghost use Rattle.model.specs.Checks.{planOutside, faultyOutside, lengthsOutside, clockOutside, messageUnsound, someNonZero, unsound, startTooHigh, supporting, tooFarAhead};
+ghost use Rattle.types.specs.Messages.{kindOf, viewIn, processorIn};
+ghost use Rattle.model.specs.Checks.{planOutside, faultyOutside, lengthsOutside, clockOutside, outsideAt, heldUnsound, messageUnsound, someNonZero, unsound, startTooHigh, supporting, aloneAt, tooFarAhead};
 ghost use Rattle.pacemaker.specs.Limits.{Within};
-ghost use Rattle.checks.specs.Scans.{outsideAt, heldUnsound, flying, aloneAt};
+ghost use Rattle.checks.specs.Scans.{flying};
 ghost use Rattle.checks.specs.Setups.{setupCheck};
 
 // The network has at least so many words for each processor.
@@ -110,7 +111,7 @@ fn clocks_unsound(plan: Plan, faulty: u64, clocks: &[u64; 64], views: &[u64; 64]
 // Whether the message names too much, is for no correct processor or was sent later than now.
 fn held_unsound(plan: Plan, faulty: u64, time: u64, message: Message, sent: u64) -> bool
     requires { ⌜ Within plan ⌝ }
-    ensures { λ r. ⌜ r ≡ heldUnsound plan faulty time message sent ⌝ }
+    ensures { λ r. ⌜ r ≡ heldUnsound plan faulty time (kindOf message) (viewIn message) (processorIn message) sent ⌝ }
 {
     if plan.views <= message.view() {
         return true;
@@ -273,7 +274,7 @@ fn count_support(setup: Setup, c: u64) -> u64
 // Whether q is correct and too few correct clocks, its own counted, are with its clock.
 fn clock_alone(setup: Setup, q: u64) -> bool
     requires { ⌜ Within (setup .plan) × (q < setup .plan .n) ⌝ }
-    ensures { λ r. ⌜ r ≡ aloneAt setup q ⌝ }
+    ensures { λ r. ⌜ r ≡ aloneAt (setup .plan) (setup .faulty) (setup .clocks) q ⌝ }
 {
     if setup.plan.correct(setup.faulty, q) {
         let i = q as usize;

@@ -18,8 +18,7 @@ use Rattle.types.specs.declared.Stepped.the-variants.{Sent, Refused}
 use Rattle.types.specs.Quantities.{initial}
 use Rattle.model.specs.Moves.{Entry, stay, into}
 use Rattle.model.specs.Checks.{Check, judged}
-use Rattle.model.specs.Processors.{Moved, Gives, messagesOf, moving, clockAt, entryBy, stepChecks, stepped}
-use Rattle.pacemaker.specs.Steps.{refusing}
+use Rattle.model.specs.Processors.{Moved, Gives, messagesOf, moving, clockAt, entryBy, stepChecks, refusing, stepped}
 use Rattle.pacemaker.proofs.AnswerLaws.{refused-some}
 use Rattle.writer.specs.Stamps.{Stamped}
 use Rattle.fever.specs.Layout.{recordLength}

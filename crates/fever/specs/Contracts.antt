@@ -17,8 +17,7 @@ use Rattle.types.specs.Messages.{lacksForm}
 use Rattle.model.specs.State.{State, After, stateOf, checkOf, accepted}
 use Rattle.model.specs.Opening.{opening}
 use Rattle.model.specs.Events.{applied}
-use Rattle.model.specs.Processors.{Moved, stepped}
-use Rattle.pacemaker.specs.Steps.{refusing}
+use Rattle.model.specs.Processors.{Moved, refusing, stepped}
 use Rattle.lines.specs.declared.Read.{Read}
 use Rattle.lines.specs.declared.Read.the-variants as Read
 use Rattle.lines.specs.declared.Reading.{Reading}

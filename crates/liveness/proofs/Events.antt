@@ -28,7 +28,7 @@ use Rattle.model.specs.Checks.{isAt, placeOf, notHeld, exists, reachesEnd, over
 use Rattle.model.specs.Events.{without, delivering, signing, tickChecks, tickOnce, continued, ticks, tickRun, checks, effect, applied}
 use Rattle.liveness.proofs.Flight.{Sent, In, sentAs, Found, found-at}
 use Rattle.liveness.proofs.Sending.{signature}
-use Rattle.liveness.proofs.Link.{Planned, params, flight, Wire, rest, wire-removed, length-removed}
+use Rattle.liveness.proofs.Link.{Planned, params, flight, Wire, rest, wire-removed, length-without}
 use Rattle.liveness.proofs.Enters.{entered}
 use Rattle.liveness.proofs.Hears.{needed-enough}
 use Rattle.liveness.proofs.Tracks.{Tracked, Leads, stays, leads-on}
@@ -88,7 +88,7 @@ module _ (s : State) (ok : Planned (s .run .plan) (s .run .faulty)) (x : Tracked
     wire-after = wire-removed (x .wire) found
 
     length-after : length network-after ≡ length (s .network)
-    length-after = length-removed (x .wire) found
+    length-after = length-without (x .wire) found
 
   signature-leads : (q : Bool) (w p : ℕ) (is-held : T (notHeld s (signature q w p)) → ⊥) → (p < plan .n) × (w < plan .views)
       → (T (overfull (without s (signature q w p)) (hearing q (without s (signature q w p) .run) (s .tally) w p)) → ⊥)

@@ -3,11 +3,11 @@ use mathlib.Core.Path.{_≡_, refl, sym, ap, _∙_}
 use mathlib.Core.Bool.{_&&_}
 use mathlib.Core.Logic.{inl, inr}
 use mathlib.Core.List.{List, [], _∷_, _++_, append-assoc}
-use Prim.Native.Nat.{ℕ, zero, suc, _+_, _-_, _*_, _<_}
+use Prim.Native.Nat.{ℕ, zero, suc, _+_, _-_, _*_, _≤_, _<_}
 use native.Mathlib.Omega.{arith}
 use lib.Dec.{T, eqb, eqb→eq}
-use lib.ListN.{length, take, drop, replicate, length-append, length-replicate}
-use lib.Seq.{take-at, drop-at, drop-drop}
+use lib.ListN.{length, take, drop, replicate, length-append, length-replicate, length-drop}
+use lib.Seq.{slice, take-at, drop-at, drop-drop, length-take-le, length-slice}
 use Rattle.base.specs.Members.{Elem}
 use Rattle.base.specs.Tests.{T-left, T-right}
 use Rattle.types.specs.declared.Message.{Message}
@@ -200,3 +200,21 @@ found-at (x ∷ xs) z m (suc i) l t = go (found-at xs z m i (omega arith) t')
 
     go : Found xs m i → Found (x ∷ xs) m (suc i)
     go f = record { ahead = x ∷ f .ahead; behind = f .behind; time = f .time; split = ap (λ (l : List Sent). x ∷ l) (f .split); place = ap suc (f .place) }
+
+-- ---- of any words
+
+pub length-removed : (ws : List ℕ) (h i : ℕ) → i < h → messageWords * h ≤ length ws → length (removed ws h i) ≡ length ws
+unfolding removed
+length-removed ws h i l k =
+    let a : List ℕ = take (messageWords * i) ws in
+    let b : List ℕ = slice (messageWords * (i + 1)) (messageWords * h) ws in
+    let z : List ℕ = replicate messageWords 0 in
+    let d : List ℕ = drop (messageWords * h) ws in
+    length-append (a ++ b ++ z) d ∙ omega (
+      arith,
+      length-append (a ++ b) z,
+      length-append a b,
+      length-take-le (messageWords * i) ws (omega arith),
+      length-slice (messageWords * (i + 1)) (messageWords * h) ws k,
+      length-drop (messageWords * h) ws,
+    )

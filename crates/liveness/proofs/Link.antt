@@ -17,10 +17,11 @@ use Rattle.protocol.specs.Params.{Params}
 use Rattle.protocol.specs.State.{Processors, Tally, Flight, Starts}
 use Rattle.types.specs.declared.Plan.{Plan}
 use Rattle.types.specs.declared.Message.{Message}
-use Rattle.types.specs.Quantities.{deltaLeast, gammaLeast, nLeast, nMost, viewsLeast, rowWords, messageWords, tolerated, perLeader, lead, initial, nextInitial, clockTime, endTime, correct}
+use Rattle.types.specs.Quantities.{deltaLeast, gammaLeast, nLeast, nMost, viewsLeast, rowWords, messageWords, tolerated, perLeader, turnStart, lead, initial, nextInitial, clockTime, endTime, correct}
+use Rattle.types.proofs.PlanLaws.{per-leader-positive}
 use Rattle.model.specs.State.{enteredWord, heardWord, marksWord, markBit, word, posted, removed, capacity}
 use Rattle.model.specs.Moves.{certificate}
-use Rattle.liveness.proofs.Flight.{sentAs, Sent, In, laid, stamped, length-laid, length-stamped, posted-laid, removed-laid, Found}
+use Rattle.liveness.proofs.Flight.{sentAs, Sent, In, laid, stamped, length-laid, length-stamped, posted-laid, removed-laid, Found, length-removed}
 use Rattle.liveness.proofs.Sending.{signature, At}
 
 -- ---- the plan as the protocol's parameters
@@ -32,15 +33,11 @@ pub record Planned (plan : Plan) (faulty : ℕ) : Type 0 where
   pub delta-least : deltaLeast ≤ plan .delta
   pub gamma-least : gammaLeast plan ≤ plan .gamma
   pub views-least : viewsLeast ≤ plan .views
-  pub views-initial : T (initial plan (plan .views))
+  pub views-multiple : T (turnStart plan (plan .views))
   pub faulty-below : faulty < 2 ^ plan .n
   pub faulty-few : size faulty ≤ tolerated plan
 
--- what the proof knows of the views per leader
-pub per-leader-positive : (plan : Plan) → 0 < perLeader plan
-unfolding perLeader
-per-leader-positive plan = omega arith
-
+-- a leader's turn is long enough
 pub per-leader-roomy : (plan : Plan) (faulty : ℕ) → Planned plan faulty → 3 * plan .delta + plan .gamma < perLeader plan * plan .gamma
 unfolding perLeader
 per-leader-roomy plan faulty ok = omega (arith, ok .delta-least, ok .gamma-least)
@@ -159,19 +156,10 @@ module _ {ws : List ℕ} {held : ℕ} {xs : List Sent} (wire : Wire ws held xs) 
       );
     }
 
-    pub length-removed : length (removed ws held i) ≡ length ws
-    unfolding wire-removed
-    length-removed =
-        ap length (wire-removed .words) ∙ length-laid rest (messageWords + wire .spare)
-        ∙ omega (
-          arith,
-          length-append (found .ahead) (sentAs m (found .time) ∷ found .behind),
-          length-append (found .ahead)
-              (found .behind),
-          wire-length,
-          wire .number,
-          ap length (found .split),
-        )
+    pub length-without : length (removed ws held i) ≡ length ws
+    length-without = length-removed ws held i
+        (omega (arith, wire .number, found .place, ap length (found .split), length-append (found .ahead) (sentAs m (found .time) ∷ found .behind)))
+        (omega (arith, wire-length))
 
 -- ---- clocks, views and tally
 

@@ -96,7 +96,7 @@ module _ (s : State) (m : Message) (sound : T (unsound s) → ⊥) (is-held : T 
       let to : Bool = isCorrect (s .run) (addressee (s .run .plan) (kindAt (s .network) i) (viewAt (s .network) i) (processorAt (s .network) i)) in
       let time : Bool = ltb (s .run .time) (sentAt (s .network) i) in
       rw (kind, view, processor) at (not-not to (λ x. sound-of s sound .messages (placeOf s m) inside
-      (or-left (k1 || k2 || v || p || not to) time (or-right (k1 || k2 || v || p) (not to) x))))
+      (or-right (k1 || k2) (v || p || not to || time) (or-left (v || p || not to) time (or-right (v || p) (not to) x)))))
 
 -- ---- each event
 

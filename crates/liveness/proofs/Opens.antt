@@ -4,7 +4,7 @@ use mathlib.Core.Bool.{Bool, false, not, _&&_, _||_, cond}
 use mathlib.Core.List.{[]}
 use Prim.Native.Nat.{ℕ, _+_, _-_, _*_, _/_, _^_, _≤_, _<_}
 use native.Mathlib.Omega.{arith}
-use native.Mathlib.Nat.{zero-div, mul-le-mul-right, zero-mul}
+use native.Mathlib.Nat.{mul-le-mul-right}
 use lib.Dec.{T, eqb, leb, ltb, eqb→eq, leb→le, le→leb, ltb→lt}
 use lib.ListN.{length, getD, replicate, length-replicate}
 use Rattle.base.specs.Tests.{T-left, T-right, T-and, T-true, T-false, T-iff, not-not, eq→eqb}
@@ -18,7 +18,8 @@ use Rattle.protocol.specs.Opening.{Open, open-holds}
 use Rattle.types.specs.declared.Plan.{Plan}
 use Rattle.types.specs.declared.Run.{Run}
 use Rattle.types.specs.declared.Setup.{Setup}
-use Rattle.types.specs.Quantities.{nLeast, nMost, deltaLeast, deltaMost, gammaLeast, gammaMost, viewsLeast, viewsMost, networkLeast, networkMost, tableClocks, rowWords, perLeader, tolerated, lead, initial, nextInitial, startLimit, correct}
+use Rattle.types.specs.Quantities.{nLeast, nMost, deltaLeast, deltaMost, gammaLeast, gammaMost, viewsLeast, viewsMost, networkLeast, networkMost, tableClocks, rowWords, perLeader, tolerated, lead, turnStart, startLimit, correct}
+use Rattle.types.proofs.PlanLaws.{next-least, next-of-zero}
 use Rattle.model.specs.State.{State, capacity, enteredWord, heardWord, marksWord, markBit, word}
 use Rattle.model.specs.Moves.{Change, entries, certificate, made}
 use Rattle.model.specs.Checks.{supporting, startTooHigh, tooFarAhead, nOutside, delaysOutside, viewsOutside, faultyOutside, planOutside}
@@ -26,8 +27,8 @@ use Rattle.model.specs.Opening.{blankRun, blank, firstEntry, opened, openingChe
 use Rattle.liveness.proofs.TallyLaws.{heard-low}
 use Rattle.liveness.proofs.Flight.{stamped}
 use Rattle.liveness.proofs.Sending.{signature, signature-is, apart, in-stamped, stamped-in}
-use Rattle.liveness.proofs.Link.{Planned, params, correct-below, to-initial, flight, Wire, wire-posted, length-posted, Books}
-use Rattle.liveness.proofs.FirstEntries.{zeros, blank-tally, views-positive, at-zero, Mid, mid-all}
+use Rattle.liveness.proofs.Link.{Planned, params, correct-below, flight, Wire, wire-posted, length-posted, Books}
+use Rattle.liveness.proofs.FirstEntries.{zeros, blank-tally, views-positive, Mid, mid-all}
 use Rattle.liveness.proofs.Tracks.{Tracked}
 use Rattle.liveness.proofs.Judging.{Passes, neither, nor, not-ltb, not-leb}
 
@@ -40,7 +41,7 @@ planned-within p faulty inside few =
     let b = neither (ltb (p .delta) deltaLeast || ltb deltaMost (p .delta) || ltb (p .gamma) (gammaLeast p)) (ltb gammaMost (p .gamma)) (d .1) in
     let b' = neither (ltb (p .delta) deltaLeast || ltb deltaMost (p .delta)) (ltb (p .gamma) (gammaLeast p)) (b .0) in
     let b'' = neither (ltb (p .delta) deltaLeast) (ltb deltaMost (p .delta)) (b' .0) in
-    let w = neither (ltb (p .views) viewsLeast || ltb viewsMost (p .views)) (not (initial p (p .views))) (v .1) in
+    let w = neither (ltb (p .views) viewsLeast || ltb viewsMost (p .views)) (not (turnStart p (p .views))) (v .1) in
     let w' = neither (ltb (p .views) viewsLeast) (ltb viewsMost (p .views)) (w .0) in
     let f = neither (leb (2 ^ p .n) faulty) (ltb (tolerated p) (size faulty)) few in
     record {
@@ -49,7 +50,7 @@ planned-within p faulty inside few =
       delta-least = not-ltb (p .delta) deltaLeast (b'' .0);
       gamma-least = not-ltb (p .gamma) (gammaLeast p) (b' .1);
       views-least = not-ltb (p .views) viewsLeast (w' .0);
-      views-initial = not-not (initial p (p .views)) (w .1);
+      views-multiple = not-not (turnStart p (p .views)) (w .1);
       faulty-below = not-leb (2 ^ p .n) faulty (f .0);
       faulty-few = not-ltb (tolerated p) (size faulty) (f .1);
     }
@@ -190,7 +191,7 @@ module _ (u : Setup) (s : State) (c : Passes (openingChecks u s)) where
     wire = wire-posted first-wire 0 (all .sent) room;
     books = books;
     holds = open-holds is-open;
-    ready = λ p cp. rw (m .views-same, zeros p) (let e : nextInitial plan 0 ≡ perLeader plan = next-of-zero in rw e (starts-low p cp));
+    ready = λ p cp. rw (m .views-same, zeros p) (rw (next-of-zero plan) (starts-low p cp));
     below = λ p cp. omega (arith, starts-low p cp, mul-le-mul-right (plan .gamma) limit-reached);
     early = λ p cp. omega arith;
     unsettled = λ t. refl;
@@ -204,12 +205,9 @@ module _ (u : Setup) (s : State) (c : Passes (openingChecks u s)) where
         (sym (opened-lengths .1)) (c .1 .1 .1 .1 .0))));
   }
     where
-      next-of-zero : nextInitial plan 0 ≡ perLeader plan
-      next-of-zero = ap (λ (x : ℕ). x * perLeader plan + perLeader plan) (zero-div (perLeader plan)) ∙ omega (arith, zero-mul (perLeader plan))
-
       limit-reached : perLeader plan ≤ plan .views
       limit-reached = omega (
         arith,
-        proto.initial-gap π 0 (plan .views) (to-initial plan faulty ok 0 (at-zero u (s .tally) ok tally-long false))
-            (to-initial plan faulty ok (plan .views) (ok .views-initial)) (views-positive u (s .tally) ok tally-long),
+        next-least plan 0 (plan .views) (T-true (turnStart plan (plan .views)) (ok .views-multiple)) (views-positive u (s .tally) ok tally-long),
+        next-of-zero plan,
       )

@@ -160,13 +160,12 @@ module _ (plan : Plan) (faulty : ℕ) (ok : Planned plan faulty) where
   view-limit s x p c = lt-of-mul-lt-mul-right (plan .gamma) (omega (arith, x .holds .processors .low p c, x .below p c, x .books .clock p))
 
   module _ (s : State) (x : Tracked plan faulty ok s) (es : List Event)
-      (far : (3 * size faulty + 4) * plan .gamma + 4 * plan .delta < ticksDone (nowSettled s) es) where
+      (far : perLeader plan * (size faulty + 1) * plan .gamma + plan .gamma + 4 * plan .delta < ticksDone (nowSettled s) es) where
     way : Leads plan faulty ok (nowSettled s) (settled-tracked s x) (after (nowSettled s) es)
     unfolding nowSettled
     way = leads-all es (nowSettled s) (settled-tracked s x) tt
 
     long : perLeader plan * (size faulty + 1) * plan .gamma + plan .gamma + 4 * plan .delta < runs.ticks π (way .way)
-    unfolding perLeader
     long = omega (arith, far, steps-kept π (way .way) .0, ticks-are-time (nowSettled s) es)
 
     found : Reached π (x .tally) (way .to .processors) (way .to .tally)

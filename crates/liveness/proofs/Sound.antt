@@ -97,18 +97,19 @@ module _ (s : State) (ok : Planned (s .run .plan) (s .run .faulty)) (x : Tracked
       let v : Bool = leb (plan .views) (viewAt (s .network) i) in
       let p : Bool = leb (plan .n) (processorAt (s .network) i) in
       let to : Bool = not (isCorrect (s .run) (addressee plan (kindAt (s .network) i) (viewAt (s .network) i) (processorAt (s .network) i))) in
-      nor (k1 || k2 || v || p || to) (ltb (s .run .time) (sentAt (s .network) i))
-      (nor (k1 || k2 || v || p) to
-      (nor (k1 || k2 || v) p
-      (nor (k1 || k2) v
+      let past : Bool = ltb (s .run .time) (sentAt (s .network) i) in
+      nor (k1 || k2) (v || p || to || past)
       (nor k1 k2
       (λ t. let g : kindAt (s .network) i < 1 = ltb→lt _ _ t in omega (arith, f .kind-least))
       (λ t. let g : 4 < kindAt (s .network) i = ltb→lt _ _ t in omega (arith, f .kind-most)))
-      (λ t. let g : plan .views ≤ viewAt (s .network) i = leb→le _ _ t in omega (arith, f .view-low)))
+      (nor (v || p || to) past
+      (nor (v || p) to
+      (nor v p
+      (λ t. let g : plan .views ≤ viewAt (s .network) i = leb→le _ _ t in omega (arith, f .view-low))
       (λ t. let g : plan .n ≤ processorAt (s .network) i = leb→le _ _ t in omega (arith, f .processor-low)))
       (λ t. T-not (isCorrect (s .run) (addressee plan (kindAt (s .network) i) (viewAt (s .network) i) (processorAt (s .network) i))) t
       (rw (kind, view, processor) (f .to-correct))))
-      (λ t. let g : s .run .time < sentAt (s .network) i = ltb→lt _ _ t in omega (arith, f .past))
+      (λ t. let g : s .run .time < sentAt (s .network) i = ltb→lt _ _ t in omega (arith, f .past)))
 
   clock-sound : (p : ℕ) → T (isCorrect (s .run) p) → T (clockOutside plan (clockOf (s .run) p) (viewOf (s .run) p)) → ⊥
   clock-sound p c =

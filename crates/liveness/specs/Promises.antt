@@ -14,7 +14,7 @@ use Rattle.types.specs.declared.Answer.{Answer}
 use Rattle.types.specs.declared.Answer.the-variants.{Done, Stopped, Refused}
 use Rattle.types.specs.declared.Run.{Run}
 use Rattle.types.specs.declared.Setup.{Setup}
-use Rattle.types.specs.Quantities.{lead, correct}
+use Rattle.types.specs.Quantities.{perLeader, lead, correct}
 use Rattle.types.specs.Messages.{voteStage}
 use Rattle.model.specs.State.{State, clockOf, viewOf, marksWord, markBit, word, checkOf, accepted, refused}
 use Rattle.model.specs.Checks.{unsound}
@@ -24,9 +24,9 @@ use Rattle.model.specs.Lists.{after, ClockCondition, Since, sinceSettling, hasS
 
 -- ---- demand 3
 
--- (3f+4)Γ+4Δ, f being the mask's ones
+-- k(f+1)Γ + Γ + 4Δ, k being the views per leader and f the mask's ones
 abbrev pub settlingBound : Setup → ℕ
-settlingBound u = (3 * size (u .faulty) + 4) * u .plan .gamma + 4 * u .plan .delta
+settlingBound u = perLeader (u .plan) * (size (u .faulty) + 1) * u .plan .gamma + u .plan .gamma + 4 * u .plan .delta
 
 -- some correct leader has formed a quorum certificate since settling, and every correct processor is in a later view of r, which es left
 pub record Certified (u : Setup) (s : State) (es : List Event) (r : Run) : Type 0 where
@@ -36,7 +36,7 @@ pub record Certified (u : Setup) (s : State) (es : List Event) (r : Run) : Type 
   pub later : (p : ℕ) → T (correct (u .plan) (u .faulty) p) → view + 1 ≤ viewOf r p
 
 -- For every setup, every run and lent buffers at hand, if the opening is accepted: for every list of events and every number of its first
--- events (none: the opening; all: the whole list), the clock condition holds after them, and if by them more than (3f+4)Γ+4Δ ticks were
+-- events (none: the opening; all: the whole list), the clock condition holds after them, and if by them more ticks than that were
 -- accepted since settling, there is such a certificate.
 abbrev pub DemandThree : Type 0
 DemandThree =

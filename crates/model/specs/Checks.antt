@@ -10,9 +10,9 @@ use Rattle.base.specs.Sets.{member, size}
 use Rattle.types.specs.declared.Plan.{Plan}
 use Rattle.types.specs.declared.Message.{Message}
 use Rattle.types.specs.declared.Run.{Run}
-use Rattle.types.specs.Quantities.{nLeast, nMost, deltaLeast, deltaMost, gammaLeast, gammaMost, viewsLeast, viewsMost, rowWords, messageWords, networkLeast, networkMost, tolerated, lead, initial, nextInitial, clockTime, endTime, startLimit, correct}
+use Rattle.types.specs.Quantities.{nLeast, nMost, deltaLeast, deltaMost, gammaLeast, gammaMost, viewsLeast, viewsMost, rowWords, messageWords, networkLeast, networkMost, tolerated, lead, initial, nextInitial, clockTime, endTime, startLimit, correct, turnStart}
 use Rattle.types.specs.Messages.{kindOf, viewIn, processorIn, kindLeast, kindMost, stageOf, addressee}
-use Rattle.model.specs.State.{State, clockOf, viewOf, isCorrect, enteredWord, marksWord, markBit, word, kindAt, viewAt, processorAt, sentAt, capacity}
+use Rattle.model.specs.State.{State, isCorrect, enteredWord, marksWord, markBit, word, kindAt, viewAt, processorAt, sentAt, capacity}
 use Rattle.model.specs.Moves.{Change, needed}
 
 -- a check's number, and whether its sentence holds
@@ -41,9 +41,9 @@ nOutside p = ltb (p .n) nLeast || ltb nMost (p .n)
 abbrev pub delaysOutside : Plan → Bool
 delaysOutside p = ltb (p .delta) deltaLeast || ltb deltaMost (p .delta) || ltb (p .gamma) (gammaLeast p) || ltb gammaMost (p .gamma)
 
--- 4. "V is outside its range or no multiple of 3." A multiple is what an initial view is.
+-- 4. "V is outside its range or no multiple of 3."
 abbrev pub viewsOutside : Plan → Bool
-viewsOutside p = ltb (p .views) viewsLeast || ltb viewsMost (p .views) || not (initial p (p .views))
+viewsOutside p = ltb (p .views) viewsLeast || ltb viewsMost (p .views) || not (turnStart p (p .views))
 
 -- 2 to 4
 abbrev pub planOutside : Plan → Bool
@@ -61,15 +61,24 @@ abbrev pub buffersOutside : Plan → List ℕ → List ℕ → Bool
 buffersOutside p t ws = lengthsOutside p (length t) (length ws)
 
 -- 7. "A correct start clock is 3Γ or more."
+abbrev pub highAt : Plan → ℕ → List ℕ → ℕ → Bool
+highAt p faulty clocks q = correct p faulty q && leb (startLimit p) (getD clocks q 0)
+
 unfoldable pub startTooHigh : Plan → ℕ → List ℕ → Bool
-startTooHigh p faulty clocks = some (λ q. correct p faulty q && leb (startLimit p) (getD clocks q 0)) (p .n)
+startTooHigh p faulty clocks = some (highAt p faulty clocks) (p .n)
 
 -- 8. "A correct clock c has fewer than t+1 correct clocks c', its own counted, with c'+Γ ≥ c."
+abbrev pub supportAt : Plan → ℕ → List ℕ → ℕ → ℕ → Bool
+supportAt p faulty clocks c q = correct p faulty q && leb c (getD clocks q 0 + p .gamma)
+
 abbrev pub supporting : Plan → ℕ → List ℕ → ℕ → ℕ
-supporting p faulty clocks c = count (p .n) (λ q. correct p faulty q && leb c (getD clocks q 0 + p .gamma))
+supporting p faulty clocks c = count (p .n) (supportAt p faulty clocks c)
+
+abbrev pub aloneAt : Plan → ℕ → List ℕ → ℕ → Bool
+aloneAt p faulty clocks q = correct p faulty q && ltb (supporting p faulty clocks (getD clocks q 0)) (tolerated p + 1)
 
 unfoldable pub tooFarAhead : Plan → ℕ → List ℕ → Bool
-tooFarAhead p faulty clocks = some (λ q. correct p faulty q && ltb (supporting p faulty clocks (getD clocks q 0)) (tolerated p + 1)) (p .n)
+tooFarAhead p faulty clocks = some (aloneAt p faulty clocks) (p .n)
 
 -- 9. "The run handed in is unsound: a limit of 2 to 6 broken, a correct clock or the time at or above VΓ, a correct clock below its view's
 -- clock time or not below that of the next initial view, more messages than fit, a held message with kind, view or cabinet out of range or
@@ -84,8 +93,11 @@ atEnd p clock = leb (endTime p) clock
 abbrev pub clockOutside : Plan → ℕ → ℕ → Bool
 clockOutside p clock view = atEnd p clock || ltb clock (clockTime p view) || leb (clockTime p (nextInitial p view)) clock
 
+abbrev pub outsideAt : Plan → ℕ → List ℕ → List ℕ → ℕ → Bool
+outsideAt p faulty clocks views q = correct p faulty q && clockOutside p (getD clocks q 0) (getD views q 0)
+
 abbrev pub clocksUnsound : State → Bool
-clocksUnsound s = let r = s .run in some (λ p. isCorrect r p && clockOutside (r .plan) (clockOf r p) (viewOf r p)) (r .plan .n)
+clocksUnsound s = let r = s .run in some (outsideAt (r .plan) (r .faulty) (r .clocks) (r .views)) (r .plan .n)
 
 abbrev pub timeUnsound : State → Bool
 timeUnsound s = atEnd (s .run .plan) (s .run .time)
@@ -93,14 +105,17 @@ timeUnsound s = atEnd (s .run .plan) (s .run .time)
 abbrev pub heldTooMany : State → Bool
 heldTooMany s = ltb (capacity (s .network)) (s .run .held)
 
+-- a message of such a kind that names too much, is for no correct processor, or was sent later than now
+abbrev pub heldUnsound : Plan → ℕ → ℕ → ℕ → ℕ → ℕ → ℕ → Bool
+heldUnsound plan faulty time kind w p sent =
+    noView plan w || noProcessor plan p || not (correct plan faulty (addressee plan kind w p)) || ltb time sent
+
 unfoldable pub messageUnsound : State → ℕ → Bool
 messageUnsound s i =
     let r = s .run in
     let kind = kindAt (s .network) i in
-    let w = viewAt (s .network) i in
-    let p = processorAt (s .network) i in
-    ltb kind kindLeast || ltb kindMost kind || noView (r .plan) w || noProcessor (r .plan) p
-    || not (isCorrect r (addressee (r .plan) kind w p)) || ltb (r .time) (sentAt (s .network) i)
+    (ltb kind kindLeast || ltb kindMost kind)
+    || heldUnsound (r .plan) (r .faulty) (r .time) kind (viewAt (s .network) i) (processorAt (s .network) i) (sentAt (s .network) i)
 
 -- "(its settling time is kept as 0; check 9 refuses another value in an unsettled run)"
 abbrev pub settlingUnsound : State → Bool
@@ -163,8 +178,11 @@ settledBefore s = s .run .settled
 abbrev pub late : ℕ → ℕ → ℕ → ℕ → Bool
 late gst delta time sent = leb (max sent gst + delta) time
 
+abbrev pub lateAt : ℕ → ℕ → ℕ → List ℕ → ℕ → Bool
+lateAt gst delta time ws i = late gst delta time (sentAt ws i)
+
 abbrev pub overdueAt : State → ℕ → Bool
-overdueAt s i = late (s .run .gst) (s .run .plan .delta) (s .run .time) (sentAt (s .network) i)
+overdueAt s = lateAt (s .run .gst) (s .run .plan .delta) (s .run .time) (s .network)
 
 -- 16. "A tick finds an overdue message."
 unfoldable pub overdue : State → Bool

@@ -45,13 +45,17 @@ entryClock plan clock w = cond (ltb clock (clockTime plan w)) (clockTime plan w)
 abbrev pub entryMessages : Plan → ℕ → ℕ → List Message
 entryMessages plan p w = cond (initial plan w) (View w p ∷ Vote w p ∷ []) (Vote w p ∷ [])
 
-unfoldable pub entering : Run → List ℕ → ℕ → ℕ → Change
-entering r t p w = record {
-  clocks = set (r .clocks) p (entryClock (r .plan) (clockOf r p) w);
-  views = set (r .views) p w;
-  tally = added t w enteredWord p;
-  sent = toCorrect (r .plan) (r .faulty) (entryMessages (r .plan) p w);
+-- p has this clock and view, the tally is t, and the messages are sent
+abbrev pub movedTo : Run → List ℕ → ℕ → ℕ → ℕ → List Message → Change
+movedTo r t p clock view ms = record {
+  clocks = set (r .clocks) p clock;
+  views = set (r .views) p view;
+  tally = t;
+  sent = toCorrect (r .plan) (r .faulty) ms;
 }
+
+unfoldable pub entering : Run → List ℕ → ℕ → ℕ → Change
+entering r t p w = movedTo r (added t w enteredWord p) p (entryClock (r .plan) (clockOf r p) w) w (entryMessages (r .plan) p w)
 
 -- ---- which view rules 1 to 3 make a processor enter, if any
 
@@ -118,17 +122,19 @@ heardTally t stage w p formed =
 abbrev pub formedMessages : Plan → ℕ → Bool → ℕ → Bool → List Message
 formedMessages plan faulty stage w formed = cond formed (toCorrect plan faulty (toEach stage w (plan .n))) []
 
+-- what a leader that hears p's signature for w changes, the certificate being formed or not
+abbrev pub heardChange : Bool → Run → List ℕ → ℕ → ℕ → Bool → Change
+heardChange stage r t w p formed = record {
+  clocks = r .clocks;
+  views = r .views;
+  tally = heardTally t stage w p formed;
+  sent = formedMessages (r .plan) (r .faulty) stage w formed;
+}
+
 -- "A correct leader that hears a view message for w adds the signer." (That it is correct is tested by `signing`, and by check 9 for what
 -- is delivered.)
 unfoldable pub hearing : Bool → Run → List ℕ → ℕ → ℕ → Change
-hearing stage r t w p =
-    let formed = forms stage r t w p in
-    record {
-      clocks = r .clocks;
-      views = r .views;
-      tally = heardTally t stage w p formed;
-      sent = formedMessages (r .plan) (r .faulty) stage w formed;
-    }
+hearing stage r t w p = heardChange stage r t w p (forms stage r t w p)
 
 -- a message that reaches whom it is for
 unfoldable pub handling : Run → List ℕ → Message → Change

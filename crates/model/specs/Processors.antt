@@ -1,7 +1,7 @@
 -- "At the cabinet's own face": one processor moved by rules 1 to 3.
 use mathlib.Core.Path.{_≡_}
 use mathlib.Core.Bool.{Bool, true, false, _||_}
-use mathlib.Core.List.{List, [], _∷_}
+use mathlib.Core.List.{List, [], _∷_, _++_}
 use Prim.Native.Nat.{ℕ, _+_}
 use lib.Dec.{eqb}
 use Rattle.types.specs.declared.Plan.{Plan}
@@ -16,7 +16,7 @@ use Rattle.types.specs.declared.Stepped.{Stepped}
 use Rattle.types.specs.declared.Stepped.the-variants.{Sent, Refused}
 use Rattle.types.specs.Messages.{viewStage, voteStage}
 use Rattle.model.specs.Moves.{Entry, stay, into, entryClock, entryMessages, byClock, byQuorum, byView}
-use Rattle.model.specs.Checks.{Check, judged, planOutside, clockOutside, noProcessor, namedOutside, notInitial, atEnd}
+use Rattle.model.specs.Checks.{Check, judged, planOutside, clockOutside, noProcessor, noView, notInitial, atEnd}
 
 -- what a call leaves of the processor, the messages it sends, "for leaders faulty or not", and the check that refused it, or 0
 pub record Moved : Type 0 where
@@ -64,31 +64,40 @@ entryBy plan c Tick = byClock plan (clockAt c Tick)
 entryBy plan c (Vc w) = byView plan (c .view) w
 entryBy plan c (Qc w) = byQuorum (c .view) w
 
+-- c as it becomes, and what it sends
+abbrev pub sending : Processor → List Message → Moved
+sending c ms = record { processor = c; sent = ms; check = 0 }
+
 abbrev pub moving : Plan → ℕ → ℕ → ℕ → Entry → Moved
-moving plan p clock view stay = record { processor = record { number = p; clock = clock; view = view }; sent = []; check = 0 }
-moving plan p clock view (into w) = record {
-  processor = record { number = p; clock = entryClock plan clock w; view = w };
-  sent = entryMessages plan p w;
-  check = 0;
-}
+moving plan p clock view stay = sending (record { number = p; clock = clock; view = view }) []
+moving plan p clock view (into w) = sending (record { number = p; clock = entryClock plan clock w; view = w }) (entryMessages plan p w)
+
+-- the move of c by rules 1 to 3
+abbrev pub movingBy : Plan → Processor → Input → Moved
+movingBy plan c i = moving plan (c .number) (clockAt c i) (c .view) (entryBy plan c i)
 
 -- "The cabinet's face uses 9 (limits 2 to 4, its own clock and view), 10, 11 and 17."
 
 abbrev pub processorUnsound : Plan → Processor → Bool
 processorUnsound plan c = planOutside plan || clockOutside plan (c .clock) (c .view)
 
--- the checks of an input that would leave the clock
+-- those of the view that an input names
+abbrev pub viewChecks : Plan → Input → List Check
+viewChecks plan Tick = []
+viewChecks plan (Vc w) = (10, noView plan w) ∷ (11, notInitial plan viewStage w) ∷ []
+viewChecks plan (Qc w) = (10, noView plan w) ∷ (11, notInitial plan voteStage w) ∷ []
+
+-- those of a move that would leave the clock
+abbrev pub endChecks : Plan → ℕ → List Check
+endChecks plan clock = (17, atEnd plan clock) ∷ []
+
+-- all of them, in order; both halves of 10 are one number
 abbrev pub stepChecks : Plan → Processor → Input → ℕ → List Check
-stepChecks plan c Tick clock =
-    (9, processorUnsound plan c) ∷ (10, noProcessor plan (c .number)) ∷ (17, atEnd plan clock) ∷ []
-stepChecks plan c (Vc w) clock =
-    (9, processorUnsound plan c) ∷ (10, namedOutside plan (c .number) w) ∷ (11, notInitial plan viewStage w)
-    ∷ (17, atEnd plan clock) ∷ []
-stepChecks plan c (Qc w) clock =
-    (9, processorUnsound plan c) ∷ (10, namedOutside plan (c .number) w) ∷ (11, notInitial plan voteStage w)
-    ∷ (17, atEnd plan clock) ∷ []
+stepChecks plan c i clock = (9, processorUnsound plan c) ∷ (10, noProcessor plan (c .number)) ∷ viewChecks plan i ++ endChecks plan clock
+
+-- "A refusal answers its number alone and changes nothing"
+abbrev pub refusing : Processor → ℕ → Moved
+refusing c r = record { processor = c; sent = []; check = r }
 
 unfoldable pub stepped : Plan → Processor → Input → Moved
-stepped plan c i =
-    let next = moving plan (c .number) (clockAt c i) (c .view) (entryBy plan c i) in
-    judged (λ r. record { processor = c; sent = []; check = r }) (stepChecks plan c i (next .processor .clock)) next
+stepped plan c i = let next = movingBy plan c i in judged (refusing c) (stepChecks plan c i (next .processor .clock)) next

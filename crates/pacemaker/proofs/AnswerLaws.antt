@@ -1,7 +1,6 @@
 -- For callers: what a step does of a sound processor below n, and what its answer says. Assumes nothing.
 use mathlib.Core.Path.{_≡_, refl, sym, ap, _∙_}
 use mathlib.Core.Bool.{Bool, true, false, _&&_}
-use mathlib.Core.List.{List, [], _∷_}
 use Prim.Native.Nat.{ℕ, _+_, _/_, _%_, _<_}
 use native.Mathlib.Omega.{arith}
 use native.Mathlib.Nat.{div-mul-le-self}
@@ -17,9 +16,9 @@ use Rattle.types.specs.declared.Sends.{Sends}
 use Rattle.types.specs.declared.Stepped.the-variants.{Sent, Refused}
 use Rattle.types.specs.Quantities.{initial, clockTime}
 use Rattle.model.specs.Moves.{Entry, stay, into}
-use Rattle.model.specs.Checks.{Check, judged, atEnd}
-use Rattle.model.specs.Processors.{Moved, Gives, messagesOf, moving, clockAt, entryBy, processorUnsound, stepChecks, stepped}
-use Rattle.pacemaker.specs.Steps.{refusing, movingBy, ending, stepping, Named}
+use Rattle.model.specs.Checks.{atEnd}
+use Rattle.model.specs.Processors.{Moved, Gives, messagesOf, moving, movingBy, clockAt, entryBy, processorUnsound, refusing, stepped}
+use Rattle.pacemaker.specs.Steps.{ending, stepping, Named}
 use Rattle.pacemaker.proofs.StepLaws.{ends, goes-on, certified, voted, is-stepping}
 
 -- ---- what an answer says
@@ -39,20 +38,6 @@ refused-some {m = m} g = let ne : m .check ≡ 0 → ⊥ = eqb-false (m .check) 
 moving-check : (plan : Plan) (p clock view : ℕ) (e : Entry) → moving plan p clock view e .check ≡ 0
 moving-check plan p clock view stay = refl
 moving-check plan p clock view (into w) = refl
-
--- a check that refuses leaves c
-judged-keeps : (c : Processor) (cs : List Check) (m : Moved) → m .check ≡ 0 → 0 < judged (refusing c) cs m .check
-    → judged (refusing c) cs m .processor ≡ c
-judged-keeps c [] m z l = absurd (omega arith)
-judged-keeps c (k ∷ ks) m z l = by-cond (λ (x : Moved). 0 < x .check → x .processor ≡ c) (k .1) (refusing c (k .0)) (judged (refusing c) ks m)
-    (λ t h. refl) (λ t h. judged-keeps c ks m z h) l
-
--- a refusal has changed nothing
-pub refused-same : (plan : Plan) (c : Processor) (i : Input) (d : Processor) (r : ℕ) → Gives (stepped plan c i) d (Refused r) → d ≡ c
-unfolding stepped
-refused-same plan c i d r g =
-    g .processor ∙ judged-keeps c (stepChecks plan c i (movingBy plan c i .processor .clock)) (movingBy plan c i)
-    (moving-check plan (c .number) (clockAt c i) (c .view) (entryBy plan c i)) (refused-some g)
 
 -- ---- a step of a sound processor below n
 

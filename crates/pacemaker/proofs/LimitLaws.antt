@@ -2,20 +2,21 @@
 use mathlib.Core.Path.{_≡_, refl, sym, ap, _∙_}
 use mathlib.Core.Logic.{⊎-elim}
 use mathlib.Core.Bool.{Bool, true, false, not, _||_, cond}
-use Prim.Native.Nat.{ℕ, _%_, _≤_, _<_}
+use Prim.Native.Nat.{ℕ, _≤_, _<_}
 use native.Mathlib.Omega.{arith}
 use native.Mathlib.Nat.{mul-le-mul, mul-le-mul-right, lt-of-mul-lt-mul-right}
 use lib.Dec.{leb, ltb}
-use borrow.Author.Tests.{ltb-false, leb-false, eqb-true, not-false, lt-ltb, le-ltb, le-leb, lt-leb}
+use borrow.Author.Tests.{ltb-false, leb-false, not-false, lt-ltb, le-ltb, le-leb, lt-leb}
 use Rattle.base.specs.Tests.{le?}
 use Rattle.base.specs.Choice.{or-first, or-second, or-neither, or-rest, or-parts}
 use Rattle.types.specs.declared.Plan.{Plan}
 use Rattle.types.specs.declared.Processor.{Processor}
-use Rattle.types.specs.Quantities.{nLeast, nMost, deltaLeast, deltaMost, gammaLeast, gammaMost, viewsLeast, viewsMost, perLeader, initial, nextInitial, clockTime, endTime}
+use Rattle.types.specs.Quantities.{nLeast, nMost, deltaLeast, deltaMost, gammaLeast, gammaMost, viewsLeast, viewsMost, perLeader, turnStart, nextInitial, clockTime, endTime}
 use Rattle.types.specs.PlanFunctions.{nextInitialWord, clockTimeWord}
 use Rattle.model.specs.Checks.{nOutside, delaysOutside, viewsOutside, planOutside, atEnd, clockOutside}
 use Rattle.model.specs.Processors.{processorUnsound}
 use Rattle.types.proofs.PlanWords.{time-fits, next-fits}
+use Rattle.types.proofs.PlanLaws.{next-least, next-of-zero}
 use Rattle.pacemaker.specs.Limits.{planCheck, Within, Sound, timeMost}
 
 -- ---- checks 2 to 4
@@ -46,7 +47,7 @@ within p e =
     let d = or-parts (ltb (p .delta) deltaLeast || ltb deltaMost (p .delta) || ltb (p .gamma) (gammaLeast p)) (ltb gammaMost (p .gamma)) (b .1) in
     let g = or-parts (ltb (p .delta) deltaLeast || ltb deltaMost (p .delta)) (ltb (p .gamma) (gammaLeast p)) (d .0) in
     let h = or-parts (ltb (p .delta) deltaLeast) (ltb deltaMost (p .delta)) (g .0) in
-    let v = or-parts (ltb (p .views) viewsLeast || ltb viewsMost (p .views)) (not (initial p (p .views))) (a .1) in
+    let v = or-parts (ltb (p .views) viewsLeast || ltb viewsMost (p .views)) (not (turnStart p (p .views))) (a .1) in
     let w = or-parts (ltb (p .views) viewsLeast) (ltb viewsMost (p .views)) (v .0) in
     record {
       n-least = ltb-false _ _ (n .0);
@@ -57,7 +58,7 @@ within p e =
       gamma-most = ltb-false _ _ (d .1);
       views-least = ltb-false _ _ (w .0);
       views-most = ltb-false _ _ (w .1);
-      views-initial = not-false _ (v .1);
+      views-multiple = not-false _ (v .1);
     }
 
 -- ---- clock times
@@ -68,10 +69,13 @@ time-small p s w l = let a : w ≤ viewsMost = omega (arith, s .views-most) in m
 pub time-word : (p : Plan) → Within p → (w : ℕ) → w ≤ p .views → clockTimeWord p w ≡ clockTime p w
 time-word p s w l = sym (time-fits p w (omega (arith, time-small p s w l)))
 
--- the next initial view is no further than the end, which is one
+-- the next initial view is no further than the end, a multiple of the views per leader too
 pub next-within : (p : Plan) → Within p → (w : ℕ) → w < p .views → nextInitial p w ≤ p .views
-unfolding perLeader
-next-within p s w l = omega (arith, eqb-true (p .views % 3) 0 (s .views-initial))
+next-within p s w l = next-least p w (p .views) (s .views-multiple) l
+
+-- so a leader's turn fits
+pub turn-within : (p : Plan) → Within p → perLeader p ≤ p .views
+turn-within p s = omega (arith, next-within p s 0 (omega (arith, s .views-least)), next-of-zero p)
 
 pub next-word : (p : Plan) → Within p → (w : ℕ) → w < p .views → nextInitialWord p w ≡ nextInitial p w
 next-word p s w l = sym (next-fits p w (omega (arith, next-within p s w l, s .views-most)))

@@ -1,6 +1,6 @@
 -- What a step is in each of its cases, and what an answer says of it. Assumes nothing.
 use mathlib.Core.Path.{_≡_, refl, sym, ap, subst, _∙_}
-use mathlib.Core.Bool.{Bool, true, false, _||_, cond}
+use mathlib.Core.Bool.{Bool, true, false, cond}
 use mathlib.Core.List.{[], _∷_}
 use Prim.Native.Nat.{ℕ, _+_, _≤_, _<_}
 use native.Mathlib.Omega.{arith}
@@ -8,7 +8,7 @@ use native.Mathlib.Nat.{mul-le-mul-right}
 use lib.Dec.{ltb}
 use borrow.Author.Tests.{lt-ltb, le-ltb, le-leb, lt-leb, ne-eqb}
 use Rattle.base.specs.Tests.{by-cond}
-use Rattle.base.specs.Choice.{cond-yes, cond-no, or-first, and-both, and-not-second, not-yes, not-no}
+use Rattle.base.specs.Choice.{cond-yes, cond-no, and-both, and-not-second, not-yes, not-no}
 use Rattle.types.specs.declared.Plan.{Plan}
 use Rattle.types.specs.declared.Message.the-variants.{View, Vote}
 use Rattle.types.specs.declared.Processor.{Processor}
@@ -17,13 +17,13 @@ use Rattle.types.specs.declared.Input.the-variants.{Tick, Vc, Qc}
 use Rattle.types.specs.declared.Sends.{Sends}
 use Rattle.types.specs.declared.Sends.the-variants.{Vote as VoteFor, ViewAndVote}
 use Rattle.types.specs.declared.Stepped.{Stepped}
-use Rattle.types.specs.declared.Stepped.the-variants.{Sent, Refused}
+use Rattle.types.specs.declared.Stepped.the-variants.{Refused}
 use Rattle.types.specs.Quantities.{initial, clockTime, endTime}
 use Rattle.model.specs.Moves.{Entry, stay, into, entryClock, entryMessages, byClock, byQuorum, byView}
-use Rattle.model.specs.Checks.{noProcessor, noView, atEnd}
-use Rattle.model.specs.Processors.{Moved, Gives, messagesOf, moving, processorUnsound, stepped}
+use Rattle.model.specs.Checks.{atEnd}
+use Rattle.model.specs.Processors.{Moved, Gives, messagesOf, sending, moving, processorUnsound, refusing, stepped}
 use Rattle.pacemaker.specs.Limits.{Sound}
-use Rattle.pacemaker.specs.Steps.{refusing, sending, ending, entryInto, stepping}
+use Rattle.pacemaker.specs.Steps.{ending, entryInto, stepping}
 
 -- ---- the answer
 
@@ -32,9 +32,6 @@ as-moved {c = c} {a = a} e g = subst (λ (m : Moved). Gives m c a) e g
 
 pub gives-refusal : (c : Processor) (r : ℕ) → 0 < r → Gives (refusing c r) c (Refused r)
 gives-refusal c r l = record { processor = refl; sent = refl; check = refl; accepted = sym (ne-eqb r 0 (λ e. omega arith)) }
-
-pub gives-move : (c : Processor) (x : Sends) → Gives (sending c (messagesOf (c .number) x)) c (Sent x)
-gives-move c x = record { processor = refl; sent = refl; check = refl; accepted = refl }
 
 -- ---- check 17
 
@@ -135,24 +132,17 @@ module _ (plan : Plan) (c : Processor) where
 
 -- ---- checks 9 and 10
 
-skip : {A : Type 0} (t b : Bool) (x y : A) → t ≡ false → cond b x y ≡ cond (t || b) x y
-skip t b x y e = rw e refl
-
 module _ (plan : Plan) (c : Processor) where
   pub refused-unsound : (i : Input) → processorUnsound plan c ≡ true → refusing c 9 ≡ stepped plan c i
   unfolding stepped
-  refused-unsound Tick e = cond-yes _ _ _ _ e refl
-  refused-unsound (Vc w) e = cond-yes _ _ _ _ e refl
-  refused-unsound (Qc w) e = cond-yes _ _ _ _ e refl
+  refused-unsound i e = cond-yes _ _ _ _ e refl
 
   pub refused-processor : (i : Input) → processorUnsound plan c ≡ false → plan .n ≤ c .number → refusing c 10 ≡ stepped plan c i
   unfolding stepped
-  refused-processor Tick e l = cond-no _ _ _ _ e (cond-yes _ _ _ _ (le-leb _ _ l) refl)
-  refused-processor (Vc w) e l = cond-no _ _ _ _ e (cond-yes _ _ _ _ (or-first _ (noView plan w) (le-leb _ _ l)) refl)
-  refused-processor (Qc w) e l = cond-no _ _ _ _ e (cond-yes _ _ _ _ (or-first _ (noView plan w) (le-leb _ _ l)) refl)
+  refused-processor i e l = cond-no _ _ _ _ e (cond-yes _ _ _ _ (le-leb _ _ l) refl)
 
   pub is-stepping : (i : Input) → processorUnsound plan c ≡ false → c .number < plan .n → stepping plan c i ≡ stepped plan c i
   unfolding stepped
   is-stepping Tick e l = cond-no _ _ _ _ e (cond-no _ _ _ _ (lt-leb _ _ l) refl)
-  is-stepping (Vc w) e l = cond-no _ _ _ _ e (skip (noProcessor plan (c .number)) (noView plan w) _ _ (lt-leb _ _ l))
-  is-stepping (Qc w) e l = cond-no _ _ _ _ e (skip (noProcessor plan (c .number)) (noView plan w) _ _ (lt-leb _ _ l))
+  is-stepping (Vc w) e l = cond-no _ _ _ _ e (cond-no _ _ _ _ (lt-leb _ _ l) refl)
+  is-stepping (Qc w) e l = cond-no _ _ _ _ e (cond-no _ _ _ _ (lt-leb _ _ l) refl)

@@ -5,7 +5,7 @@ use mathlib.Core.List.{[], _∷_}
 use Prim.Native.Nat.{ℕ, _*_, _≤_, _<_}
 use Rattle.types.specs.declared.Plan.{Plan}
 use Rattle.types.specs.declared.Processor.{Processor}
-use Rattle.types.specs.Quantities.{nLeast, nMost, deltaLeast, deltaMost, gammaLeast, gammaMost, viewsLeast, viewsMost, initial, nextInitial, clockTime, endTime}
+use Rattle.types.specs.Quantities.{nLeast, nMost, deltaLeast, deltaMost, gammaLeast, gammaMost, viewsLeast, viewsMost, turnStart, nextInitial, clockTime, endTime}
 use Rattle.model.specs.Checks.{judged, nOutside, delaysOutside, viewsOutside}
 
 -- the first of checks 2 to 4 whose sentence holds, or 0
@@ -26,7 +26,7 @@ pub record Within (p : Plan) : Type 0 where
   pub gamma-most : p .gamma ≤ gammaMost
   pub views-least : viewsLeast ≤ p .views
   pub views-most : p .views ≤ viewsMost
-  pub views-initial : initial p (p .views) ≡ true
+  pub views-multiple : turnStart p (p .views) ≡ true
 
 -- a processor that passes check 9
 pub record Sound (p : Plan) (c : Processor) : Type 0 where

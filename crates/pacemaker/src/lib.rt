@@ -10,9 +10,9 @@ ghost use Prim.Native.Nat.{_≤_, _<_};
 ghost use lib.Dec.{ltb};
 ghost use Rattle.types.specs.Quantities.{initial, nextInitial, clockTime};
 ghost use Rattle.model.specs.Checks.{nOutside, delaysOutside, viewsOutside, clockOutside};
-ghost use Rattle.model.specs.Processors.{Gives, messagesOf, processorUnsound, stepped};
+ghost use Rattle.model.specs.Processors.{Gives, messagesOf, sending, processorUnsound, refusing, stepped};
 ghost use Rattle.pacemaker.specs.Limits.{planCheck, Within, Sound};
-ghost use Rattle.pacemaker.specs.Steps.{refusing, sending, entryInto, stepping};
+ghost use Rattle.pacemaker.specs.Steps.{entryInto, stepping};
 
 // Check 2.
 fn n_outside(plan: Plan) -> bool
@@ -50,7 +50,7 @@ fn views_outside(plan: Plan) -> bool
     if Plan::VIEWS_MOST < plan.views {
         return true;
     }
-    if plan.initial(plan.views) {
+    if plan.turn_start(plan.views) {
         return false;
     }
     true
@@ -77,7 +77,7 @@ fn time_of(plan: Plan, w: u64) -> u64
     requires { ⌜ Within plan × (w ≤ plan .views) ⌝ }
     ensures { λ r. ⌜ r ≡ clockTime plan w ⌝ }
 {
-    w * plan.gamma
+    plan.clock_time(w)
 }
 
 // The first initial view above w, which is the view limit at most.

@@ -21,9 +21,8 @@ use Rattle.types.specs.Quantities.{initial, clockTime}
 use Rattle.model.specs.State.{State, clockOf, viewOf, isCorrect}
 use Rattle.model.specs.Moves.{Change, changed, Entry, stay, into, entryClock, byClock, clocksOn, advanced, arrival, arrivals}
 use Rattle.model.specs.Checks.{atEnd, reachesEnd}
-use Rattle.model.specs.Processors.{Moved, moving, messagesOf}
+use Rattle.model.specs.Processors.{Moved, moving, messagesOf, movingBy}
 use Rattle.liveness.proofs.TickLaws.{clock-up}
-use Rattle.pacemaker.specs.Steps.{movingBy}
 use Rattle.pacemaker.proofs.AnswerLaws.{tick-clock}
 use Rattle.simulator.specs.declared.Reaction.{Reaction}
 use Rattle.simulator.specs.Inner.{arrivalMove, Arrives, seat, arrivedBelow, endsAt}

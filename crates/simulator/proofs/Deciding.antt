@@ -5,8 +5,9 @@ use mathlib.Core.List.{List}
 use Prim.Native.Nat.{ℕ, _≤_, _<_}
 use native.Mathlib.Omega.{arith}
 use lib.ListN.{length}
-use borrow.Author.Tests.{le-leb, lt-leb, leb-false}
-use Rattle.base.specs.Choice.{cond-yes, cond-no, or-first, or-second, or-neither, or-parts, and-both, and-not-first, and-not-second, not-yes, not-no}
+use borrow.Author.Tests.{le-leb, lt-leb}
+use Rattle.base.specs.Tests.{fails}
+use Rattle.base.specs.Choice.{cond-yes, cond-no, or-first, or-second, or-neither, and-both, and-not-first, and-not-second, not-yes, not-no}
 use Rattle.types.specs.declared.Plan.{Plan}
 use Rattle.types.specs.declared.Message.{Message}
 use Rattle.types.specs.declared.Message.the-variants.{View, Vote, Vc, Qc}
@@ -15,12 +16,13 @@ use Rattle.types.specs.declared.Input.the-variants.{Vc as VcIn, Qc as QcIn}
 use Rattle.types.specs.Quantities.{initial}
 use Rattle.types.specs.Messages.{viewStage, voteStage, viewIn, processorIn, stageOf}
 use Rattle.model.specs.State.{State, stateOf, withHeld, withClocks, withViews, viewOf, isCorrect}
-use Rattle.model.specs.Moves.{Change, byView, byQuorum, forms, hearing, handling, made, heardTally, formedMessages}
+use Rattle.model.specs.Moves.{Change, byView, byQuorum, forms, hearing, handling, made, heardChange}
 use Rattle.model.specs.Checks.{planOutside, noProcessor, noView, namedOutside, notInitial, reachesEnd}
-use Rattle.pacemaker.specs.Steps.{movingBy}
+use Rattle.liveness.proofs.Judging.{named-within}
+use Rattle.model.specs.Processors.{movingBy}
 use Rattle.pacemaker.proofs.LimitLaws.{within as limits}
 use Rattle.simulator.specs.declared.Reaction.{Reaction}
-use Rattle.simulator.specs.Inner.{Posts, Reacts, signedChange, changeBy, sentFor, Fit, seat, namedCheck, Decides}
+use Rattle.simulator.specs.Inner.{Posts, Reacts, changeBy, sentFor, Fit, seat, namedCheck, Decides}
 use Rattle.simulator.proofs.Moving.{moved-taking, stays-below, taking-reaches}
 use Rattle.simulator.proofs.Ticking.{state-by}
 
@@ -63,9 +65,7 @@ module _ (plan : Plan) (m : Message) where
       go false false q = (refl, refl)
 
   pub named-low : namedCheck plan m ≡ 0 → (processorIn m < plan .n) × (viewIn m < plan .views)
-  named-low e =
-      let a = or-parts (noProcessor plan (processorIn m)) (noView plan (viewIn m)) (named-passed e .0) in
-      (leb-false _ _ (a .0), leb-false _ _ (a .1))
+  named-low e = named-within plan (processorIn m) (viewIn m) (fails outside (named-passed e .0))
 
 -- the same of a message that is known
 pub named-at : (plan : Plan) (m m' : Message) → m ≡ m' → namedCheck plan m ≡ 0 → (processorIn m' < plan .n) × (viewIn m' < plan .views)
@@ -105,16 +105,11 @@ change-sent r t (Qc w p) x = refl
 
 module _ (r : Run) (t : List ℕ) (fit : Fit r) (x : Reaction) where
   decides-heard : (stage : Bool) (w p : ℕ) → x .ends ≡ false → x .formed ≡ forms stage r t w p
-      → (x .ends ≡ reachesEnd r (hearing stage r t w p)) × (signedChange r t stage w p x ≡ hearing stage r t w p)
+      → (x .ends ≡ reachesEnd r (hearing stage r t w p)) × (heardChange stage r t w p (x .formed) ≡ hearing stage r t w p)
   unfolding hearing
   decides-heard stage w p e f = (
     e ∙ sym (stays-below r fit (hearing stage r t w p) refl),
-    ap (λ (b : Bool). record {
-      clocks = r .clocks;
-      views = r .views;
-      tally = heardTally t stage w p b;
-      sent = formedMessages (r .plan) (r .faulty) stage w b;
-    }) f,
+    ap (heardChange stage r t w p) f,
   )
 
   pub decides-view : (w p : ℕ) → x .ends ≡ false → x .formed ≡ forms viewStage r t w p → Decides r t (View w p) x

@@ -1,11 +1,9 @@
 -- The message that is delivered: where it stands, whom it reaches, and what is left without it. Assumes nothing.
 use mathlib.Core.Path.{_≡_, ap, _∙_}
 use mathlib.Core.Bool.{true, false}
-use mathlib.Core.List.{List, _++_}
-use Prim.Native.Nat.{ℕ, _+_, _-_, _*_, _/_, _≤_, _<_}
+use mathlib.Core.List.{List}
+use Prim.Native.Nat.{ℕ, _-_, _/_, _≤_, _<_}
 use native.Mathlib.Omega.{arith}
-use lib.ListN.{length, take, drop, replicate, length-append, length-drop}
-use lib.Seq.{slice, length-take-le, length-slice}
 use borrow.Author.Tests.{eq-eqb, ne-eqb}
 use Rattle.base.specs.Tests.{fails, T-true}
 use Rattle.base.specs.ScanLaws.{first-le}
@@ -16,6 +14,7 @@ use Rattle.types.specs.Quantities.{messageWords}
 use Rattle.model.specs.State.{State, stateOf, withHeld, isCorrect, capacity, removed}
 use Rattle.model.specs.Checks.{unsound, isAt, placeOf, notHeld}
 use Rattle.model.specs.Events.{without}
+use Rattle.liveness.proofs.Flight.{length-removed}
 use Rattle.liveness.proofs.Marks.{addressed}
 use Rattle.buffers.specs.Network.{found, taken, found-fits, taken-fits}
 use Rattle.simulator.specs.Inner.{Fit, ReachesCorrect}
@@ -23,22 +22,6 @@ use Rattle.simulator.specs.Inner.{Fit, ReachesCorrect}
 -- the run with one message less is as fit
 pub fit-held : (r : Run) (h : ℕ) → Fit r → Fit (withHeld h r)
 fit-held r h f = record { plan = f .plan; faulty = f .faulty; clocks = f .clocks }
-
-length-removed : (ws : List ℕ) (h i : ℕ) → i < h → messageWords * h ≤ length ws → length (removed ws h i) ≡ length ws
-unfolding removed
-length-removed ws h i l k =
-    let a : List ℕ = take (messageWords * i) ws in
-    let b : List ℕ = slice (messageWords * (i + 1)) (messageWords * h) ws in
-    let z : List ℕ = replicate messageWords 0 in
-    let d : List ℕ = drop (messageWords * h) ws in
-    length-append (a ++ b ++ z) d ∙ omega (
-      arith,
-      length-append (a ++ b) z,
-      length-append a b,
-      length-take-le (messageWords * i) ws (omega arith),
-      length-slice (messageWords * (i + 1)) (messageWords * h) ws k,
-      length-drop (messageWords * h) ws,
-    )
 
 module _ (s : State) (m : Message) (room : s .run .held ≤ capacity (s .network)) (i : ℕ) (is-found : i ≡ found (s .network) (s .run .held) m) where
   pub place-is : i ≡ placeOf s m

@@ -13,6 +13,7 @@ use lib.Seq.{ext-getD, set-getD, getD-set-same, getD-set-other}
 use borrow.Author.Tests.{lt-leb}
 use Rattle.base.specs.Choice.{or-parts}
 use Rattle.base.specs.Scan.{some}
+use Rattle.liveness.proofs.Link.{correct-below}
 use Rattle.base.specs.Tests.{T-left, T-right, T-true, le?, by-cond}
 use Rattle.base.specs.ScanLaws.{some-none}
 use Rattle.types.specs.declared.Plan.{Plan}
@@ -25,14 +26,13 @@ use Rattle.model.specs.State.{State, stateOf, runOf, clockOf, viewOf, isCorrect
 use Rattle.model.specs.Moves.{Change, changed, still, also, Entry, stay, byClock, entries, taking, clocksOn, advanced, arrival, arrivals, made}
 use Rattle.types.specs.PlanFunctions.{nextInitialWord, clockTimeWord}
 use Rattle.model.specs.Checks.{planOutside, clockOutside, atEnd, overdue, unsound}
-use Rattle.model.specs.Processors.{Moved, moving, processorUnsound}
+use Rattle.model.specs.Processors.{Moved, moving, processorUnsound, movingBy}
 use Rattle.model.specs.Events.{tickOnce, Ticks, continued, ticks}
 use Rattle.liveness.specs.Promises.{countedFrom}
 use Rattle.liveness.proofs.Promises.{ticks-add}
 use Rattle.liveness.proofs.TickLaws.{clock-up}
 use Rattle.buffers.specs.WordLaws.{posted-none}
 use Rattle.pacemaker.specs.Limits.{Within, timeMost}
-use Rattle.pacemaker.specs.Steps.{movingBy}
 use Rattle.pacemaker.proofs.LimitLaws.{within, sound}
 use Rattle.pacemaker.proofs.TickLaws.{no-arrival}
 use Rattle.simulator.specs.Inner.{Reacts, Fit, Whole, Went, TickedTo, arrivedBelow, endsAt, ranTo}
@@ -263,6 +263,11 @@ later-more s d whole =
 pub waits-now : (s : State) (most wait : ℕ) → Waits s most wait → 0 < wait → overdue s ≡ false
 waits-now s most wait w l = ap overdue (sym (later-none s)) ∙ w .quiet 0 l
 
+-- every correct clock has gone on by as much
+clock-later : (s : State) → Whole (s .run) → (d p : ℕ) → isCorrect (s .run) p ≡ true → clockOf (later s d .run) p ≡ clockOf (s .run) p + d
+clock-later s whole d p c =
+    by-goes (s .run .plan) (s .run .faulty) (s .run .clocks) d (s .run .plan .n) p (whole .clocks) (correct-below (s .run .plan) (s .run .faulty) p (rw c tt)) c
+
 module _ (s : State) (whole : Whole (s .run)) (fit : Fit (s .run)) (room : s .run .held ≤ capacity (s .network)) where
   leap-strides : (d : ℕ) → ((j : ℕ) → j < d → overdue (later s j) ≡ false) → NoneArrives (s .run) d → Strides s (later s d) d
   leap-strides zero waits rests = subst (λ (y : State). Strides s y 0) (sym (later-none s)) (strides-none s fit whole room)
@@ -271,7 +276,7 @@ module _ (s : State) (whole : Whole (s .run)) (fit : Fit (s .run)) (room : s .ru
       go : Strides s (later s d) d → Strides s (later s (suc d)) (suc d)
       go x =
           let one : Strides (later s d) (advanced (later s d)) 1 = strides-once (later s d) (advanced (later s d)) (quiet-tick (later s d)
-          (x .whole) (x .fit) (x .room) (λ p c. omega (arith, rests p c, x .clock p c .1)) (waits d (omega arith))) in
+          (x .whole) (x .fit) (x .room) (λ p c. omega (arith, rests p c, clock-later s whole d p c)) (waits d (omega arith))) in
           let all : Strides s (advanced (later s d)) (d + 1) = strides-also s (later s d) (advanced (later s d)) d 1 x one in
           subst (λ (k : ℕ). Strides s (later s (suc d)) k) (add-one d) (subst (λ (y : State). Strides s y (d + 1)) (later-more s d whole) all)
 

@@ -12,9 +12,9 @@ use Rattle.types.specs.declared.Stepped.the-variants.{Sent, Refused}
 use Rattle.types.specs.Quantities.{correct}
 use Rattle.model.specs.Moves.{Entry, stay, into}
 use Rattle.model.specs.Checks.{atEnd}
-use Rattle.model.specs.Processors.{Moved, Gives, messagesOf, clockAt, entryBy, moving, processorUnsound, stepped}
+use Rattle.model.specs.Processors.{Moved, Gives, messagesOf, clockAt, entryBy, moving, processorUnsound, stepped, movingBy}
 use Rattle.liveness.proofs.Answers.{no-yes}
-use Rattle.pacemaker.specs.Steps.{movingBy, Named}
+use Rattle.pacemaker.specs.Steps.{Named}
 use Rattle.pacemaker.proofs.AnswerLaws.{steps, sent-before-end, refused-at-end, sent-messages, tick-clock}
 use Rattle.simulator.specs.declared.Reaction.{Reaction}
 use Rattle.simulator.specs.Inner.{Reacts, Arrives}

@@ -17,7 +17,8 @@ use Rattle.base.specs.ScanLaws.{some-not}
 use Rattle.pacemaker.proofs.LimitLaws.{within}
 use Rattle.types.specs.declared.Plan.{Plan}
 use Rattle.types.specs.declared.Run.{Run}
-use Rattle.types.specs.Quantities.{messageWords, perLeader, initial, nextInitial, clockTime, endTime}
+use Rattle.types.specs.Quantities.{messageWords, initial, nextInitial, clockTime, endTime}
+use Rattle.types.proofs.PlanLaws.{per-leader-positive, next-above, next-initial}
 use Rattle.model.specs.State.{State, clockOf, viewOf, isCorrect, capacity}
 use Rattle.buffers.specs.WordLaws.{posted-length}
 use Rattle.model.specs.Moves.{changed, Entry, stay, into, entering, taking, entries, byClock, advanced, arrival, arrivals, made}
@@ -71,14 +72,6 @@ inside : (plan : Plan) (clock view : ℕ) → clock < endTime plan → clockTime
 inside plan clock view a b c = or-neither (atEnd plan clock || ltb clock (clockTime plan view)) _
     (or-neither (atEnd plan clock) _ (lt-leb _ _ a) (le-ltb _ _ b)) (lt-leb _ _ c)
 
-next-initial : (plan : Plan) (w : ℕ) → initial plan (nextInitial plan w) ≡ true
-unfolding perLeader
-next-initial plan w = let z : (w / 3 * 3 + 3) % 3 ≡ 0 = omega arith in eq-eqb _ _ z
-
-next-above : (plan : Plan) (w : ℕ) → w + 1 ≤ nextInitial plan w
-unfolding perLeader
-next-above plan w = omega arith
-
 module _ (plan : Plan) (positive : 0 < plan .gamma) (clock view : ℕ) (was : clockOutside plan clock view ≡ false) (on : atEnd plan (clock + 1) ≡ false) where
   bounds : (clockTime plan view ≤ clock) × (clock < clockTime plan (nextInitial plan view))
   bounds =
@@ -97,7 +90,7 @@ module _ (plan : Plan) (positive : 0 < plan .gamma) (clock view : ℕ) (was : cl
       let w : ℕ = (clock + 1) / plan .gamma in
       let m : (clock + 1) % plan .gamma ≡ 0 = eqb→eq _ _ (T-left (eqb ((clock + 1) % plan .gamma) 0) (initial plan w) t) in
       let g : w * plan .gamma ≡ clock + 1 = omega (arith, div-add-mod' (clock + 1) (plan .gamma)) in
-      let n : (w + 1) * plan .gamma ≤ nextInitial plan w * plan .gamma = mul-le-mul-right (plan .gamma) (next-above plan w) in
+      let n : (w + 1) * plan .gamma ≤ nextInitial plan w * plan .gamma = mul-le-mul-right (plan .gamma) (next-above plan w (per-leader-positive plan)) in
       inside plan (clock + 1) w before-end (omega arith) (omega arith)
 
   -- it has not, and is still below the next
@@ -175,5 +168,5 @@ module _ (s : State) (long-clocks : s .run .plan .n ≤ length (s .run .clocks))
     };
     room = omega (arith, room, ap (λ (n : ℕ). n / messageWords) (posted-length (s .network) (s .run .held) (s .run .time + 1) (arrivedBelow s (s .run .plan .n) .sent) room));
     time = refl;
-    clock = λ p c. (c, clock-ticked p c);
+    clock = λ p c. (c, omega (arith, clock-ticked p c));
   }

@@ -1,9 +1,9 @@
 -- How many ticks are quiet: what messages and clocks let pass. Assumes nothing.
 use mathlib.Core.Path.{_≡_, refl, sym, ap, _∙_}
-use mathlib.Core.Bool.{Bool, true, false, _&&_, _||_}
+use mathlib.Core.Bool.{Bool, true, false, _||_}
 use mathlib.Core.Logic.{_⊎_, ⊎-elim}
 use mathlib.Core.List.{List}
-use Prim.Native.Nat.{ℕ, zero, suc, _+_, _-_, _≤_, _<_, max}
+use Prim.Native.Nat.{ℕ, suc, _+_, _-_, _≤_, _<_, max}
 use native.Mathlib.Omega.{arith}
 use lib.Dec.{leb, ltb}
 use borrow.Author.Tests.{le-leb, lt-leb, leb-false, ltb-false}
@@ -12,18 +12,17 @@ use Rattle.base.specs.Choice.{or-parts}
 use Rattle.base.specs.Scan.{some}
 use Rattle.base.specs.ScanLaws.{some-start, some-on, some-here, some-by, some-gives}
 use Rattle.types.specs.declared.Plan.{Plan}
-use Rattle.types.specs.declared.Processor.{Processor}
 use Rattle.types.specs.declared.Run.{Run}
-use Rattle.types.specs.Quantities.{nextInitial, clockTime, endTime, correct}
+use Rattle.types.specs.Quantities.{nextInitial, clockTime, endTime}
 use Rattle.model.specs.State.{State, clockOf, viewOf, isCorrect, sentAt}
-use Rattle.model.specs.Checks.{late, overdue, clockOutside, atEnd}
+use Rattle.model.specs.Checks.{late, overdue, clockOutside, atEnd, lateAt}
 use Rattle.liveness.proofs.Answers.{no-yes}
 use Rattle.liveness.proofs.Link.{correct-below}
 use Rattle.types.specs.PlanFunctions.{nextInitialWord, clockTimeWord}
 use Rattle.pacemaker.specs.Limits.{Within}
 use Rattle.pacemaker.proofs.LimitLaws.{within, next-within, next-word, next-before-end, time-word, past-views}
-use Rattle.simulator.specs.Inner.{Fit, lateAt, seat}
-use Rattle.simulator.specs.Leaps.{later, WaitsFor, WaitsForAll, Waits, RestsFor, Rests}
+use Rattle.simulator.specs.Inner.{Fit, seat}
+use Rattle.simulator.specs.Leaps.{WaitsFor, WaitsForAll, Waits, RestsFor, Rests}
 
 -- one that passed is enough later too
 some-still : (f : ℕ → Bool) (k : ℕ) → some f k ≡ true → some f (k + 1) ≡ true

@@ -2,8 +2,8 @@
 use mathlib.Core.Path.{_≡_}
 use mathlib.Core.Bool.{Bool, true, false, _&&_, cond}
 use mathlib.Core.List.{List, [], _∷_}
-use Prim.Native.Nat.{ℕ, _+_, _^_, _≤_, _<_}
-use lib.ListN.{length, set}
+use Prim.Native.Nat.{ℕ, _+_, _*_, _^_, _≤_, _<_}
+use lib.ListN.{length}
 use Rattle.types.specs.declared.Plan.{Plan}
 use Rattle.types.specs.declared.Message.{Message}
 use Rattle.types.specs.declared.Message.the-variants.{View, Vote, Vc, Qc}
@@ -12,15 +12,14 @@ use Rattle.types.specs.declared.Processor.{Processor}
 use Rattle.types.specs.declared.Input.the-variants.{Tick}
 use Rattle.types.specs.declared.Sends.{Sends}
 use Rattle.types.specs.declared.Sends.the-variants.{Nothing, Vote as VoteFor, ViewAndVote}
-use Rattle.types.specs.Quantities.{correct}
+use Rattle.types.specs.Quantities.{nMost, correct}
 use Rattle.base.specs.Scan.{some}
 use Rattle.types.specs.Messages.{viewStage, voteStage, viewIn, processorIn, stageOf}
-use Rattle.model.specs.State.{State, After, stateOf, clockOf, viewOf, isCorrect, enteredWord, added, sentAt, posted, capacity, checkOf, refused, done}
-use Rattle.model.specs.Moves.{Change, toCorrect, heardTally, formedMessages, stay, entries, handling, advanced, arrival, arrivals, made}
-use Rattle.model.specs.Checks.{judged, planOutside, faultyOutside, clockOutside, atEnd, late, namedOutside, notInitial, reachesEnd, overfull}
+use Rattle.model.specs.State.{State, After, stateOf, clockOf, viewOf, isCorrect, enteredWord, added, posted, capacity, checkOf, refused, done}
+use Rattle.model.specs.Moves.{Change, toCorrect, movedTo, formedMessages, heardChange, stay, entries, handling, advanced, arrival, arrivals, made}
+use Rattle.model.specs.Checks.{judged, planOutside, faultyOutside, clockOutside, atEnd, namedOutside, notInitial, reachesEnd, overfull}
 use Rattle.model.specs.Events.{tickOnce, Ticks}
-use Rattle.model.specs.Processors.{Moved, messagesOf, moving}
-use Rattle.pacemaker.specs.Steps.{movingBy}
+use Rattle.model.specs.Processors.{Moved, messagesOf, moving, movingBy}
 use Rattle.simulator.specs.declared.Reaction.{Reaction}
 use Rattle.simulator.specs.declared.Due.{Due}
 
@@ -58,26 +57,14 @@ pub record Arrives (plan : Plan) (faulty : ℕ) (c : Processor) (x : Reaction) :
   pub processor : x .ends ≡ false → x .processor ≡ arrivalMove plan faulty c .processor
   pub sent : x .ends ≡ false → messagesOf (c .number) (x .sends) ≡ arrivalMove plan faulty c .sent
 
--- what it changes, the message being m
-abbrev pub signedChange : Run → List ℕ → Bool → ℕ → ℕ → Reaction → Change
-signedChange r t stage w p x = record {
-  clocks = r .clocks;
-  views = r .views;
-  tally = heardTally t stage w p (x .formed);
-  sent = formedMessages (r .plan) (r .faulty) stage w (x .formed);
-}
-
+-- the change of a processor that moves
 abbrev pub movedChange : Run → List ℕ → ℕ → Reaction → Change
-movedChange r t p x = record {
-  clocks = set (r .clocks) p (x .processor .clock);
-  views = set (r .views) p (x .processor .view);
-  tally = enteredBy t p (x .sends);
-  sent = sentBy (r .plan) (r .faulty) p (x .sends);
-}
+movedChange r t p x = movedTo r (enteredBy t p (x .sends)) p (x .processor .clock) (x .processor .view) (messagesOf p (x .sends))
 
+-- what it changes, the message being m
 abbrev pub changeBy : Run → List ℕ → Message → Reaction → Change
-changeBy r t (View w p) x = signedChange r t viewStage w p x
-changeBy r t (Vote w p) x = signedChange r t voteStage w p x
+changeBy r t (View w p) x = heardChange viewStage r t w p (x .formed)
+changeBy r t (Vote w p) x = heardChange voteStage r t w p (x .formed)
 changeBy r t (Vc w p) x = movedChange r t p x
 changeBy r t (Qc w p) x = movedChange r t p x
 
@@ -95,10 +82,6 @@ pub record Whole (r : Run) : Type 0 where
 
 -- ---- a single tick
 
--- the held message i is late at a time of a settled network: `overdueAt` of it
-abbrev pub lateAt : ℕ → ℕ → ℕ → List ℕ → ℕ → Bool
-lateAt gst delta time ws i = late gst delta time (sentAt ws i)
-
 -- the processor as it stands in the run
 abbrev pub seat : Run → ℕ → Processor
 seat r k = record { number = k; clock = clockOf r k; view = viewOf r k }
@@ -111,11 +94,15 @@ arrivedBelow s k = entries (arrival (advanced s .run)) (advanced s .run) (s .tal
 abbrev pub endsAt : Run → ℕ → Bool
 endsAt r q = isCorrect r q && atEnd (r .plan) (clockOf r q + 1)
 
+-- a tick sends at most two messages for each processor
+abbrev pub sentMost : ℕ
+sentMost = 2 * nMost
+
 -- what a tick would do: a clock that ends, and how many messages it would send
 pub record Foretells (r : Run) (x : Due) : Type 0 where
   pub ends : x .ends ≡ some (endsAt r) (r .plan .n)
   pub sent : x .ends ≡ false → (t ws : List ℕ) → x .sent ≡ length (arrivedBelow (stateOf r t ws) (r .plan .n) .sent)
-  pub few : x .sent ≤ 128
+  pub few : x .sent ≤ sentMost
 
 -- what a tick needs that no check refuses: clocks that go on, room for what is sent, and a time that fits
 pub record CanTick (r : Run) (t ws : List ℕ) : Type 0 where
@@ -129,13 +116,13 @@ pub record CanTick (r : Run) (t ws : List ℕ) : Type 0 where
 abbrev pub TickMade : State → State → Type 0
 TickMade s s' = s' ≡ made (advanced s) (arrivals (advanced s))
 
--- what a tick that was done has left
+-- what a tick that was done has left; a clock that enters may gain more than the tick
 pub record Went (s s' : State) : Type 0 where
   pub fit : Fit (s' .run)
   pub whole : Whole (s' .run)
   pub room : s' .run .held ≤ capacity (s' .network)
   pub time : s' .run .time ≡ s .run .time + 1
-  pub clock : (p : ℕ) → isCorrect (s .run) p ≡ true → (isCorrect (s' .run) p ≡ true) × (clockOf (s' .run) p ≡ clockOf (s .run) p + 1)
+  pub clock : (p : ℕ) → isCorrect (s .run) p ≡ true → (isCorrect (s' .run) p ≡ true) × (clockOf (s .run) p + 1 ≤ clockOf (s' .run) p)
 
 -- that a function did the tick of s, or met the check that refuses it
 pub record TickedTo (s s' : State) (check : ℕ) : Type 0 where

@@ -1,6 +1,6 @@
 -- The run of ticks leaps over quiet ones: what it asks of messages and clocks, what a leap leaves, and what several ticks lead to.
 use mathlib.Core.Path.{_≡_}
-use mathlib.Core.Bool.{Bool, true, false, _&&_, cond}
+use mathlib.Core.Bool.{true, false, cond}
 use mathlib.Core.List.{List}
 use Prim.Native.Nat.{ℕ, zero, suc, _+_, _*_, _^_, _≤_, _<_}
 use lib.ListN.{getD, set}
@@ -10,10 +10,10 @@ use Rattle.types.specs.declared.Processor.{Processor}
 use Rattle.types.specs.declared.Run.{Run}
 use Rattle.types.specs.Quantities.{nextInitial, clockTime, correct}
 use Rattle.model.specs.State.{State, stateOf, withTime, withClocks, clockOf, viewOf, isCorrect, capacity}
-use Rattle.model.specs.Checks.{late, overdue, unsound}
+use Rattle.model.specs.Checks.{late, lateAt, overdue, unsound}
 use Rattle.model.specs.Events.{ticks}
 use Rattle.pacemaker.specs.Limits.{timeMost}
-use Rattle.simulator.specs.Inner.{Fit, Whole, lateAt, TickedTo, ranTo}
+use Rattle.simulator.specs.Inner.{Fit, Whole, TickedTo, ranTo}
 
 -- ---- quiet ticks
 
@@ -85,7 +85,7 @@ pub record Strides (s s' : State) (k : ℕ) : Type 0 where
   pub whole : Whole (s' .run)
   pub room : s' .run .held ≤ capacity (s' .network)
   pub time : s' .run .time ≡ s .run .time + k
-  pub clock : (p : ℕ) → isCorrect (s .run) p ≡ true → (isCorrect (s' .run) p ≡ true) × (clockOf (s' .run) p ≡ clockOf (s .run) p + k)
+  pub clock : (p : ℕ) → isCorrect (s .run) p ≡ true → (isCorrect (s' .run) p ≡ true) × (clockOf (s .run) p + k ≤ clockOf (s' .run) p)
 
 -- what is asked before ticks: a fit run, whose messages fit, and a time that leaves room
 pub record Ready (s : State) : Type 0 where

@@ -20,10 +20,10 @@ ghost use lib.ListN.{length, getD};
 ghost use Rattle.types.specs.Quantities.{lead, initial};
 ghost use Rattle.types.specs.Messages.{processorIn, lacksForm};
 ghost use Rattle.model.specs.State.{stateOf, runFrom, leftBehind, capacity};
-ghost use Rattle.model.specs.Moves.{ripe, handling, made, formedMessages};
+ghost use Rattle.model.specs.Moves.{ripe, handling, made, formedMessages, heardChange};
 ghost use Rattle.model.specs.Checks.{planOutside, faultyOutside, unsound, exists};
 ghost use Rattle.model.specs.Events.{applied};
-ghost use Rattle.simulator.specs.Inner.{Fit, Decides, ReachesCorrect, seat, namedCheck, sentBy, signedChange, movedChange, changeBy, sentFor, finished};
+ghost use Rattle.simulator.specs.Inner.{Fit, Decides, ReachesCorrect, seat, namedCheck, sentBy, movedChange, changeBy, sentFor, finished};
 
 // A refusal: the check's number alone.
 pub(crate) fn refuse(head: Head, check: u64) -> AppliedHead
@@ -158,7 +158,7 @@ fn listen(
 ) -> Head
     requires { ⌜ (0 < head .plan .n) × (p < 64) × (head .held + length (formedMessages (head .plan) (head .faulty) stage w (x .formed)) ≤ capacity (now network)) ⌝ }
     ensures { λ r. ⌜ ((c v : List ℕ) → stateOf (runFrom r c v) (now (tally .exit)) (now (network .exit))
-        ≡ made (stateOf (runFrom head c v) (now (tally .entry)) (now (network .entry))) (signedChange (runFrom head c v) (now (tally .entry)) stage w p x)) ⌝ }
+        ≡ made (stateOf (runFrom head c v) (now (tally .entry)) (now (network .entry))) (heardChange stage (runFrom head c v) (now (tally .entry)) w p (x .formed))) ⌝ }
 {
     let held = moves::hear(
         tally,

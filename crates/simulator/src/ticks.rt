@@ -19,8 +19,8 @@ ghost use Rattle.types.specs.Quantities.{correct};
 ghost use Rattle.model.specs.State.{stateOf, runFrom, leftBehind, capacity};
 ghost use Rattle.model.specs.Checks.{overdue, unsound};
 ghost use Rattle.model.specs.Events.{ticksAnswer, tickRun};
-ghost use Rattle.model.specs.Processors.{processorUnsound};
-ghost use Rattle.pacemaker.specs.Steps.{movingBy, Named};
+ghost use Rattle.model.specs.Processors.{processorUnsound, movingBy};
+ghost use Rattle.pacemaker.specs.Steps.{Named};
 ghost use Rattle.simulator.specs.Inner.{Reacts, Arrives, Fit, Whole, Foretells, CanTick, TickMade, TickedTo, ranTo};
 ghost use Rattle.simulator.specs.Leaps.{Ready, Advances};
 

@@ -62,11 +62,15 @@ perLeader p = 3
 abbrev pub lead : Plan → ℕ → ℕ
 lead p w = w / perLeader p % p .n
 
+-- a multiple of the views per leader, which a leader's first view is
+abbrev pub turnStart : Plan → ℕ → Bool
+turnStart p w = eqb (w % perLeader p) 0
+
 -- "A view divisible by 3 is initial."
 abbrev pub initial : Plan → ℕ → Bool
-initial p w = eqb (w % perLeader p) 0
+initial p w = turnStart p w
 
--- the first initial view above w
+-- the first such multiple above w: the next initial view
 abbrev pub nextInitial : Plan → ℕ → ℕ
 nextInitial p w = w / perLeader p * perLeader p + perLeader p
 

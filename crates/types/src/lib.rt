@@ -1,6 +1,6 @@
 // The types of the product, declared once, and their own functions.
 ghost use mathlib.Core.Path.{_≡_};
-ghost use Rattle.types.specs.Quantities.{tolerated, perLeader, initial, correct};
+ghost use Rattle.types.specs.Quantities.{tolerated, perLeader, turnStart, initial, correct};
 ghost use Rattle.types.specs.Messages.{kindOf, viewIn, processorIn, stageOf, isSignature, lacksForm};
 ghost use Rattle.types.specs.Runs.{runFrom, headOf};
 ghost use Rattle.types.specs.PlanFunctions.{leadWord, nextInitialWord, clockTimeWord, addresseeWord};
@@ -46,11 +46,18 @@ impl Plan {
         w / Plan::VIEWS_PER_LEADER % self.n
     }
 
+    // Whether w is a multiple of the views per leader.
+    pub fn turn_start(self, w: u64) -> bool
+        ensures { λ r. ⌜ r ≡ turnStart self w ⌝ }
+    {
+        w % Plan::VIEWS_PER_LEADER == 0
+    }
+
     // Whether view w is initial.
     pub fn initial(self, w: u64) -> bool
         ensures { λ r. ⌜ r ≡ initial self w ⌝ }
     {
-        w % Plan::VIEWS_PER_LEADER == 0
+        self.turn_start(w)
     }
 
     // The clock time of view w. The division is left to numbers that no sound plan has.

@@ -1,4 +1,4 @@
-use Rattle.pacemaker.proofs.LimitLaws.{time-word}
+use Rattle.pacemaker.proofs.LimitLaws.{time-word, turn-within}
 use Rattle.types.specs.Quantities.{perLeader}
 use Rattle.base.specs.Choice.{and-rest, and-not-first}
 use lib.Dec.{leb}
@@ -18,8 +18,7 @@ start-limit-requires : tie.Need-start-limit-requires
 start-limit-requires c κs = tt
 
 returns : tie.Need-returns
-unfolding perLeader
-returns c = and-rest _ _ _ (sym (c .before .before .correct .ensures) ∙ c .before .if1 .taken) (ap (λ (x : ℕ). leb x (c .before .before .before .args .clock)) (c .start-limit .ensures ∙ time-word (c .before .before .before .args .plan) (c .before .before .before .pre) 3 (c .before .before .before .pre .views-least)))
+returns c = and-rest _ _ _ (sym (c .before .before .correct .ensures) ∙ c .before .if1 .taken) (ap (λ (x : ℕ). leb x (c .before .before .before .args .clock)) (c .start-limit .ensures ∙ time-word (c .before .before .before .args .plan) (c .before .before .before .pre) (perLeader (c .before .before .before .args .plan)) (turn-within (c .before .before .before .args .plan) (c .before .before .before .pre))))
 
 returns-2 : tie.Need-returns-2
 returns-2 c = sym (and-not-first _ _ (sym (c .before .correct .ensures) ∙ c .if1 .left))

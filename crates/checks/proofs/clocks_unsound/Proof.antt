@@ -5,7 +5,7 @@ use native.Mathlib.Omega.{arith}
 use Rattle.base.specs.Scan.{some}
 use Rattle.base.specs.ScanLaws.{some-start, some-on, some-here, some-below}
 use Rattle.pacemaker.proofs.LimitLaws.{within}
-use Rattle.checks.specs.Scans.{outsideAt}
+use Rattle.model.specs.Checks.{outsideAt}
 use Rattle.checks.proofs.clocks_unsound.Statement.{statement}
 use Rattle.checks.proofs.clocks_unsound.Tie as tie
 use Rattle.checks.proofs.clocks_unsound.Reads as reads

@@ -7,7 +7,7 @@ use Rattle.model.specs.State.{runOf}
 use borrow.Author.Needs.{needs, zero≤}
 use native.Mathlib.Omega.{arith}
 use mathlib.Core.List.{List}
-use mathlib.Core.Path.{_≡_, refl, sym, _∙_, ap}
+use mathlib.Core.Path.{_≡_, refl, _∙_, ap}
 use Prim.Native.Nat.{ℕ, _+_, _-_, _≤_}
 use Rattle.simulator.proofs.leaps.leap.Statement.{statement}
 use Rattle.simulator.proofs.leaps.leap.Tie as tie

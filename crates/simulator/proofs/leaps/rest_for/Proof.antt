@@ -1,9 +1,7 @@
 use Rattle.simulator.proofs.Waiting.{next-time, before-next}
 use Rattle.liveness.proofs.Answers.{no-yes}
-use Rattle.types.specs.Quantities.{nextInitial, clockTime}
 use native.Mathlib.Omega.{arith}
-use Prim.Native.Nat.{_<_, _≤_}
-use mathlib.Core.Path.{_≡_, sym, _∙_}
+use mathlib.Core.Path.{sym, _∙_}
 use borrow.Author.Needs.{needs}
 use Rattle.simulator.proofs.leaps.rest_for.Statement.{statement}
 use Rattle.simulator.proofs.leaps.rest_for.Tie as tie

@@ -2,7 +2,7 @@ use Rattle.simulator.proofs.Waiting.{waits-start, waits-more}
 use Rattle.simulator.specs.Leaps.{WaitsForAll}
 use borrow.Author.Needs.{needs, zero≤}
 use native.Mathlib.Omega.{arith}
-use mathlib.Core.Path.{_≡_, sym, subst}
+use mathlib.Core.Path.{_≡_}
 use Prim.Native.Nat.{_-_, _≤_}
 use Rattle.simulator.proofs.leaps.wait_for_all.Statement.{statement}
 use Rattle.simulator.proofs.leaps.wait_for_all.Tie as tie

@@ -1,10 +1,10 @@
 use Rattle.simulator.proofs.Leaping.{waits-now, advance-late, advance-once, advance-leap, leap-fits}
-use Rattle.simulator.specs.Leaps.{Waits, Advances}
+use Rattle.simulator.specs.Leaps.{Waits}
 use Rattle.model.specs.State.{State, stateOf, runFrom}
 use Rattle.types.specs.declared.Run.{Run}
 use native.Mathlib.Omega.{arith}
 use Prim.Native.Nat.{ℕ}
-use mathlib.Core.Path.{_≡_, refl, sym, ap, _∙_, subst}
+use mathlib.Core.Path.{ap, subst}
 use borrow.Author.Needs.{needs}
 use Rattle.simulator.proofs.ticks.advance.Statement.{statement}
 use Rattle.simulator.proofs.ticks.advance.Tie as tie

@@ -1,4 +1,4 @@
-use mathlib.Core.Path.{_≡_, refl, sym, ap, _∙_, subst}
+use mathlib.Core.Path.{_≡_, refl, ap, _∙_, subst}
 use mathlib.Core.Bool.{false}
 use Prim.Native.Nat.{ℕ, _+_, _-_, _≤_}
 use native.Mathlib.Omega.{arith}
@@ -9,7 +9,6 @@ use Rattle.model.specs.Processors.{processorUnsound}
 use Rattle.model.specs.State.{State, stateOf, runFrom, withClocks, withViews}
 use Rattle.model.specs.Moves.{entries, clocksOn}
 use Rattle.types.specs.declared.Processor.{Processor}
-use Rattle.types.specs.declared.Run.{Run}
 use Rattle.pacemaker.proofs.LimitLaws.{within}
 use Rattle.simulator.specs.Inner.{Posts, Arrives, arrivedBelow, endsAt, seat}
 use Rattle.simulator.proofs.Fitness.{seat-sound}

@@ -5,6 +5,7 @@ use Prim.Native.Nat.{ℕ, _/_, _≤_, _<_}
 use native.Mathlib.Omega.{arith}
 use native.Mathlib.Nat.{mod-lt}
 use lib.Dec.{T, ltb}
+use lib.ListN.{length}
 use Rattle.liveness.proofs.Opens.{planned-within}
 use Rattle.base.specs.Tests.{fails, T-true, T-false}
 use Rattle.types.specs.declared.Plan.{Plan}
@@ -19,8 +20,8 @@ use Rattle.liveness.proofs.Soundness.{SoundRun, sound-of}
 use Rattle.base.specs.Choice.{or-neither}
 use Rattle.model.specs.Processors.{processorUnsound}
 use Rattle.pacemaker.specs.Limits.{Within, timeMost}
-use Rattle.pacemaker.proofs.LimitLaws.{time-small}
-use Rattle.simulator.specs.Inner.{Fit, seat}
+use Rattle.pacemaker.proofs.LimitLaws.{within, time-small}
+use Rattle.simulator.specs.Inner.{Fit, Whole, seat}
 
 -- no clock time that a run can reach is large
 pub end-most : (plan : Plan) → Within plan → endTime plan ≤ timeMost
@@ -76,3 +77,7 @@ some-correct r fit =
 -- where there are processors the leader is one of them
 pub lead-low : (plan : Plan) (w : ℕ) → 0 < plan .n → lead plan w < plan .n
 lead-low plan w l = mod-lt (w / perLeader plan) l
+
+-- tables of 64 entries have one for each processor
+pub whole-of : (r : Run) → Fit r → length (r .clocks) ≡ 64 → length (r .views) ≡ 64 → Whole r
+whole-of r fit c v = let most = within (r .plan) (fit .plan) .n-most in record { clocks = omega (arith, most, c); views = omega (arith, most, v) }

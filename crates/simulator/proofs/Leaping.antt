@@ -131,15 +131,14 @@ by-none plan faulty clocks (suc k) = by-cond (λ (l : List ℕ). l ≡ clocks) (
 
 -- ---- several ticks
 
-pub strides-none : (s : State) → Fit (s .run) → Whole (s .run) → s .run .held ≤ capacity (s .network) → Strides s s 0
+pub strides-none : (s : State) → Fit (s .run) → s .run .held ≤ capacity (s .network) → Strides s s 0
 unfolding ticks
-strides-none s fit whole room = record { ran = refl; fit = fit; whole = whole; room = room; time = omega arith; clock = λ p c. (c, omega arith) }
+strides-none s fit room = record { ran = refl; fit = fit; room = room; time = omega arith; clock = λ p c. (c, omega arith) }
 
 pub strides-also : (s s' s'' : State) (a b : ℕ) → Strides s s' a → Strides s' s'' b → Strides s s'' (a + b)
 strides-also s s' s'' a b x y = record {
   ran = ticks-add a b s .0 (ap (λ (t : Ticks). t .check) (x .ran)) ∙ ap (λ (t : Ticks). countedFrom a (ticks b (t .state))) (x .ran) ∙ ap (countedFrom a) (y .ran);
   fit = y .fit;
-  whole = y .whole;
   room = y .room;
   time = omega (arith, x .time, y .time);
   clock = λ p c. let u = x .clock p c in let v = y .clock p (u .0) in (v .0, omega (arith, u .1, v .1));
@@ -152,7 +151,6 @@ strides-once s s' t =
     record {
       ran = ap (λ (c : ℕ). continued s c (ticks 0 (tickOnce s .state))) (sym (t .number)) ∙ ap (λ (y : State). ranTo y 1 0) (sym (t .state));
       fit = w .fit;
-      whole = w .whole;
       room = w .room;
       time = w .time;
       clock = w .clock;
@@ -172,7 +170,6 @@ strides-ready s₀ s count sound x =
     let c = x .clock (q .0) (q .1) in
     record {
       fit = x .fit;
-      whole = x .whole;
       room = x .room;
       time = omega (
         arith,
@@ -263,6 +260,13 @@ later-more s d whole =
 pub waits-now : (s : State) (most wait : ℕ) → Waits s most wait → 0 < wait → overdue s ≡ false
 waits-now s most wait w l = ap overdue (sym (later-none s)) ∙ w .quiet 0 l
 
+-- the tables keep their lengths
+whole-later : (s : State) → Whole (s .run) → (d : ℕ) → Whole (later s d .run)
+whole-later s whole d = record {
+  clocks = omega (arith, whole .clocks, length-by (s .run .plan) (s .run .faulty) (s .run .clocks) d (s .run .plan .n));
+  views = whole .views;
+}
+
 -- every correct clock has gone on by as much
 clock-later : (s : State) → Whole (s .run) → (d p : ℕ) → isCorrect (s .run) p ≡ true → clockOf (later s d .run) p ≡ clockOf (s .run) p + d
 clock-later s whole d p c =
@@ -270,13 +274,13 @@ clock-later s whole d p c =
 
 module _ (s : State) (whole : Whole (s .run)) (fit : Fit (s .run)) (room : s .run .held ≤ capacity (s .network)) where
   leap-strides : (d : ℕ) → ((j : ℕ) → j < d → overdue (later s j) ≡ false) → NoneArrives (s .run) d → Strides s (later s d) d
-  leap-strides zero waits rests = subst (λ (y : State). Strides s y 0) (sym (later-none s)) (strides-none s fit whole room)
+  leap-strides zero waits rests = subst (λ (y : State). Strides s y 0) (sym (later-none s)) (strides-none s fit room)
   leap-strides (suc d) waits rests = go (leap-strides d (λ j l. waits j (omega arith)) (λ p c. omega (arith, rests p c)))
     where
       go : Strides s (later s d) d → Strides s (later s (suc d)) (suc d)
       go x =
           let one : Strides (later s d) (advanced (later s d)) 1 = strides-once (later s d) (advanced (later s d)) (quiet-tick (later s d)
-          (x .whole) (x .fit) (x .room) (λ p c. omega (arith, rests p c, clock-later s whole d p c)) (waits d (omega arith))) in
+          (whole-later s whole d) (x .fit) (x .room) (λ p c. omega (arith, rests p c, clock-later s whole d p c)) (waits d (omega arith))) in
           let all : Strides s (advanced (later s d)) (d + 1) = strides-also s (later s d) (advanced (later s d)) d 1 x one in
           subst (λ (k : ℕ). Strides s (later s (suc d)) k) (add-one d) (subst (λ (y : State). Strides s y (d + 1)) (later-more s d whole) all)
 
@@ -294,7 +298,7 @@ module _ (s : State) (ready : Ready s) (most : ℕ) where
   advance-late count w l = record {
     went = λ z. absurd (omega arith);
     number = λ z. absurd (omega arith);
-    ended = λ x. once-overdue s (ready .whole .clocks) (w .ends refl l);
+    ended = λ x. once-overdue s (w .ends refl l);
   }
 
   -- one tick, or the check that refuses it
@@ -307,10 +311,10 @@ module _ (s : State) (ready : Ready s) (most : ℕ) where
 
   module _ (wait quiet : ℕ) (w : Waits s most wait) (x : Rests (s .run) wait quiet) where
     -- as many as are quiet
-    pub advance-leap : 0 < quiet → (s' : State) → s' ≡ later s quiet → Advances s most s' quiet 0
-    advance-leap l s' is = record {
+    pub advance-leap : Whole (s .run) → 0 < quiet → (s' : State) → s' ≡ later s quiet → Advances s most s' quiet 0
+    advance-leap whole l s' is = record {
       went = λ z. subst (λ (y : State). Strides s y quiet) (sym is)
-          (leap-strides s (ready .whole) (ready .fit) (ready .room) quiet (λ j b. w .quiet j (omega (arith, x .few))) (x .quiet));
+          (leap-strides s whole (ready .fit) (ready .room) quiet (λ j b. w .quiet j (omega (arith, x .few))) (x .quiet));
       number = λ z. (l, omega (arith, x .few, w .few));
       ended = λ b. absurd (omega arith);
     }

@@ -23,7 +23,7 @@ use Rattle.liveness.proofs.Judging.{by-judged}
 use Rattle.simulator.specs.Inner.{arrivedBelow, endsAt, TickedTo, Went, ranTo}
 use Rattle.simulator.proofs.Arrivals.{tick-reaches}
 
-module _ (s : State) (long : s .run .plan .n ≤ length (s .run .clocks)) where
+module _ (s : State) where
   abbrev ticked : After
   ticked = record { state = made (advanced s) (arrivals (advanced s)); answer = Done 1 (made (advanced s) (arrivals (advanced s)) .run .held) }
 
@@ -43,26 +43,27 @@ module _ (s : State) (long : s .run .plan .n ≤ length (s .run .clocks)) where
   unfolding tickOnce overdue
   once-overdue e = stays-at 16 (cond-yes late (refused s 16) (refused s 16) _ e refl) (none-went 16 (omega arith))
 
-  pub once-ends : late ≡ false → ends ≡ true → TickedTo s s 17
+module _ (s : State) (long : s .run .plan .n ≤ length (s .run .clocks)) where
+  pub once-ends : late s ≡ false → ends s ≡ true → TickedTo s s 17
   unfolding tickOnce overdue
-  once-ends e f = stays-at 17 (cond-no late (refused s 17) (refused s 16) _ e
-      (cond-yes (reachesEnd (advanced s .run) (arrivals (advanced s))) (refused s 17) (refused s 17) _ (tick-reaches s long ∙ f) refl)) (none-went 17 (omega arith))
+  once-ends e f = stays-at s 17 (cond-no (late s) (refused s 17) (refused s 16) _ e
+      (cond-yes (reachesEnd (advanced s .run) (arrivals (advanced s))) (refused s 17) (refused s 17) _ (tick-reaches s long ∙ f) refl)) (none-went s 17 (omega arith))
 
-  module _ (e : late ≡ false) (f : ends ≡ false) (sent : ℕ) (is-sent : sent ≡ length (arrivedBelow s (s .run .plan .n) .sent)) where
+  module _ (e : late s ≡ false) (f : ends s ≡ false) (sent : ℕ) (is-sent : sent ≡ length (arrivedBelow s (s .run .plan .n) .sent)) where
     pub once-full : capacity (s .network) < s .run .held + sent → TickedTo s s 18
     unfolding tickOnce overdue arrivals
-    once-full l = stays-at 18 (cond-no late (refused s 18) (refused s 16) _ e
+    once-full l = stays-at s 18 (cond-no (late s) (refused s 18) (refused s 16) _ e
         (cond-no (reachesEnd (advanced s .run) (arrivals (advanced s))) (refused s 18) (refused s 17) _ (tick-reaches s long ∙ f)
         (cond-yes (overfull (advanced s) (arrivals (advanced s))) (refused s 18) (refused s 18) _
-        (ap (λ (n : ℕ). ltb (capacity (s .network)) (s .run .held + n)) (sym is-sent) ∙ lt-ltb _ _ l) refl))) (none-went 18 (omega arith))
+        (ap (λ (n : ℕ). ltb (capacity (s .network)) (s .run .held + n)) (sym is-sent) ∙ lt-ltb _ _ l) refl))) (none-went s 18 (omega arith))
 
     pub once-done : s .run .held + sent ≤ capacity (s .network) → (s' : State) → s' ≡ made (advanced s) (arrivals (advanced s)) → Went s (made (advanced s) (arrivals (advanced s)))
         → TickedTo s s' 0
     unfolding tickOnce overdue arrivals
     once-done l s' is w =
-        let x : ticked ≡ tickOnce s = cond-no late ticked (refused s 16) _ e
-        (cond-no (reachesEnd (advanced s .run) (arrivals (advanced s))) ticked (refused s 17) _ (tick-reaches s long ∙ f)
-        (cond-no (overfull (advanced s) (arrivals (advanced s))) ticked (refused s 18) ticked
+        let x : ticked s ≡ tickOnce s = cond-no (late s) (ticked s) (refused s 16) _ e
+        (cond-no (reachesEnd (advanced s .run) (arrivals (advanced s))) (ticked s) (refused s 17) _ (tick-reaches s long ∙ f)
+        (cond-no (overfull (advanced s) (arrivals (advanced s))) (ticked s) (refused s 18) (ticked s)
         (ap (λ (n : ℕ). ltb (capacity (s .network)) (s .run .held + n)) (sym is-sent) ∙ le-ltb _ _ l) refl)) in
         record {
           state = is ∙ ap (λ (a : After). a .state) x;

@@ -24,7 +24,7 @@ use Rattle.buffers.specs.WordLaws.{posted-length}
 use Rattle.model.specs.Moves.{changed, Entry, stay, into, entering, taking, entries, byClock, advanced, arrival, arrivals, made}
 use Rattle.model.specs.Checks.{clockOutside, atEnd}
 use Rattle.liveness.proofs.Link.{correct-below}
-use Rattle.liveness.proofs.TickLaws.{clock-up, length-clocks}
+use Rattle.liveness.proofs.TickLaws.{clock-up}
 use Rattle.liveness.proofs.Judging.{neither, not-ltb, not-leb}
 use Rattle.simulator.specs.Inner.{Fit, Went, arrivedBelow, endsAt}
 use Rattle.simulator.proofs.Entries.{entries-views}
@@ -162,10 +162,6 @@ module _ (s : State) (long-clocks : s .run .plan .n ≤ length (s .run .clocks))
   unfolding made arrivals
   went-ticked room = record {
     fit = fit-ticked;
-    whole = record {
-      clocks = omega (arith, ap length (arrived-clocks s long-clocks (s .run .plan .n) (omega arith)), length-clocks (s .run) (s .run .plan .n));
-      views = omega (arith, entries-length (arrival (advanced s .run)) (advanced s .run) (s .tally) (s .run .plan .n));
-    };
     room = omega (arith, room, ap (λ (n : ℕ). n / messageWords) (posted-length (s .network) (s .run .held) (s .run .time + 1) (arrivedBelow s (s .run .plan .n) .sent) room));
     time = refl;
     clock = λ p c. (c, omega (arith, clock-ticked p c));

@@ -119,7 +119,6 @@ TickMade s s' = s' ≡ made (advanced s) (arrivals (advanced s))
 -- what a tick that was done has left; a clock that enters may gain more than the tick
 pub record Went (s s' : State) : Type 0 where
   pub fit : Fit (s' .run)
-  pub whole : Whole (s' .run)
   pub room : s' .run .held ≤ capacity (s' .network)
   pub time : s' .run .time ≡ s .run .time + 1
   pub clock : (p : ℕ) → isCorrect (s .run) p ≡ true → (isCorrect (s' .run) p ≡ true) × (clockOf (s .run) p + 1 ≤ clockOf (s' .run) p)

@@ -82,7 +82,6 @@ ClocksFit plan faulty clocks d = (p : ℕ) → correct plan faulty p ≡ true �
 pub record Strides (s s' : State) (k : ℕ) : Type 0 where
   pub ran : ticks k s ≡ ranTo s' k 0
   pub fit : Fit (s' .run)
-  pub whole : Whole (s' .run)
   pub room : s' .run .held ≤ capacity (s' .network)
   pub time : s' .run .time ≡ s .run .time + k
   pub clock : (p : ℕ) → isCorrect (s .run) p ≡ true → (isCorrect (s' .run) p ≡ true) × (clockOf (s .run) p + k ≤ clockOf (s' .run) p)
@@ -90,7 +89,6 @@ pub record Strides (s s' : State) (k : ℕ) : Type 0 where
 -- what is asked before ticks: a fit run, whose messages fit, and a time that leaves room
 pub record Ready (s : State) : Type 0 where
   pub fit : Fit (s .run)
-  pub whole : Whole (s .run)
   pub room : s .run .held ≤ capacity (s .network)
   pub time : s .run .time ≤ 2 * timeMost
 

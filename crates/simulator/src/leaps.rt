@@ -11,7 +11,7 @@ ghost use Rattle.types.specs.Quantities.{nMost, correct};
 ghost use Rattle.model.specs.State.{stateOf, runFrom};
 ghost use Rattle.model.specs.Checks.{clockOutside};
 ghost use Rattle.pacemaker.specs.Limits.{Within};
-ghost use Rattle.simulator.specs.Inner.{Fit};
+ghost use Rattle.simulator.specs.Inner.{Fit, Whole};
 ghost use Rattle.simulator.specs.Leaps.{WaitsFor, WaitsForAll, Waits, RestsFor, Rests, ClocksFit, leapt};
 
 // The later of two times.
@@ -92,8 +92,8 @@ fn rest_for(plan: Plan, faulty: u64, processor: Processor, most: u64) -> u64
 }
 
 // How many ticks, up to so many, bring no correct clock to an initial view.
-pub(crate) fn rest(head: Head, clocks: &[u64; 64], views: &[u64; 64], most: u64) -> u64
-    requires { ⌜ Fit (runFrom head (now clocks) (now views)) ⌝ }
+pub(crate) fn rest(head: Head, clocks: &[u64], views: &[u64], most: u64) -> u64
+    requires { ⌜ Fit (runFrom head (now clocks) (now views)) × Whole (runFrom head (now clocks) (now views)) ⌝ }
     ensures { λ r. ⌜ Rests (runFrom head (now (clocks .entry)) (now (views .entry))) most r ⌝ }
 {
     let n = head.plan.n;

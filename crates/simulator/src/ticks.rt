@@ -253,11 +253,6 @@ fn stop(head: Head, count: u64, check: u64) -> AppliedHead
     }
 }
 
-// A table has its 64 entries: the proofs hear of it where it is lent as a slice.
-fn sized(table: &[u64])
-    ensures { λ r. ⌜ now (table .entry) ≡ now (table .entry) ⌝ }
-{}
-
 // Up to m ticks: they end before the first that a check refuses. A sound run's clocks end it, whatever m is.
 pub(crate) fn run_ticks(
     head: Head,
@@ -271,8 +266,6 @@ pub(crate) fn run_ticks(
     ensures { λ r. ⌜ leftBehind r (now (clocks .exit)) (now (views .exit)) (now (tally .exit)) (now (network .exit))
         ≡ tickRun m (stateOf (runFrom head (now (clocks .entry)) (now (views .entry))) (now (tally .entry)) (now (network .entry))) ⌝ }
 {
-    sized(clocks);
-    sized(views);
     let mut at = head;
     let mut count = 0;
     while count < m {

@@ -1,3 +1,4 @@
+use Rattle.simulator.proofs.Fitness.{whole-of}
 use Rattle.simulator.proofs.Leaping.{waits-now, advance-late, advance-once, advance-leap, leap-fits}
 use Rattle.simulator.specs.Leaps.{Waits}
 use Rattle.model.specs.State.{State, stateOf, runFrom}
@@ -27,25 +28,25 @@ returns c =
     advance-late s (c .before .before .before .before .before .pre .0) (c .before .before .before .before .before .args .most) 0 (subst (λ (w : ℕ). Waits s (c .before .before .before .before .before .args .most) w) (c .if1 .taken) (c .before .wait .ensures (c .before .before .before .before .before .args .clocks .now) (c .before .before .before .before .before .args .views .now) (c .before .before .before .before .before .args .tally .now))) (c .before .before .before .before .before .pre .1)
 
 rest-requires : tie.Need-rest-requires
-rest-requires c κs = search needs
+rest-requires c κs = (c .before .before .before .before .before .before .before .before .before .pre .0 .fit, whole-of (runFrom (c .before .before .before .before .before .before .before .before .before .args .head) (c .before .before .before .before .before .before .before .before .before .args .clocks .now) (c .before .before .before .before .before .before .before .before .before .args .views .now)) (c .before .before .before .before .before .before .before .before .before .pre .0 .fit) (c .before .before .rest-arg2 .given .0) (c .rest-arg4 .given .0))
 
 leap-requires : tie.Need-leap-requires
 leap-requires c κs =
-    let s : State = stateOf (runFrom (c .before .before .before .before .before .before .before .before .before .before .args .head) (c .before .before .before .before .before .before .before .before .before .before .args .clocks .now) (c .before .before .before .before .before .before .before .before .before .before .args .views .now)) (c .before .before .before .before .before .before .before .before .before .before .args .tally .now) (c .before .before .before .before .before .before .before .before .before .before .args .network .now) in
-    leap-fits s (c .before .before .before .before .before .before .before .before .before .before .pre .0) (c .before .before .before .before .before .before .before .before .before .before .args .most) _ _ (c .before .before .before .before .before .before .wait .ensures (c .before .before .before .before .before .before .before .before .before .before .args .clocks .now) (c .before .before .before .before .before .before .before .before .before .before .args .views .now) (c .before .before .before .before .before .before .before .before .before .before .args .tally .now)) (c .before .before .rest .ensures)
+    let s : State = stateOf (runFrom (c .before .before .before .before .before .before .before .before .before .before .before .before .args .head) (c .before .before .before .before .before .before .before .before .before .before .before .before .args .clocks .now) (c .before .before .before .before .before .before .before .before .before .before .before .before .args .views .now)) (c .before .before .before .before .before .before .before .before .before .before .before .before .args .tally .now) (c .before .before .before .before .before .before .before .before .before .before .before .before .args .network .now) in
+    leap-fits s (c .before .before .before .before .before .before .before .before .before .before .before .before .pre .0) (c .before .before .before .before .before .before .before .before .before .before .before .before .args .most) _ _ (c .before .before .before .before .before .before .before .before .wait .ensures (c .before .before .before .before .before .before .before .before .before .before .before .before .args .clocks .now) (c .before .before .before .before .before .before .before .before .before .before .before .before .args .views .now) (c .before .before .before .before .before .before .before .before .before .before .before .before .args .tally .now)) (c .before .before .rest .ensures)
 
 same-length-2 : tie.Need-same-length-2
 same-length-2 c = search needs
 
 returns-2 : tie.Need-returns-2
 returns-2 c =
-    let s : State = stateOf (runFrom (c .before .before .before .before .before .before .before .before .before .before .before .args .head) (c .before .before .before .before .before .before .before .before .before .before .before .args .clocks .now) (c .before .before .before .before .before .before .before .before .before .before .before .args .views .now)) (c .before .before .before .before .before .before .before .before .before .before .before .args .tally .now) (c .before .before .before .before .before .before .before .before .before .before .before .args .network .now) in
-    advance-leap s (c .before .before .before .before .before .before .before .before .before .before .before .pre .0) (c .before .before .before .before .before .before .before .before .before .before .before .args .most) _ _ (c .before .before .before .before .before .before .before .wait .ensures (c .before .before .before .before .before .before .before .before .before .before .before .args .clocks .now) (c .before .before .before .before .before .before .before .before .before .before .before .args .views .now) (c .before .before .before .before .before .before .before .before .before .before .before .args .tally .now)) (c .before .before .before .rest .ensures) (c .before .before .if2 .taken) _ (ap (λ (r : Run). stateOf r (c .before .before .before .before .before .before .before .before .before .before .before .args .tally .now) (c .before .before .before .before .before .before .before .before .before .before .before .args .network .now)) (c .leap .ensures (c .before .before .before .before .before .before .before .before .before .before .before .args .views .now)))
+    let s : State = stateOf (runFrom (c .before .before .before .before .before .before .before .before .before .before .before .before .before .args .head) (c .before .before .before .before .before .before .before .before .before .before .before .before .before .args .clocks .now) (c .before .before .before .before .before .before .before .before .before .before .before .before .before .args .views .now)) (c .before .before .before .before .before .before .before .before .before .before .before .before .before .args .tally .now) (c .before .before .before .before .before .before .before .before .before .before .before .before .before .args .network .now) in
+    advance-leap s (c .before .before .before .before .before .before .before .before .before .before .before .before .before .pre .0) (c .before .before .before .before .before .before .before .before .before .before .before .before .before .args .most) _ _ (c .before .before .before .before .before .before .before .before .before .wait .ensures (c .before .before .before .before .before .before .before .before .before .before .before .before .before .args .clocks .now) (c .before .before .before .before .before .before .before .before .before .before .before .before .before .args .views .now) (c .before .before .before .before .before .before .before .before .before .before .before .before .before .args .tally .now)) (c .before .before .before .rest .ensures) (whole-of (runFrom (c .before .before .before .before .before .before .before .before .before .before .before .before .before .args .head) (c .before .before .before .before .before .before .before .before .before .before .before .before .before .args .clocks .now) (c .before .before .before .before .before .before .before .before .before .before .before .before .before .args .views .now)) (c .before .before .before .before .before .before .before .before .before .before .before .before .before .pre .0 .fit) (c .before .before .before .before .before .before .rest-arg2 .given .0) (c .before .before .before .before .rest-arg4 .given .0)) (c .before .before .if2 .taken) _ (ap (λ (r : Run). stateOf r (c .before .before .before .before .before .before .before .before .before .before .before .before .before .args .tally .now) (c .before .before .before .before .before .before .before .before .before .before .before .before .before .args .network .now)) (c .leap .ensures (c .before .before .before .before .before .before .before .before .before .before .before .before .before .args .views .now)))
 
 tick-once-requires : tie.Need-tick-once-requires
 tick-once-requires c κs =
-    let s : State = stateOf (runFrom (c .before .before .before .before .before .before .before .before .before .before .before .before .before .args .head) (c .before .before .before .before .before .before .before .before .before .before .before .before .before .args .clocks .now) (c .before .before .before .before .before .before .before .before .before .before .before .before .before .args .views .now)) (c .before .before .before .before .before .before .before .before .before .before .before .before .before .args .tally .now) (c .before .before .before .before .before .before .before .before .before .before .before .before .before .args .network .now) in
-    (c .before .before .before .before .before .before .before .before .before .before .before .before .before .pre .0 .fit, c .before .before .before .before .before .before .before .before .before .before .before .before .before .pre .0 .whole, c .before .before .before .before .before .before .before .before .before .before .before .before .before .pre .0 .room, omega (arith, c .before .before .before .before .before .before .before .before .before .before .before .before .before .pre .0 .time), waits-now s (c .before .before .before .before .before .before .before .before .before .before .before .before .before .args .most) _ (c .before .before .before .before .before .before .before .before .before .wait .ensures (c .before .before .before .before .before .before .before .before .before .before .before .before .before .args .clocks .now) (c .before .before .before .before .before .before .before .before .before .before .before .before .before .args .views .now) (c .before .before .before .before .before .before .before .before .before .before .before .before .before .args .tally .now)) (omega (arith, c .before .before .before .before .before .before .before .before .if1 .left)))
+    let s : State = stateOf (runFrom (c .before .before .before .before .before .before .before .before .before .before .before .before .before .before .before .args .head) (c .before .before .before .before .before .before .before .before .before .before .before .before .before .before .before .args .clocks .now) (c .before .before .before .before .before .before .before .before .before .before .before .before .before .before .before .args .views .now)) (c .before .before .before .before .before .before .before .before .before .before .before .before .before .before .before .args .tally .now) (c .before .before .before .before .before .before .before .before .before .before .before .before .before .before .before .args .network .now) in
+    (c .before .before .before .before .before .before .before .before .before .before .before .before .before .before .before .pre .0 .fit, whole-of (runFrom (c .before .before .before .before .before .before .before .before .before .before .before .before .before .before .before .args .head) (c .before .before .before .before .before .before .before .before .before .before .before .before .before .before .before .args .clocks .now) (c .before .before .before .before .before .before .before .before .before .before .before .before .before .before .before .args .views .now)) (c .before .before .before .before .before .before .before .before .before .before .before .before .before .before .before .pre .0 .fit) (c .before .before .before .before .before .before .before .before .rest-arg2 .given .0) (c .before .before .before .before .before .before .rest-arg4 .given .0), c .before .before .before .before .before .before .before .before .before .before .before .before .before .before .before .pre .0 .room, omega (arith, c .before .before .before .before .before .before .before .before .before .before .before .before .before .before .before .pre .0 .time), waits-now s (c .before .before .before .before .before .before .before .before .before .before .before .before .before .before .before .args .most) _ (c .before .before .before .before .before .before .before .before .before .before .before .wait .ensures (c .before .before .before .before .before .before .before .before .before .before .before .before .before .before .before .args .clocks .now) (c .before .before .before .before .before .before .before .before .before .before .before .before .before .before .before .args .views .now) (c .before .before .before .before .before .before .before .before .before .before .before .before .before .before .before .args .tally .now)) (omega (arith, c .before .before .before .before .before .before .before .before .before .before .if1 .left)))
 
 same-length-3 : tie.Need-same-length-3
 same-length-3 c = search needs
@@ -55,8 +56,8 @@ same-length-4 c = search needs
 
 returns-3 : tie.Need-returns-3
 returns-3 c =
-    let s : State = stateOf (runFrom (c .before .before .before .before .before .before .before .before .before .before .before .before .before .before .before .before .before .before .args .head) (c .before .before .before .before .before .before .before .before .before .before .before .before .before .before .before .before .before .before .args .clocks .now) (c .before .before .before .before .before .before .before .before .before .before .before .before .before .before .before .before .before .before .args .views .now)) (c .before .before .before .before .before .before .before .before .before .before .before .before .before .before .before .before .before .before .args .tally .now) (c .before .before .before .before .before .before .before .before .before .before .before .before .before .before .before .before .before .before .args .network .now) in
-    advance-once s (c .before .before .before .before .before .before .before .before .before .before .before .before .before .before .before .before .before .before .pre .0) (c .before .before .before .before .before .before .before .before .before .before .before .before .before .before .before .before .before .before .args .most) (c .before .before .before .before .before .before .before .before .before .before .before .before .before .before .before .before .before .before .pre .1) _ _ _ (c .before .before .before .before .tick-once .ensures .0) (c .before .before .before .before .tick-once .ensures .1)
+    let s : State = stateOf (runFrom (c .before .before .before .before .before .before .before .before .before .before .before .before .before .before .before .before .before .before .before .before .args .head) (c .before .before .before .before .before .before .before .before .before .before .before .before .before .before .before .before .before .before .before .before .args .clocks .now) (c .before .before .before .before .before .before .before .before .before .before .before .before .before .before .before .before .before .before .before .before .args .views .now)) (c .before .before .before .before .before .before .before .before .before .before .before .before .before .before .before .before .before .before .before .before .args .tally .now) (c .before .before .before .before .before .before .before .before .before .before .before .before .before .before .before .before .before .before .before .before .args .network .now) in
+    advance-once s (c .before .before .before .before .before .before .before .before .before .before .before .before .before .before .before .before .before .before .before .before .pre .0) (c .before .before .before .before .before .before .before .before .before .before .before .before .before .before .before .before .before .before .before .before .args .most) (c .before .before .before .before .before .before .before .before .before .before .before .before .before .before .before .before .before .before .before .before .pre .1) _ _ _ (c .before .before .before .before .tick-once .ensures .0) (c .before .before .before .before .tick-once .ensures .1)
 
 pub advance-spec : {M : Type 1} → statement M
 advance-spec =

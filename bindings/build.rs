@@ -8,7 +8,7 @@ fn main() {
     let archive = folder.join("libfever.a");
     println!("cargo::rerun-if-changed={}", archive.display());
     if !archive.is_file() {
-        println!("cargo::error=target/staticlib/libfever.a is missing: run `rt staticlib fever` at the top of the repository first");
+        println!("cargo::error=target/staticlib/libfever.a is missing: `./fever library` at the top of the repository proves and writes it");
         return;
     }
     println!("cargo::rustc-link-search=native={}", folder.display());

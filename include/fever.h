@@ -1,7 +1,7 @@
 /*
  * The Fever pacemaker and its simulator, for C.
  *
- * Link with target/staticlib/libfever.a, which `rt staticlib fever` proves and writes (x86-64 Linux).
+ * Link with target/staticlib/libfever.a, which `./fever library` proves and writes (x86-64 Linux).
  *
  * Numbers are 64-bit. Memory is lent as a pointer and how many elements there are; nothing is kept between calls and nothing is
  * allocated. The caller sees to this: each pointer is aligned for its elements and points to as many initialised ones as its length

@@ -12,6 +12,7 @@ use crate::schedules;
 use crate::shorten::shorten;
 use crate::trace::{Complaint, Trace};
 use reference::simulate;
+use std::io;
 use std::mem;
 use std::path::Path;
 
@@ -97,44 +98,51 @@ fn end(trace: &mut Trace, draws: &mut Draws) {
     trace.end(&bytes);
 }
 
-/// Compares the printouts of one input.
+/// Compares the printouts of one input. An input on which the program hangs is
+/// kept whole, since it would be waited for with every shorter one.
 pub fn compare_one(program: &Path, input: &[u8], piece: usize) -> Result<(), Difference> {
-    let Some(what) = differs(program, input, piece) else {
-        return Ok(());
+    let (what, contents) = match differs(program, input, piece) {
+        Ok(None) => return Ok(()),
+        Ok(Some(what)) => shortened(program, input, piece, what),
+        Err(error) => (error.to_string(), input.to_vec()),
     };
-    let cut = what.1.map_or(input.len(), |line| end_of_line(input, line));
-    // What comes behind the first line that differs may be needed all the same.
-    let alone = differs(program, &input[..cut], piece).is_some();
-    let lines: Vec<&[u8]> = input[..if alone { cut } else { input.len() }]
-        .split_inclusive(|&byte| byte == b'\n')
-        .collect();
-    let kept = shorten(lines, 600, |lines| {
-        differs(program, &lines.concat(), piece).is_some()
-    });
-    let contents = kept.concat();
-    let shorter = differs(program, &contents, piece).unwrap_or(what);
     Err(Difference {
-        what: format!("printouts differ: {}", shorter.0),
+        what: format!("printouts differ: {what}"),
         name: "difference.schedule".to_owned(),
         contents,
     })
 }
 
-/// What differs in the printouts of an input, and in which line, if in one.
-fn differs(program: &Path, input: &[u8], piece: usize) -> Option<(String, Option<usize>)> {
-    let Printout { bytes, failure } = match program::run(program, input, piece) {
-        Ok(printout) => printout,
-        Err(error) => return Some((error.to_string(), None)),
-    };
+/// What differs, and in which line, if in one.
+type Apart = (String, Option<usize>);
+
+/// A shorter input whose printouts differ, behind what differs there.
+fn shortened(program: &Path, input: &[u8], piece: usize, what: Apart) -> (String, Vec<u8>) {
+    let shows = |input: &[u8]| matches!(differs(program, input, piece), Ok(Some(_)));
+    let cut = what.1.map_or(input.len(), |line| end_of_line(input, line));
+    // What comes behind the first line that differs may be needed all the same.
+    let alone = shows(&input[..cut]);
+    let lines: Vec<&[u8]> = input[..if alone { cut } else { input.len() }]
+        .split_inclusive(|&byte| byte == b'\n')
+        .collect();
+    let contents = shorten(lines, 600, |lines| shows(&lines.concat())).concat();
+    let shorter = differs(program, &contents, piece).ok().flatten();
+    (shorter.unwrap_or(what).0, contents)
+}
+
+/// What differs in the printouts of an input.
+fn differs(program: &Path, input: &[u8], piece: usize) -> io::Result<Option<Apart>> {
+    let Printout { bytes, failure } = program::run(program, input, piece)?;
     let Some(expected) = guarded(|| simulate(input)) else {
-        return Some(("the reference panicked".to_owned(), None));
+        return Ok(Some(("the reference panicked".to_owned(), None)));
     };
     let (line, told) = match first_line(&bytes, &expected) {
         Some(difference) => difference,
-        None => return failure.map(|failure| (failure, None)),
+        None => return Ok(failure.map(|failure| (failure, None))),
     };
     let failure = failure.map_or_else(String::new, |failure| format!(" ({failure})"));
-    Some((format!("line {}\n{told}{failure}", line + 1), Some(line)))
+    let what = format!("line {}\n{told}{failure}", line + 1);
+    Ok(Some((what, Some(line))))
 }
 
 /// Where a line of an input, counted from 0, ends.

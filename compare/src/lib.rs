@@ -8,7 +8,7 @@
 //! same; with `--rounds N --seed S` for longer; with `--replay FILE` one
 //! schedule. The program `bench`, built with `--release`, prints ratios of
 //! speeds. Both need the proved program and library in the repository's
-//! `target`.
+//! `target`, and `./fever compare` and `./fever bench` put them there first.
 
 #![deny(missing_docs)]
 #![forbid(unsafe_code)]

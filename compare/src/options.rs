@@ -3,11 +3,7 @@
 use std::path::PathBuf;
 
 /// How to call it.
-pub const USAGE: &str = "\
-compare                          the gate's comparison: always the same
-compare --rounds N [--seed S]    a comparison of N rounds; the gate's has 40, and its seed is 1
-compare --replay FILE            one schedule through both programs, watched for demand 3
-";
+pub const USAGE: &str = "compare [--rounds N] [--seed S], or compare --replay FILE";
 
 /// The rounds of the gate's comparison.
 const ROUNDS: u64 = 40;

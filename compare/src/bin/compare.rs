@@ -14,12 +14,12 @@ use std::process::ExitCode;
 fn main() -> ExitCode {
     let words: Vec<String> = std::env::args().skip(1).collect();
     if !program::proved().is_file() {
-        eprintln!("target/bin/simulate is missing: run `rt check simulate` first");
+        eprintln!("target/bin/simulate is missing: `./fever compare` proves and builds it first");
         return ExitCode::from(2);
     }
     match options::parse(&words) {
         None => {
-            eprint!("{USAGE}");
+            eprintln!("{USAGE}");
             ExitCode::from(2)
         }
         Some(Options::Replay(file)) => replay(&file),

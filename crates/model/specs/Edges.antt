@@ -39,13 +39,13 @@ limits =
     ∷ handed (handedIn standard 16 5 false 0 0 (replicate 4 5) zeroes [] []) (Settle ∷ []) (Refused 9 ∷ [])
     -- a faulty clock above VΓ is not read by 17
     ∷ handed (handedIn standard 8 5 false 0 0 (5 ∷ 5 ∷ 5 ∷ 999 ∷ []) (0 ∷ 0 ∷ 0 ∷ 50 ∷ []) [] []) (Tick 1 ∷ []) (Done 1 0 ∷ [])
-    -- one processor whose plan has n below 4, or V no multiple of 3
-    ∷ (movedNumbers (stepped (planOf 3 2 4 6) (record { number = 2; clock = 2; view = 0 }) input.Tick), (9 ∷ []) ∷ (2 ∷ 0 ∷ 2 ∷ []) ∷ [])
-    ∷ (movedNumbers (stepped (planOf 4 2 4 7) (record { number = 2; clock = 2; view = 0 }) input.Tick), (9 ∷ []) ∷ (2 ∷ 0 ∷ 2 ∷ []) ∷ [])
-    -- one whose plan has Γ below 2Δ
+    -- one processor whose plan has Γ below 2Δ
     ∷ (movedNumbers (stepped (planOf 4 2 3 6) (record { number = 2; clock = 2; view = 0 }) input.Tick), (9 ∷ []) ∷ (2 ∷ 0 ∷ 2 ∷ []) ∷ [])
     ∷ (movedNumbers (stepped (planOf 4 2 3 6) (record { number = 2; clock = 2; view = 0 }) (input.Vc 3)), (9 ∷ []) ∷ (2 ∷ 0 ∷ 2 ∷ []) ∷ [])
     ∷ (movedNumbers (stepped (planOf 4 2 3 6) (record { number = 2; clock = 2; view = 0 }) (input.Qc 0)), (9 ∷ []) ∷ (2 ∷ 0 ∷ 2 ∷ []) ∷ [])
+    -- or n below 4, or V no multiple of 3
+    ∷ (movedNumbers (stepped (planOf 3 2 4 6) (record { number = 2; clock = 2; view = 0 }) input.Tick), (9 ∷ []) ∷ (2 ∷ 0 ∷ 2 ∷ []) ∷ [])
+    ∷ (movedNumbers (stepped (planOf 4 2 4 7) (record { number = 2; clock = 2; view = 0 }) input.Tick), (9 ∷ []) ∷ (2 ∷ 0 ∷ 2 ∷ []) ∷ [])
     ∷ []
 
 -- ---- the order of two checks whose sentences both hold

@@ -131,9 +131,9 @@ none-formed : formedBelow 9 (sinceSettling slowStart slowEvents) ≡ replicate 9
 unfolding formedBelow slow slowEvents sinceSettling formedIn formedDuring definitions
 none-formed = refl
 
--- so a bound below 19 would promise too much
-not-due : leb 19 (settlingBound slow) ≡ true
-unfolding slow definitions
+-- so it must not be due yet: a bound below 19 would promise too much
+not-due : leb (ticksSince (sinceSettling slowStart slowEvents)) (settlingBound slow) ≡ true
+unfolding slow slowEvents sinceSettling ticksDone definitions
 not-due = refl
 
 -- ---- the bound elsewhere: nobody faulty, Γ above 2Δ; two faulty of seven

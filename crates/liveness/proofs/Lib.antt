@@ -17,6 +17,7 @@ pub mod Soundness
 pub mod Sound
 pub mod History
 pub mod Answers
+pub mod Alike
 pub mod Settling
 pub mod Marks
 pub mod Promises

@@ -1,11 +1,14 @@
--- The settling half of demand 3 speaks of something: a run with as many faulty processors as may be, the first leader among them, in which more
--- ticks than its bound are accepted since settling. Each message is delivered as late as the settled network allows. Assumes nothing.
+-- The settling half of demand 3 speaks of something, and of no less than it says. Two runs with as many faulty processors as may be, the first
+-- leader among them: in one more ticks than its bound are accepted since settling, and there is the certificate; in the other the bound is not
+-- passed, and there is none. Assumes nothing.
 use mathlib.Core.Path.{_≡_, refl}
 use mathlib.Core.Bool.{Bool, true, _&&_, cond}
 use mathlib.Core.List.{List, [], _∷_}
-use Prim.Native.Nat.{_+_}
-use lib.Dec.{T}
-use lib.ListN.{take}
+use Prim.Native.Nat.{ℕ, zero, suc, _+_, _<_}
+use native.Mathlib.Omega.{arith}
+use lib.Dec.{T, leb, ltb, ltb→lt}
+use lib.ListN.{replicate, take}
+use Rattle.base.specs.Tests.{T-left}
 use Rattle.base.specs.Scan.{listed}
 use Rattle.base.specs.Sets.{size}
 use Rattle.types.specs.declared.Message.the-variants.{View, Vote, Vc, Qc}
@@ -13,12 +16,22 @@ use Rattle.types.specs.declared.Event.{Event}
 use Rattle.types.specs.declared.Event.the-variants.{Deliver, Settle, Tick}
 use Rattle.types.specs.declared.Answer.{Answer}
 use Rattle.types.specs.declared.Setup.{Setup}
-use Rattle.types.specs.Quantities.{tolerated}
-use Rattle.model.specs.State.{State, accepted}
+use Rattle.types.specs.Quantities.{tolerated, correct}
+use Rattle.model.specs.State.{State, viewOf, accepted}
 use Rattle.model.specs.Opening.{opening}
-use Rattle.model.specs.Lists.{after, sinceSettling, ticksDone, ticksSince, formedIn, formedDuring, formedSince}
-use Rattle.liveness.specs.Promises.{settlingBound}
-use Rattle.model.specs.Rows.{definitions, planOf, zeroes, setupOf, lent, answers, positions}
+use Rattle.model.specs.Lists.{after, Since, sinceSettling, ticksDone, ticksSince, formedIn, formedDuring, formedSince}
+use Rattle.liveness.specs.Promises.{settlingBound, Certified}
+use Rattle.model.specs.Rows.{definitions, planOf, zeroes, setupOf, lent, answers}
+
+allAccepted : List Answer → Bool
+allAccepted [] = true
+allAccepted (x ∷ xs) = accepted x && allAccepted xs
+
+-- 1 for each view below k whose quorum certificate was formed since settling, 0 for the others
+formedBelow : ℕ → Since → List ℕ
+formedBelow k i = listed (λ w. cond (formedSince i w) 1 0) k
+
+-- ---- past the bound: each message is delivered as late as the settled network allows
 
 -- the faulty processors: the leader of views 0 to 2 alone
 unfoldable pub setup : Setup
@@ -48,10 +61,6 @@ events =
     ∷ Deliver (Qc 8 1) ∷ Deliver (Qc 8 2) ∷ Deliver (Qc 8 3) ∷ Tick 1
     ∷ []
 
-allAccepted : List Answer → Bool
-allAccepted [] = true
-allAccepted (x ∷ xs) = accepted x && allAccepted xs
-
 -- the run is an accepted opening's, and f is t
 pub opening-accepted : T (accepted (opening setup unopened .answer))
 unfolding setup definitions
@@ -72,16 +81,63 @@ unfolding setup events sinceSettling ticksDone definitions
 past-bound = refl
 
 -- quorum certificates formed since settling: views 3 to 8, of the views 0 to 11
-formed-since : listed (λ w. cond (formedSince (sinceSettling start events) w) 1 0) 12 ≡ (0 ∷ 0 ∷ 0 ∷ 1 ∷ 1 ∷ 1 ∷ 1 ∷ 1 ∷ 1 ∷ 0 ∷ 0 ∷ 0 ∷ [])
-unfolding setup events sinceSettling formedIn formedDuring definitions
+formed-since : formedBelow 12 (sinceSettling start events) ≡ (0 ∷ 0 ∷ 0 ∷ 1 ∷ 1 ∷ 1 ∷ 1 ∷ 1 ∷ 1 ∷ 0 ∷ 0 ∷ 0 ∷ [])
+unfolding formedBelow setup events sinceSettling formedIn formedDuring definitions
 formed-since = refl
 
--- and every correct processor is in a later view: number, view and clock
-later-views : positions (after start events) ≡ ((1 ∷ 9 ∷ 19 ∷ []) ∷ (2 ∷ 9 ∷ 19 ∷ []) ∷ (3 ∷ 9 ∷ 19 ∷ []) ∷ [])
+-- every correct processor is in view 9
+later-views : (p : ℕ) → T (correct (setup .plan) (setup .faulty) p) → viewOf (after start events .run) p ≡ 9
 unfolding setup events definitions
-later-views = refl
+later-views zero c = absurd c
+later-views (suc zero) c = refl
+later-views (suc (suc zero)) c = refl
+later-views (suc (suc (suc zero))) c = refl
+later-views (suc (suc (suc (suc p)))) c =
+    let low : suc (suc (suc (suc p))) < 4 = ltb→lt _ _ (T-left (ltb (suc (suc (suc (suc p)))) 4) _ c) in
+    absurd (omega arith)
 
--- the bound elsewhere: nobody faulty, Γ above 2Δ; two faulty of seven
+-- so what demand 3 promises is met, by the earliest of these certificates
+kept : Certified setup start events (after start events .run)
+unfolding setup events sinceSettling formedIn formedDuring definitions
+kept = record { view = 3; led = tt; formed = tt; later = λ p c. omega (arith, later-views p c) }
+
+-- ---- not past it: the views of two faulty leaders pass by clock alone
+
+-- of seven processors, the leaders of views 0 to 5
+unfoldable slow : Setup
+slow = setupOf (planOf 7 1 3 9) 3 []
+
+abbrev slowStart : State
+slowStart = opening slow (lent 36 64) .state
+
+-- all enter view 6 at time 18, and what they send may still be on its way at 19
+unfoldable slowEvents : List Event
+slowEvents = Settle ∷ Tick 19 ∷ []
+
+slow-accepted : allAccepted (opening slow (lent 36 64) .answer ∷ answers slowStart slowEvents) ≡ true
+unfolding allAccepted slow slowEvents definitions
+slow-accepted = refl
+
+slow-most-faulty : size (slow .faulty) ≡ tolerated (slow .plan)
+unfolding slow definitions
+slow-most-faulty = refl
+
+-- 19 ticks since settling, and no certificate of any view
+slow-ticks : ticksSince (sinceSettling slowStart slowEvents) ≡ 19
+unfolding slow slowEvents sinceSettling ticksDone definitions
+slow-ticks = refl
+
+none-formed : formedBelow 9 (sinceSettling slowStart slowEvents) ≡ replicate 9 0
+unfolding formedBelow slow slowEvents sinceSettling formedIn formedDuring definitions
+none-formed = refl
+
+-- so it must not be due yet: a bound below 19 would promise too much
+not-due : leb (ticksSince (sinceSettling slowStart slowEvents)) (settlingBound slow) ≡ true
+unfolding slow slowEvents sinceSettling ticksDone definitions
+not-due = refl
+
+-- ---- the bound elsewhere: nobody faulty, Γ above 2Δ; two faulty of seven
+
 bounds : (settlingBound (setupOf (planOf 4 2 5 12) 0 zeroes) ∷ settlingBound (setupOf (planOf 7 2 5 12) 96 []) ∷ []) ≡ (28 ∷ 58 ∷ [])
 unfolding definitions
 bounds = refl

@@ -3,23 +3,27 @@
 use mathlib.Core.Path.{_≡_}
 use mathlib.Core.Bool.{Bool, true, false, not, _&&_}
 use mathlib.Core.Logic.{_≢_}
-use mathlib.Core.List.{List, _++_}
+use mathlib.Core.List.{List, [], _++_}
 use Prim.Native.Nat.{ℕ, _+_, _*_, _≤_, _<_}
 use lib.Dec.{T}
-use lib.ListN.{length, take}
+use lib.ListN.{length, getD, take}
 use Rattle.base.specs.Sets.{member, size}
+use Rattle.types.specs.declared.Plan.{Plan}
 use Rattle.types.specs.declared.Event.{Event}
 use Rattle.types.specs.declared.Event.the-variants.{Tick}
 use Rattle.types.specs.declared.Answer.{Answer}
 use Rattle.types.specs.declared.Answer.the-variants.{Done, Stopped, Refused}
 use Rattle.types.specs.declared.Run.{Run}
 use Rattle.types.specs.declared.Setup.{Setup}
+use Rattle.types.specs.declared.Processor.{Processor}
+use Rattle.types.specs.declared.Input.{Input}
 use Rattle.types.specs.Quantities.{perLeader, lead, correct}
 use Rattle.types.specs.Messages.{voteStage}
 use Rattle.model.specs.State.{State, clockOf, viewOf, marksWord, markBit, word, checkOf, accepted, refused}
 use Rattle.model.specs.Checks.{unsound}
 use Rattle.model.specs.Opening.{opening}
 use Rattle.model.specs.Events.{tickOnce, Ticks, ticks, applied}
+use Rattle.model.specs.Processors.{stepped}
 use Rattle.model.specs.Lists.{after, ClockCondition, Since, sinceSettling, hasSettled, ticksDone, ticksSince, formedIn, formedSince}
 
 -- ---- demand 3
@@ -36,7 +40,7 @@ pub record Certified (u : Setup) (s : State) (es : List Event) (r : Run) : Type 
   pub later : (p : ℕ) → T (correct (u .plan) (u .faulty) p) → view + 1 ≤ viewOf r p
 
 -- For every setup, every run and lent buffers at hand, if the opening is accepted: for every list of events and every number of its first
--- events (none: the opening; all: the whole list), the clock condition holds after them, and if by them more ticks than that were
+-- events (none: the opening; all: the whole list), the clock condition holds after them, and if by them more ticks than the settling bound were
 -- accepted since settling, there is such a certificate.
 abbrev pub DemandThree : Type 0
 DemandThree =
@@ -101,6 +105,21 @@ RefusedStays = (e : Event) (s : State) → accepted (applied e s .answer) ≡ fa
 
 abbrev pub RefusedOpeningStays : Type 0
 RefusedOpeningStays = (u : Setup) (s : State) → accepted (opening u s .answer) ≡ false → opening u s .state ≡ s
+
+-- nor does a refused input to one processor, which then sends nothing
+abbrev pub RefusedProcessorStays : Type 0
+RefusedProcessorStays =
+    (plan : Plan) (c : Processor) (i : Input) → stepped plan c i .check ≢ 0 → (stepped plan c i .processor ≡ c) × (stepped plan c i .sent ≡ [])
+
+-- "those of faulty cabinets and from n on are not read": two setups that are the same but for these start clocks
+pub record SameStart (u v : Setup) : Type 0 where
+  pub plan : u .plan ≡ v .plan
+  pub faulty : u .faulty ≡ v .faulty
+  pub clocks : (p : ℕ) → T (correct (u .plan) (u .faulty) p) → getD (u .clocks) p 0 ≡ getD (v .clocks) p 0
+
+-- open alike: answer, run and every lent word
+abbrev pub OpensAlike : Type 0
+OpensAlike = (u v : Setup) → SameStart u v → (s : State) → opening u s ≡ opening v s
 
 -- the ticks counted, which are those that the events answer, are the time gained
 abbrev pub TicksAreTime : Type 0

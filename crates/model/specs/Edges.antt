@@ -1,7 +1,7 @@
 -- Computed vectors at the edges: the last number that passes a limit, the order of checks that could both refuse, what an answer stands for.
 -- Each row, its right side taken from document 01, shuts out the wrong number or order that its comment is about. Assumes nothing.
 use mathlib.Core.Path.{_≡_, refl}
-use mathlib.Core.Bool.{true, false, cond}
+use mathlib.Core.Bool.{true, false}
 use mathlib.Core.List.{List, [], _∷_, _++_, map}
 use lib.ListN.{length, replicate}
 use Rattle.types.specs.declared.Message.the-variants.{View, Vote, Qc}
@@ -10,12 +10,12 @@ use Rattle.types.specs.declared.Answer.the-variants.{Done, Stopped, Refused}
 use Rattle.types.specs.declared.Input.the-variants as input
 use Rattle.types.specs.declared.Sends.the-variants.{Nothing, Vote as VoteFor, ViewAndVote}
 use Rattle.types.specs.declared.Stepped.the-variants as step
-use Rattle.model.specs.State.{checkOf, heldOf}
+use Rattle.model.specs.State.{checkOf, heldOf, accepted}
 use Rattle.model.specs.Checks.{lengthsOutside}
 use Rattle.model.specs.Opening.{opening}
 use Rattle.model.specs.Processors.{sentIn, checkIn, stepped}
 use Rattle.model.specs.Lists.{after}
-use Rattle.model.specs.Rows.{definitions, planOf, standard, zeroes, copies, setupOf, lent, buffers, handedIn, withNetwork, Row, agreeing, number, words, schedule, handed, fieldsOf, movedNumbers}
+use Rattle.model.specs.Rows.{definitions, planOf, standard, zeroes, copies, setupOf, lent, buffers, handedIn, withNetwork, Row, agreeing, truth, words, schedule, handed, fieldsOf, movedNumbers}
 
 -- ---- limits
 
@@ -29,8 +29,8 @@ limits =
     ∷ schedule (lent 24 55) (setupOf (planOf 7 2 4 6) 0 []) [] (Refused 6 ∷ [])
     ∷ schedule (lent 24 56) (setupOf (planOf 7 2 4 6) 0 []) [] (Done 0 14 ∷ [])
     -- 524,288 network words pass 6, and one more does not
-    ∷ number (cond (lengthsOutside standard 24 524288) 1 0) 0
-    ∷ number (cond (lengthsOutside standard 24 524289) 1 0) 1
+    ∷ truth (lengthsOutside standard 24 524288) false
+    ∷ truth (lengthsOutside standard 24 524289) true
     -- an opened run has 64 clocks and views
     ∷ words
     (length (opening (setupOf standard 0 zeroes) buffers .state .run .clocks) ∷ length (opening (setupOf standard 0 zeroes) buffers .state .run .views) ∷ [])
@@ -43,6 +43,9 @@ limits =
     ∷ (movedNumbers (stepped (planOf 4 2 3 6) (record { number = 2; clock = 2; view = 0 }) input.Tick), (9 ∷ []) ∷ (2 ∷ 0 ∷ 2 ∷ []) ∷ [])
     ∷ (movedNumbers (stepped (planOf 4 2 3 6) (record { number = 2; clock = 2; view = 0 }) (input.Vc 3)), (9 ∷ []) ∷ (2 ∷ 0 ∷ 2 ∷ []) ∷ [])
     ∷ (movedNumbers (stepped (planOf 4 2 3 6) (record { number = 2; clock = 2; view = 0 }) (input.Qc 0)), (9 ∷ []) ∷ (2 ∷ 0 ∷ 2 ∷ []) ∷ [])
+    -- or n below 4, or V no multiple of 3
+    ∷ (movedNumbers (stepped (planOf 3 2 4 6) (record { number = 2; clock = 2; view = 0 }) input.Tick), (9 ∷ []) ∷ (2 ∷ 0 ∷ 2 ∷ []) ∷ [])
+    ∷ (movedNumbers (stepped (planOf 4 2 4 7) (record { number = 2; clock = 2; view = 0 }) input.Tick), (9 ∷ []) ∷ (2 ∷ 0 ∷ 2 ∷ []) ∷ [])
     ∷ []
 
 -- ---- the order of two checks whose sentences both hold
@@ -80,6 +83,8 @@ meanings =
     -- the check and the messages held that an answer stands for
     ∷ words (checkOf (Done 3 10) ∷ checkOf (Stopped 2 10 16) ∷ checkOf (Refused 9) ∷ heldOf (Done 3 10) ∷ heldOf (Stopped 2 10 16) ∷ heldOf (Refused 9) ∷ [])
     (0 ∷ 16 ∷ 9 ∷ 10 ∷ 10 ∷ 0 ∷ [])
+    -- a run of ticks that a check ended is an accepted event
+    ∷ truth (accepted (Stopped 2 10 16)) true
     -- the messages and the check that one processor's answer stands for
     ∷ (
       map fieldsOf (sentIn 2 (step.Sent (ViewAndVote 3)) ++ sentIn 2 (step.Sent (VoteFor 1)) ++ sentIn 2 (step.Sent Nothing) ++ sentIn 2 (step.Refused 17)),

@@ -8,7 +8,8 @@ use Rattle.types.specs.declared.Message.the-variants.{View, Vote, Vc, Qc}
 use Rattle.types.specs.declared.Event.the-variants.{Deliver, Sign, Show, Settle, Tick}
 use Rattle.types.specs.declared.Input.the-variants as input
 use Rattle.types.specs.declared.Answer.the-variants.{Done, Refused}
-use Rattle.model.specs.Rows.{definitions, planOf, standard, padded, zeroes, copies, setupOf, lent, buffers, handedIn, withTally, withNetwork, Row, agreeing, schedule, fullSchedule, handed, refusedWhole, oneMove}
+use Rattle.model.specs.Checks.{tooFarAhead}
+use Rattle.model.specs.Rows.{definitions, planOf, standard, padded, table, zeroes, copies, setupOf, lent, buffers, handedIn, withTally, withNetwork, Row, agreeing, truth, schedule, fullSchedule, handed, refusedWhole, oneMove}
 
 -- ---- checks 2 to 8
 
@@ -66,6 +67,8 @@ openings =
     ∷ schedule buffers (setupOf standard 2 (0 ∷ 99 ∷ 0 ∷ 0 ∷ [])) [] (Done 0 6 ∷ [])
     -- only clocks ahead are bounded: a single one far behind is no reason to refuse
     ∷ schedule buffers (setupOf standard 0 (0 ∷ 9 ∷ 9 ∷ 9 ∷ [])) [] (Done 0 8 ∷ [])
+    -- a clock ahead counts however far ahead it is: the sentence itself, since 7 refuses such start clocks before it
+    ∷ truth (tooFarAhead standard 0 (table (0 ∷ 99 ∷ 99 ∷ 99 ∷ []))) false
     -- c'+Γ equal to c counts
     ∷ schedule buffers (setupOf standard 0 (5 ∷ 1 ∷ 0 ∷ 0 ∷ [])) [] (Done 0 8 ∷ [])
     -- one less does not
@@ -115,6 +118,11 @@ naming =
     -- its view certificate: f and one that entered are t+1; then the quorum certificate
     ∷ fullSchedule buffers (setupOf standard 2 (11 ∷ 0 ∷ 10 ∷ 0 ∷ [])) (Show (Vc 3 3) ∷ Tick 1 ∷ Show (Qc 3 2) ∷ Show (Vc 3 3) ∷ Show (Qc 3 2) ∷ [])
     (Done 0 6 ∷ Refused 14 ∷ Done 1 6 ∷ Refused 14 ∷ Done 0 6 ∷ Done 0 6 ∷ []) ((0 ∷ 3 ∷ 12 ∷ []) ∷ (2 ∷ 4 ∷ 16 ∷ []) ∷ (3 ∷ 3 ∷ 12 ∷ []) ∷ [])
+    -- n = 5: f and two that entered are 2t+1, and not yet n−t
+    ∷ schedule buffers (setupOf (planOf 5 2 4 6) 1 (replicate 5 0)) (Show (Qc 0 1) ∷ Show (Qc 0 2) ∷ Show (Qc 1 1) ∷ Show (Qc 0 3) ∷ Show (Qc 1 1) ∷ [])
+    (Done 0 0 ∷ Done 0 0 ∷ Done 0 0 ∷ Refused 14 ∷ Done 0 0 ∷ Done 0 0 ∷ [])
+    -- n = 7 with one faulty: t and one that entered would be t+1, f and one are not
+    ∷ schedule buffers (setupOf (planOf 7 2 4 6) 2 (11 ∷ 0 ∷ 9 ∷ 9 ∷ 9 ∷ 9 ∷ 9 ∷ [])) (Tick 1 ∷ Show (Vc 3 2) ∷ []) (Done 0 12 ∷ Done 1 12 ∷ Refused 14 ∷ [])
     -- entries by tick count
     ∷ fullSchedule buffers (setupOf standard 2 (11 ∷ 0 ∷ 11 ∷ 11 ∷ [])) (Tick 1 ∷ Show (Vc 3 0) ∷ Show (Qc 3 0) ∷ [])
     (Done 0 6 ∷ Done 1 6 ∷ Done 0 6 ∷ Done 0 6 ∷ []) ((0 ∷ 4 ∷ 16 ∷ []) ∷ (2 ∷ 3 ∷ 12 ∷ []) ∷ (3 ∷ 3 ∷ 12 ∷ []) ∷ [])
@@ -156,6 +164,8 @@ handedInRuns =
     ∷ handed (handedIn standard 0 5 false 0 1 (replicate 4 5) zeroes [] (5 ∷ 0 ∷ 1 ∷ 5 ∷ [])) (Settle ∷ []) (Refused 9 ∷ [])
     -- unsound: a view V
     ∷ handed (handedIn standard 0 5 false 0 1 (replicate 4 5) zeroes [] (2 ∷ 6 ∷ 1 ∷ 5 ∷ [])) (Settle ∷ []) (Refused 9 ∷ [])
+    -- unsound: a certificate for a view V
+    ∷ handed (handedIn standard 0 5 false 0 1 (replicate 4 5) zeroes [] (4 ∷ 6 ∷ 1 ∷ 5 ∷ [])) (Settle ∷ []) (Refused 9 ∷ [])
     -- unsound: a processor n
     ∷ handed (handedIn standard 0 5 false 0 1 (replicate 4 5) zeroes [] (2 ∷ 0 ∷ 4 ∷ 5 ∷ [])) (Settle ∷ []) (Refused 9 ∷ [])
     -- unsound: a message to a faulty leader
@@ -225,12 +235,15 @@ oneProcessor =
     ∷ oneMove 2 1 3 (input.Qc 9) ((9 ∷ []) ∷ (2 ∷ 1 ∷ 3 ∷ []) ∷ [])
     -- 10 before 11
     ∷ oneMove 2 0 2 (input.Vc 7) ((10 ∷ []) ∷ (2 ∷ 0 ∷ 2 ∷ []) ∷ [])
+    -- a quorum certificate for a view V
+    ∷ oneMove 2 0 2 (input.Qc 6) ((10 ∷ []) ∷ (2 ∷ 0 ∷ 2 ∷ []) ∷ [])
     -- a view that is not initial
     ∷ oneMove 2 0 2 (input.Vc 1) ((11 ∷ []) ∷ (2 ∷ 0 ∷ 2 ∷ []) ∷ [])
     -- a tick to VΓ
     ∷ oneMove 2 5 23 input.Tick ((17 ∷ []) ∷ (2 ∷ 5 ∷ 23 ∷ []) ∷ [])
     -- a number n or more, also with a tick
     ∷ oneMove 4 0 2 input.Tick ((10 ∷ []) ∷ (4 ∷ 0 ∷ 2 ∷ []) ∷ [])
+    ∷ oneMove 4 0 2 (input.Vc 3) ((10 ∷ []) ∷ (4 ∷ 0 ∷ 2 ∷ []) ∷ [])
     ∷ []
 
 -- ---- all of them agree

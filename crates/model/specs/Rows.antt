@@ -143,6 +143,10 @@ agreeing k (r ∷ rs) = cond (sameGroups (r .0) (r .1)) (agreeing (k + 1) rs) k
 abbrev pub number : ℕ → ℕ → Row
 number x y = ((x ∷ []) ∷ [], (y ∷ []) ∷ [])
 
+-- whether a sentence holds
+abbrev pub truth : Bool → Bool → Row
+truth b c = number (cond b 1 0) (cond c 1 0)
+
 abbrev pub words : List ℕ → List ℕ → Row
 words xs ys = (xs ∷ [], ys ∷ [])
 

@@ -1,7 +1,7 @@
 -- Computed vectors: rules, words, ticks and room. Each row, its right side taken from document 01, shuts out the wrong rule or word that its
 -- comment is about. Assumes nothing.
 use mathlib.Core.Path.{_≡_, refl}
-use mathlib.Core.Bool.{false, cond}
+use mathlib.Core.Bool.{true, false, cond}
 use mathlib.Core.List.{List, [], _∷_, _++_}
 use Prim.Native.Nat.{ℕ}
 use lib.ListN.{length, replicate}
@@ -14,7 +14,7 @@ use Rattle.model.specs.State.{State}
 use Rattle.model.specs.Opening.{opening}
 use Rattle.model.specs.Events.{tickOnce}
 use Rattle.model.specs.Lists.{after, sinceSettling, ticksDone, ticksSince, formedIn, formedDuring, formedSince}
-use Rattle.model.specs.Rows.{definitions, planOf, standard, table, zeroes, copies, setupOf, lent, buffers, handedIn, withNetwork, Row, agreeing, number, words, schedule, fullSchedule, handed, unchanged, refusedWhole, refusedOpening}
+use Rattle.model.specs.Rows.{definitions, planOf, standard, table, zeroes, copies, setupOf, lent, buffers, handedIn, withNetwork, Row, agreeing, truth, words, schedule, fullSchedule, handed, unchanged, refusedWhole, refusedOpening}
 
 -- buffers that held other things before: two tally words more than six views need, and two network words more than eight messages need
 used : State
@@ -36,9 +36,16 @@ moves =
     -- a leader that has left view 0 forms no view certificate for it
     ∷ schedule buffers (setupOf standard 0 (replicate 4 11)) (Tick 1 ∷ Deliver (View 0 0) ∷ Deliver (View 0 1) ∷ [])
     (Done 0 8 ∷ Done 1 16 ∷ Done 0 15 ∷ Done 0 14 ∷ [])
+    -- nor does one that is one view further
+    ∷ schedule buffers (setupOf standard 0 zeroes)
+    (Deliver (Vote 0 0) ∷ Deliver (Vote 0 1) ∷ Deliver (Vote 0 2) ∷ Deliver (Qc 0 0) ∷ Deliver (View 0 0) ∷ Deliver (View 0 1) ∷ [])
+    (Done 0 8 ∷ Done 0 7 ∷ Done 0 6 ∷ Done 0 9 ∷ Done 0 9 ∷ Done 0 8 ∷ Done 0 7 ∷ [])
     -- but it forms the quorum certificate, "whatever its own view"
     ∷ schedule buffers (setupOf standard 0 (replicate 4 11)) (Tick 1 ∷ Deliver (Vote 0 0) ∷ Deliver (Vote 0 1) ∷ Deliver (Vote 0 2) ∷ [])
     (Done 0 8 ∷ Done 1 16 ∷ Done 0 15 ∷ Done 0 14 ∷ Done 0 17 ∷ [])
+    -- "its own view" is the leader's: processor 1 has left view 3, in which the signer, processor 0, still is
+    ∷ handed (handedIn standard 0 5 false 0 1 (12 ∷ 16 ∷ 12 ∷ 12 ∷ []) (3 ∷ 4 ∷ 3 ∷ 3 ∷ []) (replicate 12 0 ++ (15 ∷ 4 ∷ [])) (1 ∷ 3 ∷ 0 ∷ 0 ∷ []))
+    (Deliver (View 3 0) ∷ []) (Done 0 0 ∷ [])
     -- a clock above the entered view's clock time is not set back
     ∷ fullSchedule buffers (setupOf standard 0 (replicate 4 6)) (Deliver (Vote 0 0) ∷ Deliver (Vote 0 1) ∷ Deliver (Vote 0 2) ∷ Deliver (Qc 0 0) ∷ [])
     (Done 0 8 ∷ Done 0 7 ∷ Done 0 6 ∷ Done 0 9 ∷ Done 0 9 ∷ []) ((0 ∷ 1 ∷ 6 ∷ []) ∷ (1 ∷ 0 ∷ 6 ∷ []) ∷ (2 ∷ 0 ∷ 6 ∷ []) ∷ (3 ∷ 0 ∷ 6 ∷ []) ∷ [])
@@ -180,6 +187,11 @@ timing =
     ∷ schedule buffers (setupOf standard 0 zeroes) (Tick 3 ∷ Settle ∷ Tick 9 ∷ []) (Done 0 8 ∷ Done 3 8 ∷ Done 0 8 ∷ Stopped 2 8 16 ∷ [])
     -- sending after settling
     ∷ schedule buffers (setupOf standard 1 (replicate 4 11)) (Settle ∷ Tick 1 ∷ Tick 9 ∷ []) (Done 0 0 ∷ Done 0 0 ∷ Done 1 6 ∷ Stopped 2 6 16 ∷ [])
+    -- the later of the two, not their sum
+    ∷ schedule buffers (setupOf standard 1 (replicate 4 10)) (Tick 1 ∷ Settle ∷ Tick 1 ∷ Tick 9 ∷ [])
+    (Done 0 0 ∷ Done 1 0 ∷ Done 0 0 ∷ Done 1 6 ∷ Stopped 2 6 16 ∷ [])
+    -- any message held may be the overdue one, not the first alone
+    ∷ handed (handedIn standard 0 5 true 0 2 (replicate 4 5) zeroes [] (2 ∷ 0 ∷ 0 ∷ 5 ∷ 2 ∷ 0 ∷ 1 ∷ 3 ∷ [])) (Tick 1 ∷ []) (Refused 16 ∷ [])
     -- nothing is overdue in an unsettled network
     ∷ schedule buffers (setupOf standard 0 zeroes) (Tick 9 ∷ []) (Done 0 8 ∷ Done 9 8 ∷ [])
     -- ticks stop by 16, go on after the overdue ones are delivered, and stop again
@@ -272,7 +284,12 @@ history =
     -- a faulty processor's signature completes it
     ∷ didSince 8 (Settle ∷ Deliver (Vote 0 0) ∷ Deliver (Vote 0 1) ∷ Sign (Vote 0 3) ∷ []) 0 (1 ∷ 0 ∷ 0 ∷ [])
     -- to a faulty leader it completes nothing, whatever its row holds
-    ∷ number (cond (formedIn (Sign (Vote 0 0)) (handedIn standard 1 5 false 0 0 (replicate 4 5) zeroes (14 ∷ 0 ∷ 14 ∷ []) []) 0) 1 0) 0
+    ∷ truth (formedIn (Sign (Vote 0 0)) (handedIn standard 1 5 false 0 0 (replicate 4 5) zeroes (14 ∷ 0 ∷ 14 ∷ []) []) 0) false
+    -- a vote counts for its own view alone, though the next view's votes suffice
+    ∷ truth
+    (formedIn (Deliver (Vote 0 0))
+    (handedIn standard 0 5 false 0 1 (replicate 4 5) zeroes (15 ∷ 0 ∷ 0 ∷ 0 ∷ 15 ∷ 0 ∷ 14 ∷ []) (2 ∷ 0 ∷ 0 ∷ 0 ∷ [])) 1)
+    false
     -- a second settle starts nothing anew
     ∷ didSince 0 (Settle ∷ Tick 1 ∷ threeVotes ++ (Settle ∷ Tick 1 ∷ [])) 2 (1 ∷ 0 ∷ 0 ∷ [])
     ∷ []

@@ -36,7 +36,7 @@ use Rattle.model.specs.Opening.{opened, openingChecks, opening}
 use Rattle.model.specs.Events.{nowSettled, ticks, tickRun, checks, effect, applied}
 use Rattle.model.specs.Processors.{Moved, clockAt, entryBy, moving, stepChecks, stepped}
 use Rattle.model.specs.Lists.{after, ClockCondition, Since, since, sinceSettling, ticksDone, ticksSince, formedSince}
-use Rattle.liveness.specs.Promises.{settlingBound, Certified, DemandThree, StaysSound, Reachable, OpeningReaches, EventReaches, ReachableSound, StaysSame, NeverBack, RefusedProcessorStays}
+use Rattle.liveness.specs.Promises.{settlingBound, Certified, DemandThree, StaysSound, OpeningReaches, EventReaches, ReachableSound, StaysSame, NeverBack, RefusedProcessorStays}
 use Rattle.liveness.specs.Live.{setup, unopened, events, past-bound, opening-accepted}
 use Rattle.liveness.proofs.Link.{Planned, params, correct-count, third}
 use Rattle.liveness.proofs.Tracks.{Tracked, Leads, stays, leads-on}

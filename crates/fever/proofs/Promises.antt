@@ -1,15 +1,15 @@
 -- The promises of specs/Promises.antt, proved. Assumes nothing.
-use mathlib.Core.Path.{_≡_, refl, sym, ap, _∙_, subst}
+use mathlib.Core.Path.{_≡_, refl, sym, ap, _∙_}
 use mathlib.Core.Bool.{Bool, true, false, _||_}
 use mathlib.Core.Logic.{_≢_}
 use mathlib.Core.List.{List, [], _∷_, _++_, append-assoc}
 use Prim.Native.Nat.{ℕ, _+_, _<_}
 use native.Mathlib.Omega.{arith}
-use lib.Dec.{T, eqb, ltb}
+use lib.Dec.{eqb, ltb}
 use lib.ListN.{length, getD, take, drop}
 use lib.Seq.{take-at, drop-at}
 use Rattle.base.specs.Choice.{cond-yes, cond-no}
-use Rattle.base.specs.Tests.{by-cond, eq→eqb}
+use Rattle.base.specs.Tests.{fails, by-cond, eq→eqb}
 use Rattle.types.specs.declared.Event.{Event}
 use Rattle.types.specs.declared.Event.the-variants.{Deliver, Sign, Show, Settle, Tick}
 use Rattle.types.specs.declared.Message.the-variants.{View, Vote, Vc, Qc}
@@ -27,7 +27,7 @@ use Rattle.liveness.proofs.Promises.{ticks-are-time, refused-stays, refused-ope
 use Rattle.lines.specs.declared.Read.{Read}
 use Rattle.lines.specs.declared.Read.the-variants as Read
 use Rattle.fever.specs.Layout.{setupLength, setupIn, runLength, runIn, neitherSettled, settledAs, timeWord, heldWord, runWords, eventIn}
-use Rattle.fever.specs.Contracts.{Lent, lentOf, stateIn, Called, called, told, openingWords, applyingEvent, applyingRead, applyingWords}
+use Rattle.fever.specs.Contracts.{Lent, lentOf, lentState, Called, called, told, openingWords, applyingEvent, applyingRead, applyingWords}
 use Rattle.fever.specs.Promises.{RunBack, SetupBack, EventBack, ReadEventBack, ReadSetupBack, RefusedOpeningKeeps, RefusedKeeps, TicksTold}
 
 -- ---- the layouts
@@ -76,9 +76,6 @@ read-setup-back x more c = setup-back (x .setup) more c
 
 -- ---- refused calls
 
-never : {A : Type 0} → true ≡ false → A
-never e = absurd (subst T e tt)
-
 -- an answer with no check is accepted, and one that was stopped did some ticks
 abbrev Sorted : Answer → Type 0
 Sorted (Done a h) = Unit {0}
@@ -108,7 +105,7 @@ unfolding after ticksDone
 applied-time e s = omega (arith, ticks-are-time s (e ∷ []))
 
 -- what refused calls tell
-told-same : (x : Lent) (a : After) → accepted (a .answer) ≡ false → a .state ≡ stateIn x → told (x .run) a .lent ≡ x
+told-same : (x : Lent) (a : After) → accepted (a .answer) ≡ false → a .state ≡ lentState x → told (x .run) a .lent ≡ x
 told-same x a n q =
     ap (λ (s : State). lentOf (told (x .run) a .lent .run) (s .tally) (s .network)) q
     ∙ ap (λ (ws : List ℕ). lentOf ws (x .tally) (x .network)) (sym (cond-no _ _ _ _ n refl))
@@ -117,7 +114,7 @@ told-same x a n q =
 told-run : (x : Lent) (a : After) (i : ℕ) → accepted (a .answer) ≡ true → getD (runWords (a .state .run) ++ drop runLength (x .run)) i 0 ≡ getD (told (x .run) a .lent .run) i 0
 told-run x a i y = ap (λ (ws : List ℕ). getD ws i 0) (cond-yes _ _ _ _ y refl)
 
-told-refused : (x : Lent) (a : After) → (accepted (a .answer) ≡ false → a .state ≡ stateIn x) → Sorted (a .answer)
+told-refused : (x : Lent) (a : After) → (accepted (a .answer) ≡ false → a .state ≡ lentState x) → Sorted (a .answer)
     → a .state .run .time ≡ getD (x .run) timeWord 0 + ticksOf (a .answer)
     → told (x .run) a .answer ≢ 0 → getD (told (x .run) a .lent .run) timeWord 0 ≡ getD (x .run) timeWord 0 → told (x .run) a .lent ≡ x
 told-refused x a same sorted gained some' still = go (a .answer) refl sorted
@@ -139,8 +136,8 @@ refused-keeps y x = by-cond Keeps (ltb (length (x .run)) runLength) (called 1 x)
     read : (z : Read) → Keeps (applyingRead z x)
     read (Read.Event e) =
         by-cond Keeps (lacksForm e) (called 1 x) _ (λ t n q. refl) (λ t.
-        by-cond Keeps (neitherSettled (x .run)) (called 9 x) (told (x .run) (applied e (stateIn x))) (λ u n q. refl)
-        (λ u. told-refused x (applied e (stateIn x)) (refused-stays e (stateIn x)) (applied-sorted e (stateIn x)) (applied-time e (stateIn x))))
+        by-cond Keeps (neitherSettled (x .run)) (called 9 x) (told (x .run) (applied e (lentState x))) (λ u n q. refl)
+        (λ u. told-refused x (applied e (lentState x)) (refused-stays e (lentState x)) (applied-sorted e (lentState x)) (applied-time e (lentState x))))
     read Read.Opening = λ n q. refl
     read Read.NoForm = λ n q. refl
 
@@ -154,9 +151,9 @@ pub refused-opening-keeps : RefusedOpeningKeeps
 unfolding openingWords
 refused-opening-keeps setup x =
     by-cond (λ (k : Called). k .answer ≢ 0 → k .lent ≡ x) (ltb (length setup) setupLength || ltb (length (x .run)) runLength) (called 1 x)
-    (told (x .run) (opening (setupIn setup) (stateIn x))) (λ t n. refl)
-    (λ t n. let r = refused-opening (setupIn setup) (stateIn x) n in
-    told-same x (opening (setupIn setup) (stateIn x)) r (refused-opening-stays (setupIn setup) (stateIn x) r))
+    (told (x .run) (opening (setupIn setup) (lentState x))) (λ t n. refl)
+    (λ t n. let r = refused-opening (setupIn setup) (lentState x) n in
+    told-same x (opening (setupIn setup) (lentState x)) r (refused-opening-stays (setupIn setup) (lentState x) r))
 
 -- ---- ticks done and messages held
 
@@ -164,7 +161,7 @@ abbrev Holds : After → Type 0
 Holds a = accepted (a .answer) ≡ true → a .state .run .held ≡ heldOf (a .answer)
 
 ticks-held : (x : Ticks) → accepted (ticksAnswer x) ≡ true → x .state .run .held ≡ heldOf (ticksAnswer x)
-ticks-held x = by-cond (λ (a : Answer). accepted a ≡ true → x .state .run .held ≡ heldOf a) (eqb (x .count) 0) (Refused (x .check)) _ (λ t y. never (sym y))
+ticks-held x = by-cond (λ (a : Answer). accepted a ≡ true → x .state .run .held ≡ heldOf a) (eqb (x .count) 0) (Refused (x .check)) _ (λ t y. absurd (fails true (sym y) tt))
     (λ t. by-cond (λ (a : Answer). accepted a ≡ true → x .state .run .held ≡ heldOf a) (eqb (x .check) 0) (Done (x .count) (x .state .run .held))
     (Stopped (x .count) (x .state .run .held) (x .check)) (λ u y. refl) (λ u y. refl))
 
@@ -178,12 +175,12 @@ effect-held (Tick m) s y = ticks-held (ticks m s) y
 
 applied-held : (e : Event) (s : State) → Holds (applied e s)
 unfolding applied
-applied-held e s = by-judged Holds (refused s) (checks e s) (effect e s) (λ r y. never (sym y)) (λ c. effect-held e s)
+applied-held e s = by-judged Holds (refused s) (checks e s) (effect e s) (λ r y. absurd (fails true (sym y) tt)) (λ c. effect-held e s)
 
 pub ticks-told : TicksTold
 unfolding runIn
 ticks-told e x y =
     record {
-      ticks = sym (told-run x (applied e (stateIn x)) timeWord y) ∙ applied-time e (stateIn x);
-      held = sym (told-run x (applied e (stateIn x)) heldWord y) ∙ applied-held e (stateIn x) y;
+      ticks = sym (told-run x (applied e (lentState x)) timeWord y) ∙ applied-time e (lentState x);
+      held = sym (told-run x (applied e (lentState x)) heldWord y) ∙ applied-held e (lentState x) y;
     }

@@ -40,8 +40,8 @@ pub record Lent : Type 0 where
 abbrev pub lentOf : List ℕ → List ℕ → List ℕ → Lent
 lentOf run tally network = record { run = run; tally = tally; network = network }
 
-abbrev pub stateIn : Lent → State
-stateIn x = stateOf (runIn (x .run)) (x .tally) (x .network)
+abbrev pub lentState : Lent → State
+lentState x = stateOf (runIn (x .run)) (x .tally) (x .network)
 
 -- what a call answered, and the words as it left them
 pub record Called : Type 0 where
@@ -63,7 +63,7 @@ told ws a = called (checkOf (a .answer)) (lentOf (runLeft ws (a .answer) (a .sta
 -- `fever_open`: the model's opening of the setup in the first 69 words. The run at hand is not judged: a refusal leaves its words, whatever they are.
 unfoldable pub openingWords : List ℕ → Lent → Called
 openingWords setup x =
-    cond (ltb (length setup) setupLength || ltb (length (x .run)) runLength) (called 1 x) (told (x .run) (opening (setupIn setup) (stateIn x)))
+    cond (ltb (length setup) setupLength || ltb (length (x .run)) runLength) (called 1 x) (told (x .run) (opening (setupIn setup) (lentState x)))
 
 abbrev pub OpensWords : List ℕ → Lent → ℕ → Lent → Type 0
 OpensWords setup before r after = called r after ≡ openingWords setup before
@@ -71,7 +71,7 @@ OpensWords setup before r after = called r after ≡ openingWords setup before
 -- an event, on a run of 137 words: check 1 is of the event alone; a settled word above 1 is of no run, which is check 9
 unfoldable pub applyingEvent : Event → Lent → Called
 applyingEvent e x =
-    cond (lacksForm e) (called 1 x) (cond (neitherSettled (x .run)) (called 9 x) (told (x .run) (applied e (stateIn x))))
+    cond (lacksForm e) (called 1 x) (cond (neitherSettled (x .run)) (called 9 x) (told (x .run) (applied e (lentState x))))
 
 abbrev pub applyingRead : Read → Lent → Called
 applyingRead (Read.Event e) x = applyingEvent e x

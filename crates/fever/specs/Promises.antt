@@ -17,7 +17,7 @@ use Rattle.lines.specs.declared.Read.the-variants as Read
 use Rattle.lines.specs.declared.Reading.{Reading}
 use Rattle.lines.specs.Contracts.{eventReading}
 use Rattle.fever.specs.Layout.{setupIn, setupWords, timeWord, heldWord, runIn, runWords, eventIn, eventNumbers, readingWords}
-use Rattle.fever.specs.Contracts.{Lent, stateIn, told, openingWords, applyingWords}
+use Rattle.fever.specs.Contracts.{Lent, lentState, told, openingWords, applyingWords}
 
 -- ---- the layouts lose nothing: what was laid out, whatever stands behind it, is read back
 
@@ -57,4 +57,4 @@ pub record TicksAre (x : Lent) (a : After) : Type 0 where
   pub held : getD (told (x .run) a .lent .run) heldWord 0 ≡ heldOf (a .answer)
 
 abbrev pub TicksTold : Type 0
-TicksTold = (e : Event) (x : Lent) → accepted (applied e (stateIn x) .answer) ≡ true → TicksAre x (applied e (stateIn x))
+TicksTold = (e : Event) (x : Lent) → accepted (applied e (lentState x) .answer) ≡ true → TicksAre x (applied e (lentState x))

@@ -8,7 +8,8 @@ use lines::Read;
 use lines::Written;
 use types::Plan;
 ghost use mathlib.Core.Path.{_≡_};
-ghost use Rattle.fever.specs.Layout.{planOf, eventIn};
+ghost use mathlib.Core.List.{[], _∷_};
+ghost use Rattle.fever.specs.Layout.{planIn, eventIn};
 ghost use Rattle.fever.specs.Contracts.{lentOf, OpensWords, AppliesWords, moveOf, StepsWords, ReadsWords, bytesOf, WritesEvent, WritesSetup};
 
 // An event, or a line that is read, in numbers. Form: 1 deliver, 2 sign, 3 show, 4 settle, 5 tick; 6 an opening, 0 none of them.
@@ -78,7 +79,7 @@ pub extern "C" fn fever_step(
     input: u64,
     view: u64,
 ) -> u64
-    ensures { λ r. ⌜ StepsWords (moveOf (planOf n delta gamma views) input view (now (processor .entry))) (now (processor .entry)) r (now (processor .exit)) ⌝ }
+    ensures { λ r. ⌜ StepsWords (moveOf (planIn (n ∷ delta ∷ gamma ∷ views ∷ [])) input view (now (processor .entry))) (now (processor .entry)) r (now (processor .exit)) ⌝ }
 {
     let plan = Plan {
         n: n,

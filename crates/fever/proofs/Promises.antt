@@ -1,4 +1,5 @@
 -- The promises of specs/Promises.antt, proved. Assumes nothing.
+pub use Rattle.fever.proofs.Writing.{bytes-told}
 use mathlib.Core.Path.{_≡_, refl, sym, ap, _∙_}
 use mathlib.Core.Bool.{Bool, true, false, _||_}
 use mathlib.Core.Logic.{_≢_}

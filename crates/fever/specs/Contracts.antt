@@ -127,14 +127,17 @@ pub record ReadsWords (line before : List ℕ) (r : ℕ) (after : List ℕ) : Ty
   pub check : r ≡ cond (ltb (length before) readingLength) 1 (readCheck (reading line .read))
   pub words : after ≡ cond (ltb (length before) readingLength) before (readingLeft before (reading line))
 
--- the bytes written, or 0
-abbrev pub bytesOf : Written → ℕ
-bytesOf (Bytes k) = k
-bytesOf (Refused r) = 0
+-- what the answer of a function that writes stands for: so many bytes; 0 for check 1, the only one that it makes
+abbrev pub writtenBy : ℕ → Written
+writtenBy r = cond (eqb r 0) (Refused 1) (Bytes r)
+
+-- that r stands for the answer x of a writer
+abbrev pub StandsFor : ℕ → Written → Type 0
+StandsFor r x = (lacks : Bool) (form buffer : List ℕ) → x ≡ writtenAs lacks form buffer → writtenBy r ≡ x
 
 -- that a form, or what lacks one, was written into the lent bytes
 pub record WritesLine (lacks : Bool) (form before : List ℕ) (r : ℕ) (after : List ℕ) : Type 0 where
-  pub bytes : r ≡ bytesOf (writtenAs lacks form before)
+  pub answer : writtenBy r ≡ writtenAs lacks form before
   pub text : after ≡ writtenIn lacks form before
 
 -- `fever_write_event`: the line of the event that four numbers are

@@ -1,10 +1,10 @@
 -- What is promised of the layouts, and of what the words tell. proofs/Promises.antt has a proof of each, under its name in small letters with
 -- hyphens (`run-back`).
 use mathlib.Core.Path.{_≡_}
-use mathlib.Core.Bool.{true}
-use mathlib.Core.Logic.{_≢_}
+use mathlib.Core.Bool.{Bool, true}
+use mathlib.Core.Logic.{_⊎_, _≢_}
 use mathlib.Core.List.{List, _++_}
-use Prim.Native.Nat.{ℕ, _+_}
+use Prim.Native.Nat.{ℕ, _+_, _<_}
 use lib.ListN.{length, getD, drop}
 use Rattle.types.specs.declared.Event.{Event}
 use Rattle.types.specs.declared.Setup.{Setup}
@@ -15,9 +15,9 @@ use Rattle.model.specs.Events.{applied}
 use Rattle.lines.specs.declared.Read.{Read}
 use Rattle.lines.specs.declared.Read.the-variants as Read
 use Rattle.lines.specs.declared.Reading.{Reading}
-use Rattle.lines.specs.Contracts.{eventReading}
+use Rattle.lines.specs.Contracts.{eventReading, line, writtenAs, writtenCheck}
 use Rattle.fever.specs.Layout.{setupIn, setupWords, timeWord, heldWord, runIn, runWords, eventIn, eventNumbers, readingWords}
-use Rattle.fever.specs.Contracts.{Lent, lentState, told, openingWords, applyingWords}
+use Rattle.fever.specs.Contracts.{Lent, lentState, told, openingWords, applyingWords, WritesLine}
 
 -- ---- the layouts lose nothing: what was laid out, whatever stands behind it, is read back
 
@@ -58,3 +58,9 @@ pub record TicksAre (x : Lent) (a : After) : Type 0 where
 
 abbrev pub TicksTold : Type 0
 TicksTold = (e : Event) (x : Lent) → accepted (applied e (lentState x) .answer) ≡ true → TicksAre x (applied e (lentState x))
+
+-- the functions that write answer 0 where check 1 refuses, and there alone; else the bytes of the line, which are some
+abbrev pub BytesTold : Type 0
+BytesTold =
+    (lacks : Bool) (form before : List ℕ) (r : ℕ) (after : List ℕ) → WritesLine lacks form before r after
+    → ((writtenCheck (writtenAs lacks form before) ≡ 1) × (r ≡ 0)) ⊎ ((writtenCheck (writtenAs lacks form before) ≡ 0) × (r ≡ length (line form)) × (0 < r))

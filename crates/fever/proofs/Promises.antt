@@ -1,23 +1,22 @@
--- The promises of specs/Promises.antt, proved. Assumes nothing.
+-- The promises of specs/Promises.antt, proved: those of calls in turn, of layouts and of writing are passed on from the files that show them. Assumes nothing.
+pub use Rattle.fever.proofs.Demands.{demand-three-of-library, never-nine, library-is-after, settling-told, every-call-answered, no-event-nothing}
+pub use Rattle.fever.proofs.ReadBack.{run-back, setup-back, event-back, read-event-back, read-setup-back}
 pub use Rattle.fever.proofs.Writing.{bytes-told}
 use mathlib.Core.Path.{_≡_, refl, sym, ap, _∙_}
-use mathlib.Core.Bool.{Bool, true, false, _||_}
+use mathlib.Core.Bool.{true, false, _||_}
 use mathlib.Core.Logic.{_≢_}
-use mathlib.Core.List.{List, [], _∷_, _++_, append-assoc}
+use mathlib.Core.List.{List, [], _∷_, _++_}
 use Prim.Native.Nat.{ℕ, _+_, _<_}
 use native.Mathlib.Omega.{arith}
 use lib.Dec.{eqb, ltb}
-use lib.ListN.{length, getD, take, drop}
-use lib.Seq.{take-at, drop-at}
+use lib.ListN.{length, getD, drop}
 use Rattle.base.specs.Choice.{cond-yes, cond-no}
 use Rattle.base.specs.Tests.{fails, by-cond, eq→eqb}
 use Rattle.types.specs.declared.Event.{Event}
 use Rattle.types.specs.declared.Event.the-variants.{Deliver, Sign, Show, Settle, Tick}
-use Rattle.types.specs.declared.Message.the-variants.{View, Vote, Vc, Qc}
 use Rattle.types.specs.declared.Answer.{Answer}
 use Rattle.types.specs.declared.Answer.the-variants.{Done, Stopped, Refused}
 use Rattle.types.specs.declared.Setup.{Setup}
-use Rattle.types.specs.Quantities.{tableClocks}
 use Rattle.types.specs.Messages.{lacksForm}
 use Rattle.model.specs.State.{State, After, checkOf, ticksOf, heldOf, accepted, refused, done}
 use Rattle.model.specs.Opening.{opened, openingChecks, opening}
@@ -27,53 +26,9 @@ use Rattle.liveness.proofs.Judging.{by-judged}
 use Rattle.liveness.proofs.Promises.{ticks-are-time, refused-stays, refused-opening-stays}
 use Rattle.lines.specs.declared.Read.{Read}
 use Rattle.lines.specs.declared.Read.the-variants as Read
-use Rattle.fever.specs.Layout.{setupLength, setupIn, runLength, runIn, neitherSettled, settledAs, timeWord, heldWord, runWords, eventIn}
+use Rattle.fever.specs.Layout.{setupLength, setupIn, runLength, runIn, neitherSettled, timeWord, heldWord, runWords}
 use Rattle.fever.specs.Contracts.{Lent, lentOf, lentState, Called, called, told, openingWords, applyingEvent, applyingRead, applyingWords}
-use Rattle.fever.specs.Promises.{RunBack, SetupBack, EventBack, ReadEventBack, ReadSetupBack, RefusedOpeningKeeps, RefusedKeeps, TicksTold}
-
--- ---- the layouts
-
-settled-back : (b : Bool) → eqb (settledAs b) 1 ≡ b
-settled-back true = refl
-settled-back false = refl
-
-pub run-back : RunBack
-unfolding runIn
-run-back r more c v =
-    let whole : (r .clocks ++ r .views) ++ more ≡ r .clocks ++ (r .views ++ more) = append-assoc (r .clocks) (r .views) more in
-    let clocks : take tableClocks ((r .clocks ++ r .views) ++ more) ≡ r .clocks =
-    ap (take tableClocks) whole ∙ take-at (r .clocks) (r .views ++ more) tableClocks c in
-    let views : take tableClocks (drop tableClocks ((r .clocks ++ r .views) ++ more)) ≡ r .views =
-    ap (λ (l : List ℕ). take tableClocks (drop tableClocks l)) whole
-    ∙ ap (take tableClocks) (drop-at (r .clocks) (r .views ++ more) tableClocks c) ∙ take-at (r .views) more tableClocks v in
-    rw (settled-back (r .settled), clocks, views)
-
-pub setup-back : SetupBack
-unfolding setupIn
-setup-back u more c = rw (take-at (u .clocks) more tableClocks c)
-
-pub event-back : EventBack
-unfolding eventIn
-event-back (Deliver (View w p)) = refl
-event-back (Deliver (Vote w p)) = refl
-event-back (Deliver (Vc w p)) = refl
-event-back (Deliver (Qc w p)) = refl
-event-back (Sign (View w p)) = refl
-event-back (Sign (Vote w p)) = refl
-event-back (Sign (Vc w p)) = refl
-event-back (Sign (Qc w p)) = refl
-event-back (Show (View w p)) = refl
-event-back (Show (Vote w p)) = refl
-event-back (Show (Vc w p)) = refl
-event-back (Show (Qc w p)) = refl
-event-back Settle = refl
-event-back (Tick m) = refl
-
-pub read-event-back : ReadEventBack
-read-event-back e more = event-back e
-
-pub read-setup-back : ReadSetupBack
-read-setup-back x more c = setup-back (x .setup) more c
+use Rattle.fever.specs.Promises.{RefusedOpeningKeeps, RefusedKeeps, TicksTold}
 
 -- ---- refused calls
 

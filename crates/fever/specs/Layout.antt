@@ -115,6 +115,10 @@ unfoldable pub eventIn : ℕ → ℕ → ℕ → ℕ → Read
 eventIn form kind view processor =
     cond (eqb form 4) (Read.Event Settle) (cond (eqb form 5) (Read.Event (Tick view)) (carriedAs form (storedAs kind view processor)))
 
+-- the same with the four numbers as one
+abbrev pub eventAs : Numbers → Read
+eventAs k = eventIn (k .form) (k .kind) (k .view) (k .processor)
+
 abbrev pub fourNumbers : ℕ → ℕ → ℕ → ℕ → Numbers
 fourNumbers form kind view processor = record { form = form; kind = kind; view = view; processor = processor }
 

@@ -25,7 +25,7 @@ use Rattle.lines.specs.Contracts.{readCheck, line, notWritten, writtenAs, writt
 use Rattle.reader.specs.Lines.{reading}
 use Rattle.fever.specs.Layout.{setupLength, setupIn, readingLength, readingWords}
 use Rattle.fever.specs.Contracts.{readingLeft, ReadsWords, writtenBy, StandsFor, WritesLine, WritesEvent, WritesSetup}
-use Rattle.fever.specs.Promises.{BytesTold}
+use Rattle.fever.specs.Promises.{BytesTell, BytesTold}
 
 -- ---- reading
 
@@ -80,7 +80,7 @@ bytes-told lacks form d r after w = go (eq? r 0)
     check : writtenCheck (writtenAs lacks form d) ≡ writtenCheck (writtenBy r)
     check = sym (ap writtenCheck (w .answer))
 
-    go : (r ≡ 0) ⊎ (r ≢ 0) → ((writtenCheck (writtenAs lacks form d) ≡ 1) × (r ≡ 0)) ⊎ ((writtenCheck (writtenAs lacks form d) ≡ 0) × (r ≡ length (line form)) × (0 < r))
+    go : (r ≡ 0) ⊎ (r ≢ 0) → BytesTell lacks form d r
     go (inl z) = inl (check ∙ ap (λ (k : ℕ). writtenCheck (writtenBy k)) z, z)
     go (inr n) =
         let by : Bytes r ≡ writtenBy r = cond-no _ _ _ _ (ne-eqb r 0 n) refl in

@@ -140,8 +140,11 @@ pub record TicksAre (x : Lent) (a : After) : Type 0 where
 abbrev pub TicksTold : Type 0
 TicksTold = (e : Event) (x : Lent) → accepted (applied e (lentState x) .answer) ≡ true → TicksAre x (applied e (lentState x))
 
--- the functions that write answer 0 where check 1 refuses, and there alone; else the bytes of the line, which are some
+-- that r is 0 where check 1 refuses to write, and there alone; else the bytes of the line, which are some
+abbrev pub BytesTell : Bool → List ℕ → List ℕ → ℕ → Type 0
+BytesTell lacks form before r =
+    ((writtenCheck (writtenAs lacks form before) ≡ 1) × (r ≡ 0)) ⊎ ((writtenCheck (writtenAs lacks form before) ≡ 0) × (r ≡ length (line form)) × (0 < r))
+
+-- so do the functions that write answer
 abbrev pub BytesTold : Type 0
-BytesTold =
-    (lacks : Bool) (form before : List ℕ) (r : ℕ) (after : List ℕ) → WritesLine lacks form before r after
-    → ((writtenCheck (writtenAs lacks form before) ≡ 1) × (r ≡ 0)) ⊎ ((writtenCheck (writtenAs lacks form before) ≡ 0) × (r ≡ length (line form)) × (0 < r))
+BytesTold = (lacks : Bool) (form before : List ℕ) (r : ℕ) (after : List ℕ) → WritesLine lacks form before r after → BytesTell lacks form before r

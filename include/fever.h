@@ -8,9 +8,10 @@
  * says, and is not NULL even where the length is 0; what is lent to one call does not overlap, what is only read included; and
  * nobody else writes it meanwhile. Beyond that every function takes any words, any lengths and any numbers.
  *
- * Open, apply, step and read answer a check's number where they refuse, the two that write answer 0, and a call that refuses has
- * changed nothing that was lent. A run of ticks that is stopped answers the check that ended it, and the ticks before are done. The
- * contract of each function is in crates/fever/specs/Contracts.antt, the layouts are in Layout.antt.
+ * Open, apply, step and read answer a check's number where they refuse, the two that write answer 0 for check 1, the only one that
+ * they make, and a call that refuses has changed nothing that was lent. A run of ticks that is stopped answers the check that ended
+ * it, and the ticks before are done. The contract of each function is in crates/fever/specs/Contracts.antt, the layouts are in
+ * Layout.antt, and what is promised of calls in a row and of what they answer is in Promises.antt.
  *
  * The checks: 1 no such form, or too few elements lent; 2 to 8 refuse an opening; 9 to 18 an event; one processor uses 9, 10, 11 and
  * 17. The README lists them.

@@ -22,7 +22,7 @@ use Rattle.model.specs.Events.{applied}
 use Rattle.lines.specs.declared.Read.{Read}
 use Rattle.lines.specs.declared.Read.the-variants as Read
 use Rattle.fever.specs.Layout.{tableIn, setupLength, setupIn, runLength, settledWord, clocksWord, viewsWord, runIn}
-use Rattle.fever.specs.Contracts.{Lent, lentOf, stateIn, Called, called, runLeft, told, openingWords, applyingEvent, applyingRead, applyingWords}
+use Rattle.fever.specs.Contracts.{Lent, lentOf, lentState, Called, called, runLeft, told, openingWords, applyingEvent, applyingRead, applyingWords}
 
 -- what stood in the run's words, as it was lent: its head and its two tables
 pub record Parts (ws : List ℕ) (h : Head) (clocks views : List ℕ) : Type 0 where
@@ -60,7 +60,7 @@ pub opening-done : (setup : List ℕ) (x : Lent) (u : Setup) (g : Head) (c v c' 
 unfolding openingWords
 opening-done setup x u g c v c' v' o r ws t n l k e p h w =
     cond-no _ _ _ _ (or-neither _ _ (le-ltb _ _ l) (le-ltb _ _ k))
-    (handed (x .run) ws t n c' v' o (opening (setupIn setup) (stateIn x)) r (h ∙ ap₂ (λ (z : Setup) (y : Run). opening z (stateOf y (x .tally) (x .network))) e (parts-whole (x .run) g c v p)) w)
+    (handed (x .run) ws t n c' v' o (opening (setupIn setup) (lentState x)) r (h ∙ ap₂ (λ (z : Setup) (y : Run). opening z (stateOf y (x .tally) (x .network))) e (parts-whole (x .run) g c v p)) w)
 
 -- ---- an event
 
@@ -78,7 +78,7 @@ pub applying-done : (e : Event) (x : Lent) (g : Head) (c v c' v' : List ℕ) (o 
 unfolding applyingEvent
 applying-done e x g c v c' v' o r ws t n l s p h w =
     cond-no _ _ _ _ l (cond-no _ _ _ _ (le-ltb _ _ s)
-    (handed (x .run) ws t n c' v' o (applied e (stateIn x)) r (h ∙ ap (λ (y : Run). applied e (stateOf y (x .tally) (x .network))) (parts-whole (x .run) g c v p)) w))
+    (handed (x .run) ws t n c' v' o (applied e (lentState x)) r (h ∙ ap (λ (y : Run). applied e (stateOf y (x .tally) (x .network))) (parts-whole (x .run) g c v p)) w))
 
 -- ---- an event in numbers
 

@@ -4,4 +4,7 @@ pub mod Laying
 pub mod Calling
 pub mod Stepping
 pub mod Writing
+pub mod ReadBack
+pub mod KeepsTables
+pub mod Demands
 pub mod Promises

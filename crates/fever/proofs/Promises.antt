@@ -1,22 +1,22 @@
--- The promises of specs/Promises.antt, proved. Assumes nothing.
-use mathlib.Core.Path.{_≡_, refl, sym, ap, _∙_, subst}
-use mathlib.Core.Bool.{Bool, true, false, _||_}
+-- The promises of specs/Promises.antt, proved: those of calls in turn, of layouts and of writing are passed on from the files that show them. Assumes nothing.
+pub use Rattle.fever.proofs.Demands.{demand-three-of-library, never-nine, library-is-after, settling-told, every-call-answered, no-event-nothing}
+pub use Rattle.fever.proofs.ReadBack.{run-back, setup-back, event-back, read-event-back, read-setup-back}
+pub use Rattle.fever.proofs.Writing.{bytes-told}
+use mathlib.Core.Path.{_≡_, refl, sym, ap, _∙_}
+use mathlib.Core.Bool.{true, false, _||_}
 use mathlib.Core.Logic.{_≢_}
-use mathlib.Core.List.{List, [], _∷_, _++_, append-assoc}
+use mathlib.Core.List.{List, [], _∷_, _++_}
 use Prim.Native.Nat.{ℕ, _+_, _<_}
 use native.Mathlib.Omega.{arith}
-use lib.Dec.{T, eqb, ltb}
-use lib.ListN.{length, getD, take, drop}
-use lib.Seq.{take-at, drop-at}
+use lib.Dec.{eqb, ltb}
+use lib.ListN.{length, getD, drop}
 use Rattle.base.specs.Choice.{cond-yes, cond-no}
-use Rattle.base.specs.Tests.{by-cond, eq→eqb}
+use Rattle.base.specs.Tests.{fails, by-cond, eq→eqb}
 use Rattle.types.specs.declared.Event.{Event}
 use Rattle.types.specs.declared.Event.the-variants.{Deliver, Sign, Show, Settle, Tick}
-use Rattle.types.specs.declared.Message.the-variants.{View, Vote, Vc, Qc}
 use Rattle.types.specs.declared.Answer.{Answer}
 use Rattle.types.specs.declared.Answer.the-variants.{Done, Stopped, Refused}
 use Rattle.types.specs.declared.Setup.{Setup}
-use Rattle.types.specs.Quantities.{tableClocks}
 use Rattle.types.specs.Messages.{lacksForm}
 use Rattle.model.specs.State.{State, After, checkOf, ticksOf, heldOf, accepted, refused, done}
 use Rattle.model.specs.Opening.{opened, openingChecks, opening}
@@ -26,58 +26,11 @@ use Rattle.liveness.proofs.Judging.{by-judged}
 use Rattle.liveness.proofs.Promises.{ticks-are-time, refused-stays, refused-opening-stays}
 use Rattle.lines.specs.declared.Read.{Read}
 use Rattle.lines.specs.declared.Read.the-variants as Read
-use Rattle.fever.specs.Layout.{setupLength, setupIn, runLength, runIn, neitherSettled, settledAs, timeWord, heldWord, runWords, eventIn}
-use Rattle.fever.specs.Contracts.{Lent, lentOf, stateIn, Called, called, told, openingWords, applyingEvent, applyingRead, applyingWords}
-use Rattle.fever.specs.Promises.{RunBack, SetupBack, EventBack, ReadEventBack, ReadSetupBack, RefusedOpeningKeeps, RefusedKeeps, TicksTold}
-
--- ---- the layouts
-
-settled-back : (b : Bool) → eqb (settledAs b) 1 ≡ b
-settled-back true = refl
-settled-back false = refl
-
-pub run-back : RunBack
-unfolding runIn
-run-back r more c v =
-    let whole : (r .clocks ++ r .views) ++ more ≡ r .clocks ++ (r .views ++ more) = append-assoc (r .clocks) (r .views) more in
-    let clocks : take tableClocks ((r .clocks ++ r .views) ++ more) ≡ r .clocks =
-    ap (take tableClocks) whole ∙ take-at (r .clocks) (r .views ++ more) tableClocks c in
-    let views : take tableClocks (drop tableClocks ((r .clocks ++ r .views) ++ more)) ≡ r .views =
-    ap (λ (l : List ℕ). take tableClocks (drop tableClocks l)) whole
-    ∙ ap (take tableClocks) (drop-at (r .clocks) (r .views ++ more) tableClocks c) ∙ take-at (r .views) more tableClocks v in
-    rw (settled-back (r .settled), clocks, views)
-
-pub setup-back : SetupBack
-unfolding setupIn
-setup-back u more c = rw (take-at (u .clocks) more tableClocks c)
-
-pub event-back : EventBack
-unfolding eventIn
-event-back (Deliver (View w p)) = refl
-event-back (Deliver (Vote w p)) = refl
-event-back (Deliver (Vc w p)) = refl
-event-back (Deliver (Qc w p)) = refl
-event-back (Sign (View w p)) = refl
-event-back (Sign (Vote w p)) = refl
-event-back (Sign (Vc w p)) = refl
-event-back (Sign (Qc w p)) = refl
-event-back (Show (View w p)) = refl
-event-back (Show (Vote w p)) = refl
-event-back (Show (Vc w p)) = refl
-event-back (Show (Qc w p)) = refl
-event-back Settle = refl
-event-back (Tick m) = refl
-
-pub read-event-back : ReadEventBack
-read-event-back e more = event-back e
-
-pub read-setup-back : ReadSetupBack
-read-setup-back x more c = setup-back (x .setup) more c
+use Rattle.fever.specs.Layout.{setupLength, setupIn, runLength, runIn, neitherSettled, timeWord, heldWord, runWords}
+use Rattle.fever.specs.Contracts.{Lent, lentOf, lentState, Called, called, told, openingWords, applyingEvent, applyingRead, applyingWords}
+use Rattle.fever.specs.Promises.{RefusedOpeningKeeps, RefusedKeeps, TicksTold}
 
 -- ---- refused calls
-
-never : {A : Type 0} → true ≡ false → A
-never e = absurd (subst T e tt)
 
 -- an answer with no check is accepted, and one that was stopped did some ticks
 abbrev Sorted : Answer → Type 0
@@ -108,7 +61,7 @@ unfolding after ticksDone
 applied-time e s = omega (arith, ticks-are-time s (e ∷ []))
 
 -- what refused calls tell
-told-same : (x : Lent) (a : After) → accepted (a .answer) ≡ false → a .state ≡ stateIn x → told (x .run) a .lent ≡ x
+told-same : (x : Lent) (a : After) → accepted (a .answer) ≡ false → a .state ≡ lentState x → told (x .run) a .lent ≡ x
 told-same x a n q =
     ap (λ (s : State). lentOf (told (x .run) a .lent .run) (s .tally) (s .network)) q
     ∙ ap (λ (ws : List ℕ). lentOf ws (x .tally) (x .network)) (sym (cond-no _ _ _ _ n refl))
@@ -117,7 +70,7 @@ told-same x a n q =
 told-run : (x : Lent) (a : After) (i : ℕ) → accepted (a .answer) ≡ true → getD (runWords (a .state .run) ++ drop runLength (x .run)) i 0 ≡ getD (told (x .run) a .lent .run) i 0
 told-run x a i y = ap (λ (ws : List ℕ). getD ws i 0) (cond-yes _ _ _ _ y refl)
 
-told-refused : (x : Lent) (a : After) → (accepted (a .answer) ≡ false → a .state ≡ stateIn x) → Sorted (a .answer)
+told-refused : (x : Lent) (a : After) → (accepted (a .answer) ≡ false → a .state ≡ lentState x) → Sorted (a .answer)
     → a .state .run .time ≡ getD (x .run) timeWord 0 + ticksOf (a .answer)
     → told (x .run) a .answer ≢ 0 → getD (told (x .run) a .lent .run) timeWord 0 ≡ getD (x .run) timeWord 0 → told (x .run) a .lent ≡ x
 told-refused x a same sorted gained some' still = go (a .answer) refl sorted
@@ -139,8 +92,8 @@ refused-keeps y x = by-cond Keeps (ltb (length (x .run)) runLength) (called 1 x)
     read : (z : Read) → Keeps (applyingRead z x)
     read (Read.Event e) =
         by-cond Keeps (lacksForm e) (called 1 x) _ (λ t n q. refl) (λ t.
-        by-cond Keeps (neitherSettled (x .run)) (called 9 x) (told (x .run) (applied e (stateIn x))) (λ u n q. refl)
-        (λ u. told-refused x (applied e (stateIn x)) (refused-stays e (stateIn x)) (applied-sorted e (stateIn x)) (applied-time e (stateIn x))))
+        by-cond Keeps (neitherSettled (x .run)) (called 9 x) (told (x .run) (applied e (lentState x))) (λ u n q. refl)
+        (λ u. told-refused x (applied e (lentState x)) (refused-stays e (lentState x)) (applied-sorted e (lentState x)) (applied-time e (lentState x))))
     read Read.Opening = λ n q. refl
     read Read.NoForm = λ n q. refl
 
@@ -154,9 +107,9 @@ pub refused-opening-keeps : RefusedOpeningKeeps
 unfolding openingWords
 refused-opening-keeps setup x =
     by-cond (λ (k : Called). k .answer ≢ 0 → k .lent ≡ x) (ltb (length setup) setupLength || ltb (length (x .run)) runLength) (called 1 x)
-    (told (x .run) (opening (setupIn setup) (stateIn x))) (λ t n. refl)
-    (λ t n. let r = refused-opening (setupIn setup) (stateIn x) n in
-    told-same x (opening (setupIn setup) (stateIn x)) r (refused-opening-stays (setupIn setup) (stateIn x) r))
+    (told (x .run) (opening (setupIn setup) (lentState x))) (λ t n. refl)
+    (λ t n. let r = refused-opening (setupIn setup) (lentState x) n in
+    told-same x (opening (setupIn setup) (lentState x)) r (refused-opening-stays (setupIn setup) (lentState x) r))
 
 -- ---- ticks done and messages held
 
@@ -164,7 +117,7 @@ abbrev Holds : After → Type 0
 Holds a = accepted (a .answer) ≡ true → a .state .run .held ≡ heldOf (a .answer)
 
 ticks-held : (x : Ticks) → accepted (ticksAnswer x) ≡ true → x .state .run .held ≡ heldOf (ticksAnswer x)
-ticks-held x = by-cond (λ (a : Answer). accepted a ≡ true → x .state .run .held ≡ heldOf a) (eqb (x .count) 0) (Refused (x .check)) _ (λ t y. never (sym y))
+ticks-held x = by-cond (λ (a : Answer). accepted a ≡ true → x .state .run .held ≡ heldOf a) (eqb (x .count) 0) (Refused (x .check)) _ (λ t y. absurd (fails true (sym y) tt))
     (λ t. by-cond (λ (a : Answer). accepted a ≡ true → x .state .run .held ≡ heldOf a) (eqb (x .check) 0) (Done (x .count) (x .state .run .held))
     (Stopped (x .count) (x .state .run .held) (x .check)) (λ u y. refl) (λ u y. refl))
 
@@ -178,12 +131,12 @@ effect-held (Tick m) s y = ticks-held (ticks m s) y
 
 applied-held : (e : Event) (s : State) → Holds (applied e s)
 unfolding applied
-applied-held e s = by-judged Holds (refused s) (checks e s) (effect e s) (λ r y. never (sym y)) (λ c. effect-held e s)
+applied-held e s = by-judged Holds (refused s) (checks e s) (effect e s) (λ r y. absurd (fails true (sym y) tt)) (λ c. effect-held e s)
 
 pub ticks-told : TicksTold
 unfolding runIn
 ticks-told e x y =
     record {
-      ticks = sym (told-run x (applied e (stateIn x)) timeWord y) ∙ applied-time e (stateIn x);
-      held = sym (told-run x (applied e (stateIn x)) heldWord y) ∙ applied-held e (stateIn x) y;
+      ticks = sym (told-run x (applied e (lentState x)) timeWord y) ∙ applied-time e (lentState x);
+      held = sym (told-run x (applied e (lentState x)) heldWord y) ∙ applied-held e (lentState x) y;
     }

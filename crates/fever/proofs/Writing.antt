@@ -1,15 +1,17 @@
 -- Lines read into words and written into bytes. Assumes nothing.
 use mathlib.Core.Path.{_≡_, refl, sym, ap, _∙_, subst}
 use mathlib.Core.Bool.{Bool, true}
+use mathlib.Core.Logic.{_⊎_, inl, inr, _≢_}
 use mathlib.Core.List.{List, [], _∷_, _++_}
 use Prim.Native.Nat.{ℕ, _<_, _≤_}
 use native.Mathlib.Omega.{arith}
-use lib.ListN.{length, drop}
+use lib.ListN.{length, drop, length-append}
 use borrow.Author.Tests.{lt-ltb, le-ltb, eq-eqb, ne-eqb}
 use types.Run.{OneOf, miss}
 use denote.Enum.Declared.{tagOf}
 use Rattle.lines.proofs.Read.{the-type}
 use Rattle.base.specs.Choice.{cond-yes, cond-no}
+use Rattle.base.specs.Tests.{eq?, by-cond}
 use Rattle.types.specs.declared.Event.{Event}
 use Rattle.types.specs.declared.Setup.{Setup}
 use Rattle.types.specs.Messages.{lacksForm}
@@ -17,11 +19,13 @@ use Rattle.lines.specs.declared.Read.{Read}
 use Rattle.lines.specs.declared.Read.the-variants as Read
 use Rattle.lines.specs.declared.Reading.{Reading}
 use Rattle.lines.specs.declared.Written.{Written}
-use Rattle.lines.specs.Forms.{eventForm, setupForm, lacksSetupForm}
-use Rattle.lines.specs.Contracts.{readCheck, writtenAs, writtenIn, Writes}
+use Rattle.lines.specs.declared.Written.the-variants.{Bytes, Refused}
+use Rattle.lines.specs.Forms.{newline, eventForm, setupForm, lacksSetupForm}
+use Rattle.lines.specs.Contracts.{readCheck, line, notWritten, writtenAs, writtenIn, Writes, writtenCheck}
 use Rattle.reader.specs.Lines.{reading}
 use Rattle.fever.specs.Layout.{setupLength, setupIn, readingLength, readingWords}
-use Rattle.fever.specs.Contracts.{readingLeft, ReadsWords, bytesOf, WritesLine, WritesEvent, WritesSetup}
+use Rattle.fever.specs.Contracts.{readingLeft, ReadsWords, writtenBy, StandsFor, WritesLine, WritesEvent, WritesSetup}
+use Rattle.fever.specs.Promises.{BytesTell, BytesTold}
 
 -- ---- reading
 
@@ -48,13 +52,49 @@ reads-none line d x l h k =
 
 -- ---- writing
 
+-- what a writer may answer: the bytes of a line, which are some, or check 1
+abbrev Told : List ℕ → Written → Type 0
+Told form (Bytes k) = (k ≡ length (line form)) × (0 < k)
+Told form (Refused c) = c ≡ 1
+
+written-told : (lacks : Bool) (form d : List ℕ) → Told form (writtenAs lacks form d)
+unfolding writtenAs
+written-told lacks form d =
+    let some' : 0 < length (line form) = omega (arith, length-append form (newline ∷ [])) in
+    by-cond (Told form) (notWritten lacks form d) (Refused 1) (Bytes (length (line form))) (λ t. refl) (λ t. (refl, some'))
+
+pub bytes-counted : (x : Written) (k : ℕ) → x ≡ Bytes k → StandsFor k x
+bytes-counted x k e lacks form d w =
+    let t : (k ≡ length (line form)) × (0 < k) = subst (Told form) (sym w ∙ e) (written-told lacks form d) in
+    let some' : k ≡ 0 → ⊥ = λ z. absurd (omega (arith, t .1)) in
+    sym (cond-no _ _ _ _ (ne-eqb k 0 some') e)
+
+pub none-counted : (x : Written) (c : ℕ) → x ≡ Refused c → StandsFor 0 x
+none-counted x c e lacks form d w =
+    let q : c ≡ 1 = subst (Told form) (sym w ∙ e) (written-told lacks form d) in
+    sym (e ∙ ap Refused q)
+
+pub bytes-told : BytesTold
+bytes-told lacks form d r after w = go (eq? r 0)
+  where
+    check : writtenCheck (writtenAs lacks form d) ≡ writtenCheck (writtenBy r)
+    check = sym (ap writtenCheck (w .answer))
+
+    go : (r ≡ 0) ⊎ (r ≢ 0) → BytesTell lacks form d r
+    go (inl z) = inl (check ∙ ap (λ (k : ℕ). writtenCheck (writtenBy k)) z, z)
+    go (inr n) =
+        let by : Bytes r ≡ writtenBy r = cond-no _ _ _ _ (ne-eqb r 0 n) refl in
+        let t : (r ≡ length (line form)) × (0 < r) = subst (Told form) (sym (by ∙ w .answer)) (written-told lacks form d) in
+        inr (check ∙ sym (ap writtenCheck by), t .0, t .1)
+
 -- what lacks a form is not written
 unwritten : (form d : List ℕ) → WritesLine true form d 0 d
 unfolding writtenAs writtenIn
-unwritten form d = record { bytes = refl; text = refl }
+unwritten form d = record { answer = refl; text = refl }
 
-written : (lacks : Bool) (form d : List ℕ) (x : Written) (r : ℕ) (e : List ℕ) → Writes lacks form d x e → r ≡ bytesOf x → WritesLine lacks form d r e
-written lacks form d x r e w q = record { bytes = q ∙ ap bytesOf (w .0); text = w .1 }
+written : (lacks : Bool) (form d : List ℕ) (x : Written) (r : ℕ) (e : List ℕ) → Writes lacks form d x e
+    → StandsFor r x → WritesLine lacks form d r e
+written lacks form d x r e w q = record { answer = q lacks form d (w .0) ∙ w .0; text = w .1 }
 
 pub no-event-written : (y z : Read) (d : List ℕ) → z ≡ y → OneOf (1 ∷ 2 ∷ []) (tagOf the-type z) → WritesEvent y d 0 d
 no-event-written y z d q k = subst (λ (x : Read). WritesEvent x d 0 d) q (go z k)
@@ -64,14 +104,14 @@ no-event-written y z d q k = subst (λ (x : Read). WritesEvent x d 0 d) q (go z 
     go Read.Opening h = unwritten [] d
     go Read.NoForm h = unwritten [] d
 
-pub event-written : (y : Read) (v : Event) (d : List ℕ) (x : Written) (r : ℕ) (e : List ℕ) → y ≡ Read.Event v → Writes (lacksForm v) (eventForm v) d x e → r ≡ bytesOf x
-    → WritesEvent y d r e
+pub event-written : (y : Read) (v : Event) (d : List ℕ) (x : Written) (r : ℕ) (e : List ℕ) → y ≡ Read.Event v → Writes (lacksForm v) (eventForm v) d x e
+    → StandsFor r x → WritesEvent y d r e
 event-written y v d x r e h w q = rw h (written (lacksForm v) (eventForm v) d x r e w q)
 
 pub no-setup-written : (ws d : List ℕ) → length ws < setupLength → WritesSetup ws d 0 d
 no-setup-written ws d l = rw (lt-ltb (length ws) setupLength l) (unwritten (setupForm (setupIn ws)) d)
 
 pub setup-written : (ws : List ℕ) (u : Setup) (d : List ℕ) (x : Written) (r : ℕ) (e : List ℕ) → setupLength ≤ length ws → u ≡ setupIn ws
-    → Writes (lacksSetupForm u) (setupForm u) d x e → r ≡ bytesOf x → WritesSetup ws d r e
+    → Writes (lacksSetupForm u) (setupForm u) d x e → StandsFor r x → WritesSetup ws d r e
 setup-written ws u d x r e l h w q =
     rw (le-ltb (length ws) setupLength l) (written (lacksSetupForm (setupIn ws)) (setupForm (setupIn ws)) d x r e (rw h at w) q)

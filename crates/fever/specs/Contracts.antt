@@ -39,8 +39,8 @@ pub record Lent : Type 0 where
 abbrev pub lentOf : List ℕ → List ℕ → List ℕ → Lent
 lentOf run tally network = record { run = run; tally = tally; network = network }
 
-abbrev pub stateIn : Lent → State
-stateIn x = stateOf (runIn (x .run)) (x .tally) (x .network)
+abbrev pub lentState : Lent → State
+lentState x = stateOf (runIn (x .run)) (x .tally) (x .network)
 
 -- what a call answered, and the words as it left them
 pub record Called : Type 0 where
@@ -62,7 +62,7 @@ told ws a = called (checkOf (a .answer)) (lentOf (runLeft ws (a .answer) (a .sta
 -- `fever_open`: the model's opening of the setup in the first 69 words. The run at hand is not judged: a refusal leaves its words, whatever they are.
 unfoldable pub openingWords : List ℕ → Lent → Called
 openingWords setup x =
-    cond (ltb (length setup) setupLength || ltb (length (x .run)) runLength) (called 1 x) (told (x .run) (opening (setupIn setup) (stateIn x)))
+    cond (ltb (length setup) setupLength || ltb (length (x .run)) runLength) (called 1 x) (told (x .run) (opening (setupIn setup) (lentState x)))
 
 abbrev pub OpensWords : List ℕ → Lent → ℕ → Lent → Type 0
 OpensWords setup before r after = called r after ≡ openingWords setup before
@@ -70,7 +70,7 @@ OpensWords setup before r after = called r after ≡ openingWords setup before
 -- an event, on a run of 137 words: check 1 is of the event alone; a settled word above 1 is of no run, which is check 9
 unfoldable pub applyingEvent : Event → Lent → Called
 applyingEvent e x =
-    cond (lacksForm e) (called 1 x) (cond (neitherSettled (x .run)) (called 9 x) (told (x .run) (applied e (stateIn x))))
+    cond (lacksForm e) (called 1 x) (cond (neitherSettled (x .run)) (called 9 x) (told (x .run) (applied e (lentState x))))
 
 abbrev pub applyingRead : Read → Lent → Called
 applyingRead (Read.Event e) x = applyingEvent e x
@@ -126,14 +126,17 @@ pub record ReadsWords (line before : List ℕ) (r : ℕ) (after : List ℕ) : Ty
   pub check : r ≡ cond (ltb (length before) readingLength) 1 (readCheck (reading line .read))
   pub words : after ≡ cond (ltb (length before) readingLength) before (readingLeft before (reading line))
 
--- the bytes written, or 0
-abbrev pub bytesOf : Written → ℕ
-bytesOf (Bytes k) = k
-bytesOf (Refused r) = 0
+-- what the answer of a function that writes stands for: so many bytes; 0 for check 1, the only one that it makes
+abbrev pub writtenBy : ℕ → Written
+writtenBy r = cond (eqb r 0) (Refused 1) (Bytes r)
+
+-- that r stands for the answer x of a writer
+abbrev pub StandsFor : ℕ → Written → Type 0
+StandsFor r x = (lacks : Bool) (form buffer : List ℕ) → x ≡ writtenAs lacks form buffer → writtenBy r ≡ x
 
 -- that a form, or what lacks one, was written into the lent bytes
 pub record WritesLine (lacks : Bool) (form before : List ℕ) (r : ℕ) (after : List ℕ) : Type 0 where
-  pub bytes : r ≡ bytesOf (writtenAs lacks form before)
+  pub answer : writtenBy r ≡ writtenAs lacks form before
   pub text : after ≡ writtenIn lacks form before
 
 -- `fever_write_event`: the line of the event that four numbers are

@@ -24,11 +24,8 @@ use Rattle.fever.specs.declared.Numbers.{Numbers}
 
 -- ---- a plan: n, Δ, Γ, V, the first four words of a run and of a setup
 
-abbrev pub planOf : ℕ → ℕ → ℕ → ℕ → Plan
-planOf n delta gamma views = record { n = n; delta = delta; gamma = gamma; views = views }
-
 abbrev pub planIn : List ℕ → Plan
-planIn ws = planOf (getD ws 0 0) (getD ws 1 0) (getD ws 2 0) (getD ws 3 0)
+planIn ws = record { n = getD ws 0 0; delta = getD ws 1 0; gamma = getD ws 2 0; views = getD ws 3 0 }
 
 abbrev pub faultyWord : ℕ
 faultyWord = 4
@@ -109,28 +106,32 @@ carried form m =
     cond (eqb form 1) (Read.Event (Deliver m)) (cond (eqb form 2) (Read.Event (Sign m)) (cond (eqb form 3) (Read.Event (Show m)) Read.NoForm))
 
 -- a kind outside 1 to 4 is of no message
-abbrev pub carrying : ℕ → Stored → Read
-carrying form (Holds m) = carried form m
-carrying form Unknown = Read.NoForm
+abbrev pub carriedAs : ℕ → Stored → Read
+carriedAs form (Holds m) = carried form m
+carriedAs form Unknown = Read.NoForm
 
 -- what four numbers are read as: an event, or none; of settle the other three are not read, of tick kind and processor are not
 unfoldable pub eventIn : ℕ → ℕ → ℕ → ℕ → Read
 eventIn form kind view processor =
-    cond (eqb form 4) (Read.Event Settle) (cond (eqb form 5) (Read.Event (Tick view)) (carrying form (storedAs kind view processor)))
+    cond (eqb form 4) (Read.Event Settle) (cond (eqb form 5) (Read.Event (Tick view)) (carriedAs form (storedAs kind view processor)))
 
-abbrev pub numbersOf : ℕ → ℕ → ℕ → ℕ → Numbers
-numbersOf form kind view processor = record { form = form; kind = kind; view = view; processor = processor }
+-- the same with the four numbers as one
+abbrev pub eventAs : Numbers → Read
+eventAs k = eventIn (k .form) (k .kind) (k .view) (k .processor)
+
+abbrev pub fourNumbers : ℕ → ℕ → ℕ → ℕ → Numbers
+fourNumbers form kind view processor = record { form = form; kind = kind; view = view; processor = processor }
 
 abbrev pub messageNumbers : ℕ → Message → Numbers
-messageNumbers form m = numbersOf form (kindOf m) (viewIn m) (processorIn m)
+messageNumbers form m = fourNumbers form (kindOf m) (viewIn m) (processorIn m)
 
 -- and the numbers of an event, 0 where its form has none
 abbrev pub eventNumbers : Event → Numbers
 eventNumbers (Deliver m) = messageNumbers 1 m
 eventNumbers (Sign m) = messageNumbers 2 m
 eventNumbers (Show m) = messageNumbers 3 m
-eventNumbers Settle = numbersOf 4 0 0 0
-eventNumbers (Tick m) = numbersOf 5 0 m 0
+eventNumbers Settle = fourNumbers 4 0 0 0
+eventNumbers (Tick m) = fourNumbers 5 0 m 0
 
 -- ---- what a line is read as: the numbers of its event, or form 6 for an opening; then its setup, 0 everywhere beside an event
 
@@ -139,8 +140,8 @@ readingLength = 73
 
 abbrev pub readNumbers : Read → Numbers
 readNumbers (Read.Event e) = eventNumbers e
-readNumbers Read.Opening = numbersOf 6 0 0 0
-readNumbers Read.NoForm = numbersOf 0 0 0 0
+readNumbers Read.Opening = fourNumbers 6 0 0 0
+readNumbers Read.NoForm = fourNumbers 0 0 0 0
 
 abbrev pub readingWords : Reading → List ℕ
 readingWords x =

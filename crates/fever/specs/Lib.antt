@@ -2,3 +2,4 @@
 pub mod Layout
 pub mod Contracts
 pub mod Promises
+pub mod Examples

@@ -6,7 +6,7 @@ use types::Event;
 use types::Message;
 ghost use mathlib.Core.Path.{_≡_};
 ghost use Rattle.buffers.specs.Kinds.{storedAs};
-ghost use Rattle.fever.specs.Layout.{carried, carrying, eventIn, numbersOf, messageNumbers, eventNumbers, readNumbers};
+ghost use Rattle.fever.specs.Layout.{carried, carriedAs, eventIn, fourNumbers, messageNumbers, eventNumbers, readNumbers};
 
 // The event of a form that carries a message.
 fn carry(form: u64, message: Message) -> Read
@@ -22,7 +22,7 @@ fn carry(form: u64, message: Message) -> Read
 
 // The same with the message in numbers, of which the network's four words make one.
 fn carry_numbers(form: u64, kind: u64, view: u64, processor: u64) -> Read
-    ensures { λ r. ⌜ r ≡ carrying form (storedAs kind view processor) ⌝ }
+    ensures { λ r. ⌜ r ≡ carriedAs form (storedAs kind view processor) ⌝ }
 {
     let stored = [kind, view, processor, 0];
     let Stored::Holds(message) = buffers::decode(&stored, 0) else {
@@ -56,7 +56,7 @@ fn carried_numbers(form: u64, message: Message) -> Numbers
 
 // A form alone, or with a number of ticks.
 fn bare(form: u64, ticks: u64) -> Numbers
-    ensures { λ r. ⌜ r ≡ numbersOf form 0 ticks 0 ⌝ }
+    ensures { λ r. ⌜ r ≡ fourNumbers form 0 ticks 0 ⌝ }
 {
     Numbers {
         form: form,

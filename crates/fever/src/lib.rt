@@ -7,9 +7,9 @@ mod words;
 use lines::Read;
 use lines::Written;
 use types::Plan;
-ghost use mathlib.Core.Path.{_≡_};
-ghost use Rattle.fever.specs.Layout.{planOf, eventIn};
-ghost use Rattle.fever.specs.Contracts.{lentOf, OpensWords, AppliesWords, moveOf, StepsWords, ReadsWords, bytesOf, WritesEvent, WritesSetup};
+ghost use mathlib.Core.List.{[], _∷_};
+ghost use Rattle.fever.specs.Layout.{planIn, eventIn};
+ghost use Rattle.fever.specs.Contracts.{lentOf, OpensWords, AppliesWords, moveOf, StepsWords, ReadsWords, StandsFor, WritesEvent, WritesSetup};
 
 // An event, or a line that is read, in numbers. Form: 1 deliver, 2 sign, 3 show, 4 settle, 5 tick; 6 an opening, 0 none of them.
 pub(crate) struct Numbers {
@@ -78,7 +78,7 @@ pub extern "C" fn fever_step(
     input: u64,
     view: u64,
 ) -> u64
-    ensures { λ r. ⌜ StepsWords (moveOf (planOf n delta gamma views) input view (now (processor .entry))) (now (processor .entry)) r (now (processor .exit)) ⌝ }
+    ensures { λ r. ⌜ StepsWords (moveOf (planIn (n ∷ delta ∷ gamma ∷ views ∷ [])) input view (now (processor .entry))) (now (processor .entry)) r (now (processor .exit)) ⌝ }
 {
     let plan = Plan {
         n: n,
@@ -106,9 +106,9 @@ pub extern "C" fn fever_read_line(line: &[u8], words: &mut [u64]) -> u64
     }
 }
 
-// How many bytes were written; 0 for none.
+// How many bytes a writer says it wrote; 0 for none.
 fn count_bytes(written: Written) -> u64
-    ensures { λ r. ⌜ r ≡ bytesOf written ⌝ }
+    ensures { λ r. ⌜ StandsFor r written ⌝ }
 {
     match written {
         Written::Bytes(k) => k as u64,

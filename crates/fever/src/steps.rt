@@ -1,5 +1,6 @@
 // One event, and one processor's input, on lent words.
 use crate::words;
+use pacemaker::Outcome;
 use types::Event;
 use types::Input;
 use types::Plan;
@@ -9,7 +10,7 @@ use types::Stepped;
 ghost use mathlib.Core.Path.{_≡_};
 ghost use Prim.Native.Nat.{ℕ, _≤_};
 ghost use lib.ListN.{length};
-ghost use Rattle.model.specs.Processors.{messagesOf, stepped};
+ghost use Rattle.model.specs.Processors.{Gives, messagesOf, stepped};
 ghost use Rattle.fever.specs.Layout.{runLength, recordLength, recordIn};
 ghost use Rattle.fever.specs.Contracts.{lentOf, called, applyingEvent, moveOf, StepsWords};
 
@@ -70,12 +71,24 @@ fn record_in(words: &[u64]) -> Processor
     }
 }
 
+// The step of a record, which the pacemaker alters where it stands.
+fn step_own(plan: Plan, processor: Processor, input: Input) -> Outcome
+    ensures { λ r. ⌜ Gives (stepped plan processor input) (r .processor) (r .answer) ⌝ }
+{
+    let mut own = processor;
+    let answer = pacemaker::step_in_place(plan, &mut own, input);
+    Outcome {
+        processor: own,
+        answer: answer,
+    }
+}
+
 // The record takes an input.
 fn take_input(plan: Plan, words: &mut [u64], input: Input) -> u64
     requires { ⌜ recordLength ≤ length (now words) ⌝ }
     ensures { λ r. ⌜ StepsWords (stepped plan (recordIn (now (words .entry))) input) (now (words .entry)) r (now (words .exit)) ⌝ }
 {
-    let outcome = pacemaker::step(plan, record_in(words), input);
+    let outcome = step_own(plan, record_in(words), input);
     let next = outcome.processor;
     let answer = outcome.answer;
     match answer {

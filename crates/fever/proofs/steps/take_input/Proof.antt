@@ -7,13 +7,13 @@ use Rattle.fever.proofs.steps.take_input.Lts as lts
 use Rattle.fever.proofs.steps.count_sent.Reads as count-sent-reads
 use Rattle.fever.proofs.steps.record_in.Reads as record-in-reads
 use Rattle.fever.proofs.words.put_words.Reads as put-words-reads
-use Rattle.pacemaker.proofs.step.Reads as step-reads
+use Rattle.fever.proofs.steps.step_own.Reads as step-own-reads
 
 record-in-requires : tie.Need-record-in-requires
 record-in-requires c κs = c .before .before .pre
 
-step-requires : tie.Need-step-requires
-step-requires c κs = tt
+step-own-requires : tie.Need-step-own-requires
+step-own-requires c κs = tt
 
 enum-known-answer : tie.Need-enum-known-answer
 enum-known-answer c = search needs
@@ -34,20 +34,20 @@ same-length : tie.Need-same-length
 same-length c = search needs
 
 returns : tie.Need-returns
-returns c = takes-sent _ _ _ _ _ _ _ _ _ _ _ (c .before .before .before .before .before .before .before .before .before .before .before .record-in .ensures) (c .before .before .before .before .before .before .before .before .before .before .step .ensures) (c .before .before .before .before .before .before .before .answer .given .1) (c .before .before .before .before .before .count-sent .ensures) (c .before .before .put-words .ensures)
+returns c = takes-sent _ _ _ _ _ _ _ _ _ _ _ (c .before .before .before .before .before .before .before .before .before .before .before .record-in .ensures) (c .before .before .before .before .before .before .before .before .before .before .step-own .ensures) (c .before .before .before .before .before .before .before .answer .given .1) (c .before .before .before .before .before .count-sent .ensures) (c .before .before .put-words .ensures)
 
 same-length-2 : tie.Need-same-length-2
 same-length-2 c = search needs
 
 returns-2 : tie.Need-returns-2
-returns-2 c = takes-refused _ _ _ _ _ _ _ _ (c .before .before .before .before .before .record-in .ensures) (c .before .before .before .before .step .ensures) (c .before .answer2 .given .1)
+returns-2 c = takes-refused _ _ _ _ _ _ _ _ (c .before .before .before .before .before .record-in .ensures) (c .before .before .before .before .step-own .ensures) (c .before .answer2 .given .1)
 
 pub take-input-spec : {M : Type 1} → statement M
 take-input-spec =
     tie.close
     (tie.spec
     record-in-requires
-    step-requires
+    step-own-requires
     enum-known-answer
     count-sent-requires
     slice-aggregate-put-words

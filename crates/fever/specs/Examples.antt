@@ -1,0 +1,157 @@
+-- The library's words computed: document 01's printed schedule and settings as calls, what refused calls leave, and the numbers of events and lines.
+-- Assumes nothing.
+use mathlib.Core.Path.{_≡_, refl}
+use mathlib.Core.List.{List, [], _∷_, _++_, map}
+use Prim.Native.Nat.{ℕ, _+_}
+use lib.ListN.{length, getD, take, drop, replicate}
+use Rattle.types.specs.declared.Event.{Event}
+use Rattle.types.specs.declared.Event.the-variants.{Deliver, Sign, Show, Settle, Tick}
+use Rattle.types.specs.declared.Message.the-variants.{View, Vote, Vc, Qc}
+use Rattle.model.specs.Lists.{sinceSettling, ticksDone, ticksSince}
+use Rattle.model.specs.Rows.{definitions, standard, table, zeroes, setupOf, fieldsOf, Row, agreeing, number, words}
+use Rattle.lines.specs.declared.Read.the-variants as Read
+use Rattle.lines.specs.Contracts.{eventReading, openingReading, noForm, writtenCheck}
+use Rattle.liveness.specs.Promises.{settlingBound}
+use Rattle.liveness.specs.Live as live
+use Rattle.fever.specs.declared.Numbers.{Numbers}
+use Rattle.fever.specs.Layout.{setupIn, setupWords, runIn, timeWord, heldWord, eventIn, eventAs, fourNumbers, eventNumbers}
+use Rattle.fever.specs.Contracts.{Lent, lentOf, lentState, Called, openingWords, applyingEvent, applyingWords, moveOf, recordLeft, messagesTold, readingLeft, writtenBy}
+use Rattle.fever.specs.Promises.{eventsOf}
+
+-- ---- calls
+
+-- so many words lent, none of them 0
+abbrev pub sevens : ℕ → ℕ → ℕ → Lent
+sevens run tally network = lentOf (replicate run 7) (replicate tally 7) (replicate network 7)
+
+-- two words more than a run has, and two more than the tally of 6 views
+abbrev pub enough : Lent
+enough = sevens 139 26 64
+
+-- "(open 4 2 4 6 mask (c0 c1 ..))"
+abbrev pub opensAt : ℕ → List ℕ → List ℕ
+opensAt mask clocks = setupWords (setupOf standard mask clocks)
+
+-- what a call tells: its answer, the time and the messages held
+abbrev pub tells : Called → List ℕ
+tells c = c .answer ∷ getD (c .lent .run) timeWord 0 ∷ getD (c .lent .run) heldWord 0 ∷ []
+
+-- what calls in turn tell
+abbrev pub telling : Called → List Numbers → List (List ℕ)
+telling c [] = tells c ∷ []
+telling c (k ∷ ks) = tells c ∷ telling (applyingWords (eventAs k) (c .lent)) ks
+
+-- all words that a call left
+abbrev pub wordsLeft : Called → List (List ℕ)
+wordsLeft c = (c .answer ∷ []) ∷ c .lent .run ∷ c .lent .tally ∷ c .lent .network ∷ []
+
+-- a call that answers r and leaves every word
+abbrev pub leaves : Lent → ℕ → Called → Row
+leaves x r c = (wordsLeft c, (r ∷ []) ∷ x .run ∷ x .tally ∷ x .network ∷ [])
+
+abbrev pub openedWords : Lent
+openedWords = openingWords (opensAt 0 zeroes) enough .lent
+
+-- the same with another settled word
+abbrev pub oddly : Lent
+oddly = lentOf (take 6 (openedWords .run) ++ (2 ∷ []) ++ drop 7 (openedWords .run)) (openedWords .tally) (openedWords .network)
+
+pub callRows : List Row
+callRows =
+    -- document 01's printed schedule
+    (
+      telling (openingWords (opensAt 0 zeroes) enough) (map eventNumbers (Deliver (View 0 0) ∷ Deliver (View 0 1) ∷ Tick 3 ∷ Settle ∷ Tick 3 ∷ [])),
+      (0 ∷ 0 ∷ 8 ∷ []) ∷ (0 ∷ 0 ∷ 7 ∷ []) ∷ (0 ∷ 0 ∷ 10 ∷ []) ∷ (0 ∷ 3 ∷ 10 ∷ []) ∷ (0 ∷ 3 ∷ 10 ∷ []) ∷ (16 ∷ 5 ∷ 10 ∷ []) ∷ [],
+    )
+    -- the run's words after an opening, settling and two ticks: the clock of the faulty one is 0, what stands behind the 137 words stays
+    ∷ words (applyingWords (Read.Event (Tick 2)) (applyingWords (Read.Event Settle) (openingWords (opensAt 8 (1 ∷ 2 ∷ 3 ∷ 9 ∷ [])) enough .lent) .lent) .lent .run)
+    (4 ∷ 2 ∷ 4 ∷ 6 ∷ 8 ∷ 2 ∷ 1 ∷ 0 ∷ 6 ∷ [] ++ table (3 ∷ 4 ∷ 5 ∷ []) ++ table [] ++ (7 ∷ 7 ∷ []))
+    -- refused calls: a start clock too high; a word too few; no run; numbers that are no event, no such message, 0 ticks; a settled word that is of no run
+    ∷ leaves enough 7 (openingWords (opensAt 0 (12 ∷ 12 ∷ 12 ∷ 12 ∷ [])) enough)
+    ∷ leaves enough 1 (openingWords (take 68 (opensAt 0 zeroes)) enough)
+    ∷ leaves (sevens 136 24 64) 1 (openingWords (opensAt 0 zeroes) (sevens 136 24 64))
+    ∷ leaves (sevens 136 24 64) 1 (applyingWords (Read.Event Settle) (sevens 136 24 64))
+    ∷ leaves enough 9 (applyingWords (Read.Event Settle) enough)
+    ∷ leaves openedWords 1 (applyingWords (eventAs (fourNumbers 6 1 0 0)) openedWords)
+    ∷ leaves openedWords 1 (applyingWords (eventAs (fourNumbers 1 5 0 0)) openedWords)
+    ∷ leaves openedWords 13 (applyingWords (eventAs (fourNumbers 1 4 0 0)) openedWords)
+    ∷ leaves oddly 1 (applyingWords (Read.Event (Tick 0)) oddly)
+    ∷ leaves oddly 9 (applyingWords (Read.Event (Tick 1)) oddly)
+    ∷ []
+
+pub call-rows-hold : agreeing 0 callRows ≡ length callRows
+unfolding callRows openingWords applyingWords applyingEvent setupIn runIn eventIn definitions
+call-rows-hold = refl
+
+-- The settling half of the library's demand 3 speaks of something: the run past the bound of `liveness`, as calls, none of which is refused.
+
+abbrev pub liveOpening : Called
+liveOpening = openingWords (setupWords live.setup) (sevens 137 48 64)
+
+abbrev pub liveCalls : List Numbers
+liveCalls = map eventNumbers live.events
+
+pub live-accepted : map (λ (l : List ℕ). getD l 0 0) (telling liveOpening liveCalls) ≡ replicate (length live.events + 1) 0
+unfolding live.setup live.events openingWords applyingWords applyingEvent setupIn runIn eventIn definitions
+live-accepted = refl
+
+-- one tick more since settling than the bound
+pub live-past : ticksSince (sinceSettling (lentState (liveOpening .lent)) (eventsOf (take 62 liveCalls))) ≡ settlingBound (setupIn (setupWords live.setup)) + 1
+unfolding live.setup live.events openingWords setupIn runIn eventIn eventsOf sinceSettling ticksDone definitions
+live-past = refl
+
+-- ---- one processor
+
+-- the check, the record's words and the messages that they tell
+abbrev pub stepTold : ℕ → ℕ → List ℕ → List (List ℕ)
+stepTold input view ws =
+    let m = moveOf standard input view ws in (m .check ∷ []) ∷ recordLeft ws m ∷ map fieldsOf (messagesTold (recordLeft ws m))
+
+pub stepRows : List Row
+stepRows =
+    -- "View 0, clock 2, quorum certificate 2: view 3, clock 12, two messages."
+    (stepTold 4 2 (1 ∷ 2 ∷ 0 ∷ 7 ∷ 7 ∷ []), (0 ∷ []) ∷ (1 ∷ 12 ∷ 3 ∷ 2 ∷ 7 ∷ []) ∷ (1 ∷ 3 ∷ 1 ∷ []) ∷ (2 ∷ 3 ∷ 1 ∷ []) ∷ [])
+    -- "View 0, clock 6, quorum certificate 0: view 1, clock 6, one message."
+    ∷ (stepTold 4 0 (1 ∷ 6 ∷ 0 ∷ 7 ∷ []), (0 ∷ []) ∷ (1 ∷ 6 ∷ 1 ∷ 1 ∷ []) ∷ (2 ∷ 1 ∷ 1 ∷ []) ∷ [])
+    -- "View 3, view certificate 3: nothing."
+    ∷ (stepTold 3 3 (1 ∷ 12 ∷ 3 ∷ 7 ∷ []), (0 ∷ []) ∷ (1 ∷ 12 ∷ 3 ∷ 0 ∷ []) ∷ [])
+    -- "Quorum certificate 5: check 17.", and the record's words stay
+    ∷ (take 2 (stepTold 4 5 (1 ∷ 2 ∷ 0 ∷ 7 ∷ [])), (17 ∷ []) ∷ (1 ∷ 2 ∷ 0 ∷ 7 ∷ []) ∷ [])
+    -- a view certificate for a view that is not initial, which only a quorum certificate may name
+    ∷ (take 2 (stepTold 3 2 (1 ∷ 2 ∷ 0 ∷ 7 ∷ [])), (11 ∷ []) ∷ (1 ∷ 2 ∷ 0 ∷ 7 ∷ []) ∷ [])
+    -- a tick; an input that is none; a word too few
+    ∷ (stepTold 0 9 (1 ∷ 2 ∷ 0 ∷ 7 ∷ []), (0 ∷ []) ∷ (1 ∷ 3 ∷ 0 ∷ 0 ∷ []) ∷ [])
+    ∷ (take 2 (stepTold 1 0 (1 ∷ 2 ∷ 0 ∷ 7 ∷ [])), (1 ∷ []) ∷ (1 ∷ 2 ∷ 0 ∷ 7 ∷ []) ∷ [])
+    ∷ (take 2 (stepTold 0 0 (1 ∷ 2 ∷ 0 ∷ [])), (1 ∷ []) ∷ (1 ∷ 2 ∷ 0 ∷ []) ∷ [])
+    ∷ []
+
+pub step-rows-hold : agreeing 0 stepRows ≡ length stepRows
+unfolding stepRows moveOf definitions
+step-rows-hold = refl
+
+-- ---- numbers of events and lines
+
+abbrev pub inRow : Numbers → List ℕ
+inRow k = k .form ∷ k .kind ∷ k .view ∷ k .processor ∷ []
+
+pub numberRows : List Row
+numberRows = (
+  map (λ (e : Event). inRow (eventNumbers e)) (
+      Deliver (View 3 1) ∷ Deliver (Vote 4 2) ∷ Deliver (Vc 3 1) ∷ Deliver (Qc 4 2) ∷ Sign (View 3 1) ∷ Sign (Vote 4 2) ∷ Show (Vc 3 1) ∷ Show (Qc 4 2) ∷ Settle
+      ∷ Tick 9 ∷ []),
+  (1 ∷ 1 ∷ 3 ∷ 1 ∷ []) ∷ (1 ∷ 2 ∷ 4 ∷ 2 ∷ []) ∷ (1 ∷ 3 ∷ 3 ∷ 1 ∷ []) ∷ (1 ∷ 4 ∷ 4 ∷ 2 ∷ []) ∷ (2 ∷ 1 ∷ 3 ∷ 1 ∷ []) ∷ (2 ∷ 2 ∷ 4 ∷ 2 ∷ []) ∷ (3 ∷ 3 ∷ 3 ∷ 1 ∷ [])
+      ∷ (3 ∷ 4 ∷ 4 ∷ 2 ∷ []) ∷ (4 ∷ 0 ∷ 0 ∷ 0 ∷ []) ∷ (5 ∷ 0 ∷ 9 ∷ 0 ∷ []) ∷ [],
+)
+    -- a line of an opening, of an event, and one that is none of the forms, in a word more than it takes
+    ∷ words (readingLeft (replicate 74 7) (openingReading (setupOf standard 8 (1 ∷ 2 ∷ 3 ∷ 9 ∷ []))))
+    (6 ∷ 0 ∷ 0 ∷ 0 ∷ 4 ∷ 2 ∷ 4 ∷ 6 ∷ 8 ∷ [] ++ table (1 ∷ 2 ∷ 3 ∷ 9 ∷ []) ++ (7 ∷ []))
+    ∷ words (readingLeft (replicate 74 7) (eventReading (Show (Qc 4 2)))) (3 ∷ 4 ∷ 4 ∷ 2 ∷ 0 ∷ 0 ∷ 0 ∷ 0 ∷ 0 ∷ [] ++ table [] ++ (7 ∷ []))
+    ∷ words (readingLeft (replicate 74 7) noForm) (replicate 74 7)
+    -- what a function that writes answers
+    ∷ number (writtenCheck (writtenBy 0)) 1
+    ∷ number (writtenCheck (writtenBy 9)) 0
+    ∷ []
+
+pub number-rows-hold : agreeing 0 numberRows ≡ length numberRows
+unfolding numberRows
+number-rows-hold = refl

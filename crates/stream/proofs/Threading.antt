@@ -12,8 +12,8 @@ use Rattle.lines.specs.Printout.{printedMost}
 use Rattle.lines.specs.Splitting.{beforeNewline, nextLine}
 use Rattle.printout.specs.declared.Session.{Session}
 use Rattle.printout.specs.declared.Served.{Served}
-use Rattle.printout.specs.Printout.{Standing, standingOf, unopened, tallyLent, networkLent, atStart}
-use Rattle.printout.specs.Contracts.{placeOf, Fed, fed, Begun, Serves}
+use Rattle.printout.specs.Printout.{Standing, standingOf, unopenedSession, tallyLent, networkLent, atStart}
+use Rattle.printout.specs.Contracts.{placeAt, Advance, fed, Begun, Serves}
 use Rattle.printout.proofs.Feeding.{fed-append}
 use Rattle.printout.proofs.Promises.{goes-on}
 use Rattle.driver.specs.Contracts.{KnownReachable}
@@ -30,10 +30,10 @@ leads-none x begun late b = record { state = refl; begins = b }
 pub leads-then : {x y z : Standing} {begun a b : List ℕ} {late late' : Bool} → Leads x begun a y late
     → ((begun' : List ℕ) → Begun late begun' → Leads y begun' b z late') → Leads x begun (a ++ b) z late'
 leads-then {x} {y} {z} {begun} {a} {b} {late} {late'} h g =
-    let F : Fed = fed (placeOf x begun) a in
+    let F : Advance = fed (placeAt x begun) a in
     let u : Leads (F .place .standing) (F .place .begun) b z late' =
     subst (λ (s : Standing). Leads s (F .place .begun) b z late') (h .state) (g (F .place .begun) (h .begins)) in
-    let e : fed (placeOf x begun) (a ++ b) .place ≡ fed (F .place) b .place = ap (λ (f : Fed). f .place) (fed-append (placeOf x begun) a b) in
+    let e : fed (placeAt x begun) (a ++ b) .place ≡ fed (F .place) b .place = ap (λ (f : Advance). f .place) (fed-append (placeAt x begun) a b) in
     record { state = u .state ∙ ap (λ p. p .standing) (sym e); begins = subst (λ p. Begun late' (p .begun)) (sym e) (u .begins) }
 
 -- ---- the lines of the bytes at hand, call by call
@@ -81,7 +81,7 @@ going-threads x late bytes out tally network s passed used g h = record { within
 
 -- ---- read after read
 
-pub reaches-start : (tally network window : List ℕ) (s : Session) → s ≡ unopened → tally ≡ replicate tallyLent 0 → network ≡ replicate networkLent 0
+pub reaches-start : (tally network window : List ℕ) (s : Session) → s ≡ unopenedSession → tally ≡ replicate tallyLent 0 → network ≡ replicate networkLent 0
     → Reaches tally network window (record { session = s; late = false; bytes = 0 })
 unfolding nextLine beforeNewline
 reaches-start tally network window s e t n =
@@ -90,7 +90,7 @@ reaches-start tally network window s e t n =
 -- an open run comes from an accepted opening, since none was open at first
 pub reaches-known : (known : Bool) (tally network window : List ℕ) (r : Progress) → Reaches tally network window r → KnownReachable known (standingOf (r .session) tally network)
 reaches-known known tally network window r h =
-    subst (KnownReachable known) (sym (h .leads .state)) (known-fed known (placeOf atStart []) (h .input) (known-unopened known _ _))
+    subst (KnownReachable known) (sym (h .leads .state)) (known-fed known (placeAt atStart []) (h .input) (known-unopened known _ _))
 
 -- a read leaves the bytes that were not used
 pub reaches-read : (tally network w w' : List ℕ) (r : Progress) → Reaches tally network w r → take (r .bytes) w' ≡ take (r .bytes) w → length w' ≡ length w

@@ -8,13 +8,13 @@ use Rattle.lines.specs.declared.Next.the-variants.{Unfinished}
 use Rattle.lines.specs.Printout.{printedMost}
 use Rattle.lines.specs.Splitting.{nextLine}
 use Rattle.printout.specs.Printout.{Standing, standingOf, atStart}
-use Rattle.printout.specs.Contracts.{placeOf, fed, Begun}
+use Rattle.printout.specs.Contracts.{placeAt, fed, Begun}
 use Rattle.stream.specs.declared.Progress.{Progress}
 
 -- that the bytes s, behind those begun, led from the state x to the state y
 pub record Leads (x : Standing) (begun s : List ℕ) (y : Standing) (late : Bool) : Type 0 where
-  pub state : y ≡ fed (placeOf x begun) s .place .standing
-  pub begins : Begun late (fed (placeOf x begun) s .place .begun)
+  pub state : y ≡ fed (placeAt x begun) s .place .standing
+  pub begins : Begun late (fed (placeAt x begun) s .place .begun)
 
 -- that all lines that end within the bytes were answered, r telling how many bytes they have: whatever was begun, they led to what r holds, and no
 -- line ends in the others

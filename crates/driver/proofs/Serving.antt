@@ -22,8 +22,8 @@ use Rattle.lines.proofs.Splitting.{found}
 use Rattle.lines.proofs.Printing.{answer-length}
 use Rattle.printout.specs.declared.Session.{Session}
 use Rattle.printout.specs.declared.Served.{Served}
-use Rattle.printout.specs.Printout.{Standing, standingOf, Reply, reply, refusing, lineReply, printedLine}
-use Rattle.printout.specs.Contracts.{Place, placeOf, lineEnded, Fed, behind, fed, Begun, Feeds}
+use Rattle.printout.specs.Printout.{Standing, standingOf, Reply, reply, refusedReply, lineReply, printedLine}
+use Rattle.printout.specs.Contracts.{Place, placeAt, lineEnded, Advance, behind, fed, Begun, Feeds}
 use Rattle.driver.specs.Inner.{Put, Passes, Turns}
 use Rattle.printout.proofs.Feeding.{fed-append, within, fed-within, told, fed-line}
 
@@ -63,30 +63,30 @@ put-part {v} {w} {out} {e} {f} {k} {m} a h b =
 
 -- ---- one piece behind another
 
-abbrev fedPut : {x : Standing} {begun s out : List ℕ} {y : Standing} {late : Bool} {k : ℕ} {after : List ℕ} → Feeds x begun s out y late k after → Put (fed (placeOf x begun) s .text) out k after
+abbrev fedPut : {x : Standing} {begun s out : List ℕ} {y : Standing} {late : Bool} {k : ℕ} {after : List ℕ} → Feeds x begun s out y late k after → Put (fed (placeAt x begun) s .text) out k after
 fedPut h = record { bytes = h .bytes; text = h .text }
 
 pub feeds-none : (x : Standing) (begun out : List ℕ) (late : Bool) → Begun late begun → Feeds x begun [] out x late 0 out
 feeds-none x begun out late b = record { state = refl; begins = b; bytes = refl; text = refl }
 
 -- fed from where the first piece led
-feeds-at : (x : Standing) (begun s out : List ℕ) (y : Standing) (late : Bool) (k : ℕ) (after : List ℕ) (f : Fed) → fed (placeOf x begun) s ≡ f
+feeds-at : (x : Standing) (begun s out : List ℕ) (y : Standing) (late : Bool) (k : ℕ) (after : List ℕ) (f : Advance) → fed (placeAt x begun) s ≡ f
     → y ≡ f .place .standing → Begun late (f .place .begun) → Put (f .text) out k after → Feeds x begun s out y late k after
 feeds-at x begun s out y late k after f e q b p =
     record {
-      state = q ∙ ap (λ (z : Fed). z .place .standing) (sym e);
-      begins = subst (λ (z : Fed). Begun late (z .place .begun)) (sym e) b;
-      bytes = p .bytes ∙ ap (λ (z : Fed). length (z .text)) (sym e);
-      text = p .text ∙ ap (λ (z : Fed). z .text ++ drop k out) (sym e);
+      state = q ∙ ap (λ (z : Advance). z .place .standing) (sym e);
+      begins = subst (λ (z : Advance). Begun late (z .place .begun)) (sym e) b;
+      bytes = p .bytes ∙ ap (λ (z : Advance). length (z .text)) (sym e);
+      text = p .text ∙ ap (λ (z : Advance). z .text ++ drop k out) (sym e);
     }
 
 pub feeds-then : {x y z : Standing} {begun a b out e f : List ℕ} {late late' : Bool} {k m : ℕ} → Feeds x begun a out y late k e
     → ((begun' : List ℕ) → Begun late begun' → Feeds y begun' b (drop k e) z late' m f) → Feeds x begun (a ++ b) out z late' (k + m) (take k e ++ f)
 feeds-then {x} {y} {z} {begun} {a} {b} {out} {e} {f} {late} {late'} {k} {m} h g =
-    let F : Fed = fed (placeOf x begun) a in
+    let F : Advance = fed (placeAt x begun) a in
     let u : Feeds (F .place .standing) (F .place .begun) b (drop k e) z late' m f =
     subst (λ (s : Standing). Feeds s (F .place .begun) b (drop k e) z late' m f) (h .state) (g (F .place .begun) (h .begins)) in
-    feeds-at x begun (a ++ b) out z late' (k + m) (take k e ++ f) (behind (F .text) (fed (F .place) b)) (fed-append (placeOf x begun) a b)
+    feeds-at x begun (a ++ b) out z late' (k + m) (take k e ++ f) (behind (F .text) (fed (F .place) b)) (fed-append (placeAt x begun) a b)
     (u .state) (u .begins) (put-then (fedPut h) (fedPut u))
 
 -- ---- one line
@@ -96,18 +96,18 @@ fed-ended : (p : Place) (s : List ℕ) (e : ℕ) → e ≡ beforeNewline s → e
 fed-ended p s e q h = rw (add-one, q) (fed-line p s (subst (λ (k : ℕ). k < length s) q h))
 
 -- a line that is not too long is read
-pub line-read : (x : Standing) (s : List ℕ) → length s ≤ lineMost → lineEnded (placeOf x s) ≡ lineReply s x
+pub line-read : (x : Standing) (s : List ℕ) → length s ≤ lineMost → lineEnded (placeAt x s) ≡ lineReply s x
 line-read x s h = ap (λ (r : Reading). reply r x) (sym (cond-yes _ _ _ _ (le-leb _ _ h) refl))
 
 -- one that is too long fails check 1
-pub line-refused : (x : Standing) (s : List ℕ) → lineMost < length s → lineEnded (placeOf x s) ≡ refusing 1 x
+pub line-refused : (x : Standing) (s : List ℕ) → lineMost < length s → lineEnded (placeAt x s) ≡ refusedReply 1 x
 line-refused x s h = ap (λ (r : Reading). reply r x) (sym (cond-no _ _ _ _ (lt-leb _ _ h) refl))
 
 -- where a line ended, it was answered by r
 feeds-line : (x : Standing) (begun s out : List ℕ) (e : ℕ) (r : Reply) (y : Standing) (k : ℕ) (after : List ℕ) → e ≡ beforeNewline s → e < length s
-    → lineEnded (placeOf x (begun ++ take e s)) ≡ r → y ≡ r .standing → Put (printedLine r) out k after → Feeds x begun (take (e + 1) s) out y false k after
+    → lineEnded (placeAt x (begun ++ take e s)) ≡ r → y ≡ r .standing → Put (printedLine r) out k after → Feeds x begun (take (e + 1) s) out y false k after
 feeds-line x begun s out e r y k after q h l u p =
-    feeds-at x begun (take (e + 1) s) out y false k after (told (placeOf x (begun ++ take e s))) (fed-ended (placeOf x begun) s e q h)
+    feeds-at x begun (take (e + 1) s) out y false k after (told (placeAt x (begun ++ take e s))) (fed-ended (placeAt x begun) s e q h)
     (u ∙ ap (λ (z : Reply). z .standing) (sym l)) refl (subst (λ (z : Reply). Put (printedLine z) out k after) (sym l) p)
 
 -- a line of which nothing was passed over
@@ -126,7 +126,7 @@ pub feeds-late : (x : Standing) (s out : List ℕ) (n : Next) (e k : ℕ) (after
 feeds-late x s out n e k after q p w begun b =
     let f : (e ≡ beforeNewline s) × (e < length s) × (e ≤ lineMost) = found s n (Line e) q p in
     let l : lineMost < length (begun ++ take e s) = omega (arith, length-append begun (take e s), b) in
-    feeds-line x begun s out e (refusing 1 x) x k after (f .0) (f .1) (line-refused x (begun ++ take e s) l) refl w
+    feeds-line x begun s out e (refusedReply 1 x) x k after (f .0) (f .1) (line-refused x (begun ++ take e s) l) refl w
 
 -- a line that is too long by itself
 pub feeds-long : (x : Standing) (s out : List ℕ) (n : Next) (e k : ℕ) (after : List ℕ) (late : Bool) → n ≡ nextLine s → n ≡ Long e
@@ -134,7 +134,7 @@ pub feeds-long : (x : Standing) (s out : List ℕ) (n : Next) (e k : ℕ) (after
 feeds-long x s out n e k after late q p w begun b =
     let f : (e ≡ beforeNewline s) × (e < length s) × (lineMost < e) = found s n (Long e) q p in
     let l : lineMost < length (begun ++ take e s) = omega (arith, length-append begun (take e s), length-take-le e s (omega (arith, f .1)), f .2) in
-    feeds-line x begun s out e (refusing 1 x) x k after (f .0) (f .1) (line-refused x (begun ++ take e s) l) refl w
+    feeds-line x begun s out e (refusedReply 1 x) x k after (f .0) (f .1) (line-refused x (begun ++ take e s) l) refl w
 
 -- bytes of a line that is too long and goes on
 pub feeds-endless : (x : Standing) (s out : List ℕ) (n : Next) (late : Bool) → n ≡ nextLine s → n ≡ Endless
@@ -143,7 +143,7 @@ feeds-endless x s out n late q p begun b =
     let f : (length s ≤ beforeNewline s) × (lineMost < length s) = found s n Endless q p in
     let l : lineMost < length (begun ++ s) = omega (arith, length-append begun s, f .1) in
     subst (λ (z : List ℕ). Feeds x begun z out x true 0 out) (sym (take-all (length s) s (omega arith)))
-    (feeds-at x begun s out x true 0 out (record { place = within (placeOf x begun) s; text = [] }) (fed-within (placeOf x begun) s (f .0)) refl l (put-none out))
+    (feeds-at x begun s out x true 0 out (record { place = within (placeAt x begun) s; text = [] }) (fed-within (placeAt x begun) s (f .0)) refl l (put-none out))
 
 -- ---- turns
 

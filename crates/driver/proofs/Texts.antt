@@ -23,7 +23,7 @@ use Rattle.lines.specs.Splitting.{remainder}
 use Rattle.lines.proofs.Printing.{answer-length, processor-length}
 use Rattle.printout.specs.declared.Session.{Session}
 use Rattle.printout.specs.declared.Served.{Served}
-use Rattle.printout.specs.Printout.{Standing, standingOf, Reply, lineReply, printedLine, processorLines, closing, printed}
+use Rattle.printout.specs.Printout.{Standing, standingOf, Reply, lineReply, printedLine, processorLines, closing, printedFrom}
 use Rattle.printout.specs.Contracts.{Prints, AnswersLine, Begun, closingMost, Closes}
 use Rattle.driver.specs.Inner.{Put, Passes}
 use Rattle.driver.proofs.Serving.{put-none, put-inside, left-over, put-part}
@@ -119,7 +119,7 @@ abbrev pub leftText : Bool → List ℕ
 leftText t = cond t (line (answerForm (Answer.Refused 1))) []
 
 pub closing-text : (s : Session) (tally network begun : List ℕ) (late : Bool) (rest : List ℕ) → Begun late begun
-    → printed (standingOf s tally network) (remainder (begun ++ rest)) ≡ leftText (late || ltb 0 (length rest)) ++ closing s
+    → printedFrom (standingOf s tally network) (remainder (begun ++ rest)) ≡ leftText (late || ltb 0 (length rest)) ++ closing s
 closing-text s tally network [] true rest b = absurd (omega arith)
 closing-text s tally network (c ∷ begun) true rest b = refl
 closing-text s tally network begun false [] b = rw b refl
@@ -171,11 +171,11 @@ closing-fits t out k e words m f p h l q n =
     omega (arith, left-inside t out k e p h l, left-over k e, put-inside words (midOf k (length e - k) e) m f q n)
 
 pub closes-few : (s : Session) (late : Bool) (rest out : List ℕ) → length out < closingMost → Closes s late rest out (Refused 1) out
-closes-few s late rest out h tally network begun b = too-few closingMost (printed (standingOf s tally network) (remainder (begun ++ rest))) out h
+closes-few s late rest out h tally network begun b = too-few closingMost (printedFrom (standingOf s tally network) (remainder (begun ++ rest))) out h
 
 pub closes : (s : Session) (late : Bool) (rest out : List ℕ) (k : ℕ) (e : List ℕ) (m : ℕ) (f : List ℕ) → closingMost ≤ length out
     → Put (leftText (late || ltb 0 (length rest))) out k e → k ≤ length e → Put (closing s) (midOf k (length e - k) e) m f
     → Closes s late rest out (Bytes (k + m)) (putMid k (length e - k) e f)
 closes s late rest out k e m f h p l q tally network begun b =
-    put-prints closingMost (printed (standingOf s tally network) (remainder (begun ++ rest))) out (k + m) (putMid k (length e - k) e f) h
+    put-prints closingMost (printedFrom (standingOf s tally network) (remainder (begun ++ rest))) out (k + m) (putMid k (length e - k) e f) h
     (subst (λ (w : List ℕ). Put w out (k + m) (putMid k (length e - k) e f)) (sym (closing-text s tally network begun late rest b)) (put-part p l q))

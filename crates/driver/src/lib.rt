@@ -14,11 +14,6 @@ ghost use Rattle.printout.specs.Contracts.{AnswersLine, Serves, Closes};
 ghost use Rattle.driver.specs.Contracts.{KnownReachable};
 ghost use Rattle.driver.specs.Inner.{sessionFrom};
 
-// The words that the program lends.
-pub const TALLY_WORDS: usize = 3600;
-
-pub const NETWORK_WORDS: usize = 2048;
-
 // The bytes that the longest answer has.
 pub const PRINTED_MOST: usize = 73;
 

@@ -11,7 +11,7 @@ use Rattle.lines.specs.declared.Read.the-variants as Read
 use Rattle.lines.specs.declared.Reading.{Reading}
 use Rattle.lines.specs.Forms.{EventLine, SetupLine}
 use Rattle.lines.specs.Contracts.{readCheck, Reads}
-use Rattle.lines.specs.Promises.{Formed, Judges}
+use Rattle.lines.specs.Promises.{Formed, OneReading, Judges}
 
 -- a form is not refused
 taken : (s : List ℕ) (r : Reading) → Reads s r → Formed s → readCheck (r .read) ≡ 0
@@ -29,8 +29,7 @@ judges s r h = by (r .read) refl
         let n : readCheck (r .read) ≡ 1 = ap readCheck q in
         inr (n, λ (f : Formed s). let z : readCheck (r .read) ≡ 0 = taken s r h f in omega arith)
 
--- two readings of one line are the same
-pub one-reading : (s : List ℕ) (r r' : Reading) → Reads s r → Reads s r' → r ≡ r'
+pub one-reading : OneReading
 one-reading s r r' h h' = by (r .read) refl
   where
     other : (x : Read) → r' .read ≡ x → r .read ≡ Read.NoForm → r ≡ r'

@@ -15,7 +15,7 @@ use Rattle.types.specs.declared.Event.{Event}
 use Rattle.types.specs.declared.Event.the-variants.{Deliver, Sign, Show, Settle, Tick}
 use Rattle.types.specs.declared.Setup.{Setup}
 use Rattle.lines.specs.Decimal.{digit, digitsIn, decimal}
-use Rattle.lines.specs.Forms.{newline, closeBracket, messageForm, eventForm, furtherClocks, clocksForm, lineClocks, setupForm, EventLine, SetupLine, blank, openBracket, joined, spaced, messageFields, headingNumbers}
+use Rattle.lines.specs.Forms.{newline, closeBracket, messageForm, eventForm, furtherClocks, clocksForm, lineClocks, setupForm, EventLine, SetupLine, oneBlank, openBracket, joined, spaced, messageFields, headingNumbers}
 use Rattle.lines.specs.Contracts.{line}
 use Rattle.lines.specs.Splitting.{beforeNewline, ended, linesAfter, inputLines}
 use Rattle.lines.specs.Promises.{Formed, scheduleOf, CutsBack}
@@ -78,7 +78,7 @@ clean-clocks (c ∷ l) = clean-number c (furtherClocks l) (clean-further l)
 clean-setup : (u : Setup) → T (clean (setupForm u))
 unfolding setupForm
 clean-setup u =
-    clean-spaced (headingNumbers (u .plan) (u .faulty)) (blank ∷ openBracket ∷ clocksForm (lineClocks u) ∷ closeBracket ∷ closeBracket ∷ [])
+    clean-spaced (headingNumbers (u .plan) (u .faulty)) (oneBlank ∷ openBracket ∷ clocksForm (lineClocks u) ∷ closeBracket ∷ closeBracket ∷ [])
     (clean-append (clocksForm (lineClocks u)) (joined (closeBracket ∷ closeBracket ∷ [])) (clean-clocks (lineClocks u)) tt)
 
 clean-form : (s : List ℕ) → Formed s → T (clean s)

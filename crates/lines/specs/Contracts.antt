@@ -72,3 +72,8 @@ Writes lacks form buffer r after = (r ≡ writtenAs lacks form buffer) × (after
 abbrev pub writtenCheck : Written → ℕ
 writtenCheck (Bytes k) = 0
 writtenCheck (Refused r) = r
+
+-- how many bytes were written
+abbrev pub writtenBytes : Written → ℕ
+writtenBytes (Bytes k) = k
+writtenBytes (Refused r) = 0

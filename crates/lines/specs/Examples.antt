@@ -23,8 +23,8 @@ use Rattle.lines.specs.Splitting.{beforeNewline, nextLine, Cut, ended, l
 
 -- ---- forms
 
-pub forms : List (List ℕ)
-forms =
+pub formRows : List (List ℕ)
+formRows =
     eventForm (Deliver (View 0 0))
     ∷ eventForm (Deliver (Vote 12 63))
     ∷ eventForm (Deliver (Vc 3 1))
@@ -70,14 +70,14 @@ formBytes =
     ∷ (40 ∷ 111 ∷ 112 ∷ 101 ∷ 110 ∷ 32 ∷ 49 ∷ 32 ∷ 55 ∷ 32 ∷ 56 ∷ 48 ∷ 32 ∷ 57 ∷ 57 ∷ 57 ∷ 32 ∷ 49 ∷ 32 ∷ 40 ∷ 49 ∷ 48 ∷ 41 ∷ 41 ∷ [])
     ∷ []
 
-pub forms-hold : forms ≡ formBytes
-unfolding forms formBytes eventForm messageForm setupForm decimal
-forms-hold = refl
+pub formRows-hold : formRows ≡ formBytes
+unfolding formRows formBytes eventForm messageForm setupForm decimal
+formRows-hold = refl
 
 -- ---- printed lines
 
-pub printed : List (List ℕ)
-printed =
+pub printedRows : List (List ℕ)
+printedRows =
     answerForm (Answer.Done 0 8)
     ∷ answerForm (Answer.Stopped 2 10 16)
     ∷ answerForm (Answer.Refused 18)
@@ -96,9 +96,9 @@ printedBytes =
     ∷ (40 ∷ 99 ∷ 97 ∷ 98 ∷ 105 ∷ 110 ∷ 101 ∷ 116 ∷ 32 ∷ 54 ∷ 51 ∷ 32 ∷ 53 ∷ 32 ∷ 49 ∷ 56 ∷ 52 ∷ 52 ∷ 54 ∷ 55 ∷ 52 ∷ 52 ∷ 48 ∷ 55 ∷ 51 ∷ 55 ∷ 48 ∷ 57 ∷ 53 ∷ 53 ∷ 49 ∷ 54 ∷ 49 ∷ 53 ∷ 41 ∷ [])
     ∷ []
 
-pub printed-hold : printed ≡ printedBytes
-unfolding printed printedBytes answerForm processorForm decimal
-printed-hold = refl
+pub printedRows-hold : printedRows ≡ printedBytes
+unfolding printedRows printedBytes answerForm processorForm decimal
+printedRows-hold = refl
 
 -- ---- the next line
 
@@ -132,11 +132,11 @@ unfolding cutInputs inputLines
 cutInputs-hold = refl
 
 -- as if every line were "(settle)"
-abbrev pub settles : List ℕ → Reading
-settles s = eventReading Settle
+abbrev pub readSettle : List ℕ → Reading
+readSettle s = eventReading Settle
 
 pub cutReadings : List Reading
-cutReadings = cutRead settles left ∷ cutRead settles (ended (replicate 4800 32)) ∷ cutRead settles (ended (replicate 4801 32)) ∷ []
+cutReadings = cutRead readSettle left ∷ cutRead readSettle (ended (replicate 4800 32)) ∷ cutRead readSettle (ended (replicate 4801 32)) ∷ []
 
 pub cutReadings-hold : cutReadings ≡ (noForm ∷ eventReading Settle ∷ noForm ∷ [])
 unfolding cutReadings
@@ -165,23 +165,23 @@ beyond-n = (refl, refl)
 abbrev pub brackets : List ℕ
 brackets = 40 ∷ 41 ∷ []
 
-pub answers : List Written
-answers = writtenAs false brackets (replicate 4 7) ∷ writtenAs false brackets (replicate 3 7) ∷ writtenAs false brackets (replicate 2 7) ∷ writtenAs true brackets (replicate 4 7) ∷ []
+pub writtenAnswers : List Written
+writtenAnswers = writtenAs false brackets (replicate 4 7) ∷ writtenAs false brackets (replicate 3 7) ∷ writtenAs false brackets (replicate 2 7) ∷ writtenAs true brackets (replicate 4 7) ∷ []
 
-pub answers-hold : answers ≡ (Bytes 3 ∷ Bytes 3 ∷ Refused 1 ∷ Refused 1 ∷ [])
-unfolding answers writtenAs
-answers-hold = refl
+pub writtenAnswers-hold : writtenAnswers ≡ (Bytes 3 ∷ Bytes 3 ∷ Refused 1 ∷ Refused 1 ∷ [])
+unfolding writtenAnswers writtenAs
+writtenAnswers-hold = refl
 
-pub lents : List (List ℕ)
-lents = writtenIn false brackets (replicate 4 7) ∷ writtenIn false brackets (replicate 3 7) ∷ writtenIn false brackets (replicate 2 7) ∷ writtenIn true brackets (replicate 4 7) ∷ []
+pub writtenBuffers : List (List ℕ)
+writtenBuffers = writtenIn false brackets (replicate 4 7) ∷ writtenIn false brackets (replicate 3 7) ∷ writtenIn false brackets (replicate 2 7) ∷ writtenIn true brackets (replicate 4 7) ∷ []
 
-pub lents-hold : lents ≡ ((40 ∷ 41 ∷ 10 ∷ 7 ∷ []) ∷ (40 ∷ 41 ∷ 10 ∷ []) ∷ (7 ∷ 7 ∷ []) ∷ (7 ∷ 7 ∷ 7 ∷ 7 ∷ []) ∷ [])
-unfolding lents writtenIn
-lents-hold = refl
+pub writtenBuffers-hold : writtenBuffers ≡ ((40 ∷ 41 ∷ 10 ∷ 7 ∷ []) ∷ (40 ∷ 41 ∷ 10 ∷ []) ∷ (7 ∷ 7 ∷ []) ∷ (7 ∷ 7 ∷ 7 ∷ 7 ∷ []) ∷ [])
+unfolding writtenBuffers writtenIn
+writtenBuffers-hold = refl
 
 -- document 01's numbers
-pub numbers-hold : map writtenCheck answers ≡ (0 ∷ 0 ∷ 1 ∷ 1 ∷ [])
-unfolding answers writtenAs
+pub numbers-hold : map writtenCheck writtenAnswers ≡ (0 ∷ 0 ∷ 1 ∷ 1 ∷ [])
+unfolding writtenAnswers writtenAs
 numbers-hold = refl
 
 pub checks-hold : map readCheck (Read.Event Settle ∷ Read.Opening ∷ Read.NoForm ∷ []) ≡ (0 ∷ 0 ∷ 1 ∷ [])

@@ -40,8 +40,8 @@ openBracket = openByte ∷ []
 abbrev pub closeBracket : List ℕ
 closeBracket = closeByte ∷ []
 
-abbrev pub blank : List ℕ
-blank = blankByte ∷ []
+abbrev pub oneBlank : List ℕ
+oneBlank = blankByte ∷ []
 
 -- "open"
 abbrev pub openWord : List ℕ
@@ -100,7 +100,7 @@ kindWord (Qc w p) = qcWord
 -- numbers, each behind "one blank"
 abbrev pub spaced : List ℕ → List (List ℕ)
 spaced [] = []
-spaced (n ∷ l) = blank ∷ decimal n ∷ spaced l
+spaced (n ∷ l) = oneBlank ∷ decimal n ∷ spaced l
 
 -- a word and numbers behind it, in brackets
 abbrev pub numbersForm : List ℕ → List ℕ → List ℕ
@@ -115,13 +115,13 @@ unfoldable pub messageForm : Message → List ℕ
 messageForm m = numbersForm (kindWord m) (messageFields m)
 
 -- "(deliver (view w p))" and the like
-abbrev pub carrying : List ℕ → Message → List ℕ
-carrying w m = joined (openBracket ∷ w ∷ blank ∷ messageForm m ∷ closeBracket ∷ [])
+abbrev pub carryingForm : List ℕ → Message → List ℕ
+carryingForm w m = joined (openBracket ∷ w ∷ oneBlank ∷ messageForm m ∷ closeBracket ∷ [])
 
 unfoldable pub eventForm : Event → List ℕ
-eventForm (Deliver m) = carrying deliverWord m
-eventForm (Sign m) = carrying signWord m
-eventForm (Show m) = carrying showWord m
+eventForm (Deliver m) = carryingForm deliverWord m
+eventForm (Sign m) = carryingForm signWord m
+eventForm (Show m) = carryingForm showWord m
 eventForm Settle = joined (openBracket ∷ settleWord ∷ closeBracket ∷ [])
 eventForm (Tick m) = numbersForm tickWord (m ∷ [])
 
@@ -146,7 +146,7 @@ headingNumbers plan faulty = plan .n ∷ plan .delta ∷ plan .gamma ∷ plan .v
 unfoldable pub setupForm : Setup → List ℕ
 setupForm u = joined (
     openBracket ∷ openWord ∷ spaced (headingNumbers (u .plan) (u .faulty))
-    ++ (blank ∷ openBracket ∷ clocksForm (lineClocks u) ∷ closeBracket ∷ closeBracket ∷ []))
+    ++ (oneBlank ∷ openBracket ∷ clocksForm (lineClocks u) ∷ closeBracket ∷ closeBracket ∷ []))
 
 -- ---- what has a form
 

@@ -28,6 +28,10 @@ Formed s = ((e : Event) × EventLine s e) ⊎ ((u : Setup) × SetupLine s u)
 abbrev pub ReadsLines : (List ℕ → Reading) → Type 0
 ReadsLines f = (s : List ℕ) → Reads s (f s)
 
+-- every line is read as one thing
+abbrev pub OneReading : Type 0
+OneReading = (s : List ℕ) (r r' : Reading) → Reads s r → Reads s r' → r ≡ r'
+
 -- check 1: "The line is not one of the forms above", then and only then
 abbrev pub Judges : List ℕ → Reading → Type 0
 Judges s r = ((readCheck (r .read) ≡ 0) × Formed s) ⊎ ((readCheck (r .read) ≡ 1) × (Formed s → ⊥))

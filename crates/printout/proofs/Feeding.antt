@@ -8,8 +8,8 @@ use lib.ListN.{length, take}
 use lib.Dec.{eqb}
 use Rattle.lines.specs.Forms.{newline}
 use Rattle.lines.specs.Splitting.{beforeNewline, ended, linesAfter}
-use Rattle.printout.specs.Printout.{printedLine, printed}
-use Rattle.printout.specs.Contracts.{Place, placeOf, lineEnded, fresh, longer, Fed, behind, fed}
+use Rattle.printout.specs.Printout.{printedLine, printedFrom}
+use Rattle.printout.specs.Contracts.{Place, placeAt, lineEnded, fresh, longer, Advance, behind, fed}
 
 -- one piece and then another
 pub fed-append : (p : Place) (a b : List ℕ) → fed p (a ++ b) ≡ behind (fed p a .text) (fed (fed p a .place) b)
@@ -29,15 +29,15 @@ fed-append p (c ∷ a) b = go (eqb c newline) (fed-append (fresh p) a b) (fed-ap
 
 -- the place behind bytes without a newline
 abbrev pub within : Place → List ℕ → Place
-within p s = placeOf (p .standing) (p .begun ++ s)
+within p s = placeAt (p .standing) (p .begun ++ s)
 
 within-more : (p : Place) (b : ℕ) (s : List ℕ) → within (longer p b) s ≡ within p (b ∷ s)
-within-more p b s = ap (placeOf (p .standing)) (append-assoc (p .begun) (b ∷ []) s)
+within-more p b s = ap (placeAt (p .standing)) (append-assoc (p .begun) (b ∷ []) s)
 
 -- bytes without a newline print nothing
 pub fed-within : (p : Place) (s : List ℕ) → length s ≤ beforeNewline s → fed p s ≡ record { place = within p s; text = [] }
 unfolding beforeNewline
-fed-within p [] = λ h. ap (λ (l : List ℕ). record { place = placeOf (p .standing) l; text = [] }) (sym (append-nil (p .begun)))
+fed-within p [] = λ h. ap (λ (l : List ℕ). record { place = placeAt (p .standing) l; text = [] }) (sym (append-nil (p .begun)))
 fed-within p (b ∷ s) = go (eqb b newline) (fed-within (longer p b) s)
   where
     go : (t : Bool) → (length s ≤ beforeNewline s → fed (longer p b) s ≡ record { place = within (longer p b) s; text = [] })
@@ -47,7 +47,7 @@ fed-within p (b ∷ s) = go (eqb b newline) (fed-within (longer p b) s)
     go false f h = f (omega arith) ∙ ap (λ (q : Place). record { place = q; text = [] }) (within-more p b s)
 
 -- the line begun has ended
-abbrev pub told : Place → Fed
+abbrev pub told : Place → Advance
 told p = record { place = fresh p; text = printedLine (lineEnded p) }
 
 -- those up to the first newline, and it, print the line that it ends
@@ -66,20 +66,20 @@ fed-line p (b ∷ s) = go (eqb b newline) refl (fed-line (longer p b) s)
         → cond t 0 (suc (beforeNewline s)) < suc (length s)
         → fed p (take (suc (cond t 0 (suc (beforeNewline s)))) (b ∷ s))
         ≡ told (within p (take (cond t 0 (suc (beforeNewline s))) (b ∷ s)))
-    go true e f h = rw e (one ∙ ap told (ap (placeOf (p .standing)) (sym (append-nil (p .begun)))))
+    go true e f h = rw e (one ∙ ap told (ap (placeAt (p .standing)) (sym (append-nil (p .begun)))))
     go false e f h = rw e (f (omega arith) ∙ ap told (within-more p b (take (beforeNewline s) s)))
 
 -- what is printed for a whole input is what its pieces print
 pub printed-fed : (p : Place) (s more : List ℕ)
-    → printed (p .standing) (linesAfter (p .begun) (s ++ more)) ≡ fed p s .text ++ printed (fed p s .place .standing) (linesAfter (fed p s .place .begun) more)
+    → printedFrom (p .standing) (linesAfter (p .begun) (s ++ more)) ≡ fed p s .text ++ printedFrom (fed p s .place .standing) (linesAfter (fed p s .place .begun) more)
 printed-fed p [] more = refl
 printed-fed p (b ∷ s) more = go (eqb b newline) (printed-fed (fresh p) s more) (printed-fed (longer p b) s more)
   where
-    go : (t : Bool) → printed (lineEnded p .standing) (linesAfter [] (s ++ more)) ≡ fed (fresh p) s .text ++ printed (fed (fresh p) s .place .standing) (linesAfter (fed (fresh p) s .place .begun) more)
-        → printed (p .standing) (linesAfter (p .begun ++ (b ∷ [])) (s ++ more)) ≡ fed (longer p b) s .text ++ printed (fed (longer p b) s .place .standing) (linesAfter (fed (longer p b) s .place .begun) more)
-        → printed (p .standing) (cond t (ended (p .begun) ∷ linesAfter [] (s ++ more)) (linesAfter (p .begun ++ (b ∷ [])) (s ++ more)))
+    go : (t : Bool) → printedFrom (lineEnded p .standing) (linesAfter [] (s ++ more)) ≡ fed (fresh p) s .text ++ printedFrom (fed (fresh p) s .place .standing) (linesAfter (fed (fresh p) s .place .begun) more)
+        → printedFrom (p .standing) (linesAfter (p .begun ++ (b ∷ [])) (s ++ more)) ≡ fed (longer p b) s .text ++ printedFrom (fed (longer p b) s .place .standing) (linesAfter (fed (longer p b) s .place .begun) more)
+        → printedFrom (p .standing) (cond t (ended (p .begun) ∷ linesAfter [] (s ++ more)) (linesAfter (p .begun ++ (b ∷ [])) (s ++ more)))
         ≡ cond t (behind (printedLine (lineEnded p)) (fed (fresh p) s)) (fed (longer p b) s) .text
-        ++ printed (cond t (behind (printedLine (lineEnded p)) (fed (fresh p) s)) (fed (longer p b) s) .place .standing)
+        ++ printedFrom (cond t (behind (printedLine (lineEnded p)) (fed (fresh p) s)) (fed (longer p b) s) .place .standing)
         (linesAfter (cond t (behind (printedLine (lineEnded p)) (fed (fresh p) s)) (fed (longer p b) s) .place .begun) more)
     go true f g = ap (λ (l : List ℕ). printedLine (lineEnded p) ++ l) f ∙ sym (append-assoc (printedLine (lineEnded p)) (fed (fresh p) s .text) _)
     go false f g = g

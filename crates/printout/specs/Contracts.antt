@@ -16,7 +16,7 @@ use Rattle.lines.specs.Splitting.{ended, remainder, cutRead, lineMost, nextLine
 use Rattle.reader.specs.Lines.{reading}
 use Rattle.printout.specs.declared.Session.{Session}
 use Rattle.printout.specs.declared.Served.{Served}
-use Rattle.printout.specs.Printout.{Standing, standingOf, Reply, reply, lineReply, printedLine, printed}
+use Rattle.printout.specs.Printout.{Standing, standingOf, Reply, reply, lineReply, printedLine, printedFrom}
 
 -- ---- a text printed into lent bytes
 
@@ -43,8 +43,8 @@ pub record Place : Type 0 where
   pub standing : Standing
   pub begun : List ℕ
 
-abbrev pub placeOf : Standing → List ℕ → Place
-placeOf x begun = record { standing = x; begun = begun }
+abbrev pub placeAt : Standing → List ℕ → Place
+placeAt x begun = record { standing = x; begun = begun }
 
 -- the line that ends here
 abbrev pub lineEnded : Place → Reply
@@ -52,21 +52,21 @@ lineEnded p = reply (cutRead reading (ended (p .begun))) (p .standing)
 
 -- behind its newline
 abbrev pub fresh : Place → Place
-fresh p = placeOf (lineEnded p .standing) []
+fresh p = placeAt (lineEnded p .standing) []
 
 -- behind a byte of it
 abbrev pub longer : Place → ℕ → Place
-longer p b = placeOf (p .standing) (p .begun ++ (b ∷ []))
+longer p b = placeAt (p .standing) (p .begun ++ (b ∷ []))
 
 -- where further bytes lead, and what is printed meanwhile
-pub record Fed : Type 0 where
+pub record Advance : Type 0 where
   pub place : Place
   pub text : List ℕ
 
-abbrev pub behind : List ℕ → Fed → Fed
+abbrev pub behind : List ℕ → Advance → Advance
 behind text f = record { place = f .place; text = text ++ f .text }
 
-abbrev pub fed : Place → List ℕ → Fed
+abbrev pub fed : Place → List ℕ → Advance
 fed p [] = record { place = p; text = [] }
 fed p (b ∷ s) = cond (eqb b newline) (behind (printedLine (lineEnded p)) (fed (fresh p) s)) (fed (longer p b) s)
 
@@ -77,10 +77,10 @@ Begun true begun = lineMost < length begun
 
 -- that the bytes s, behind those begun, led from the state x to y, with k bytes printed into `out`
 pub record Feeds (x : Standing) (begun s out : List ℕ) (y : Standing) (late : Bool) (k : ℕ) (after : List ℕ) : Type 0 where
-  pub state : y ≡ fed (placeOf x begun) s .place .standing
-  pub begins : Begun late (fed (placeOf x begun) s .place .begun)
-  pub bytes : k ≡ length (fed (placeOf x begun) s .text)
-  pub text : after ≡ fed (placeOf x begun) s .text ++ drop k out
+  pub state : y ≡ fed (placeAt x begun) s .place .standing
+  pub begins : Begun late (fed (placeAt x begun) s .place .begun)
+  pub bytes : k ≡ length (fed (placeAt x begun) s .text)
+  pub text : after ≡ fed (placeAt x begun) s .text ++ drop k out
 
 -- that as many of the bytes at hand were used as r says, and why no more: the answer to a further line may not have room, or none ends there
 pub record Serves (x : Standing) (late : Bool) (bytes out tally network : List ℕ) (r : Served) (after : List ℕ) : Type 0 where
@@ -99,4 +99,4 @@ closingMost = printedMost + tableClocks * printedMost
 -- that what is left of the input, and the end, were printed: `rest` are the bytes at hand since the last newline
 abbrev pub Closes : Session → Bool → List ℕ → List ℕ → Written → List ℕ → Type 0
 Closes s late rest out r after =
-    (tally network begun : List ℕ) → Begun late begun → Prints closingMost (printed (standingOf s tally network) (remainder (begun ++ rest))) out r after
+    (tally network begun : List ℕ) → Begun late begun → Prints closingMost (printedFrom (standingOf s tally network) (remainder (begun ++ rest))) out r after

@@ -18,12 +18,12 @@ use Rattle.lines.specs.Splitting.{ended, inputLines}
 use Rattle.lines.specs.Promises.{scheduleOf}
 use Rattle.reader.specs.Bytes.{classOf, classAt}
 use Rattle.reader.specs.Scan.{afterWord, numberAt}
-use Rattle.reader.specs.Lines.{headAt, messageAt, endingAt, deliverAt, signAt, showAt, ticksAt, eventAt, headingAt, tableAt, openingAt, reading}
-use Rattle.printout.specs.Printout.{Standing, standingOf, leaving, unopened, atStart, ticksPrinted, printedAnswer, eventReply, openingReply, closing, printed, printout}
+use Rattle.reader.specs.Lines.{kindFoundAt, messageAt, endingAt, deliverAt, signAt, showAt, ticksAt, eventAt, headingAt, tableAt, openingAt, reading}
+use Rattle.printout.specs.Printout.{Standing, standingOf, leaving, unopenedSession, atStart, ticksPrinted, printedAnswer, eventReply, openingReply, closing, printedFrom, printout}
 
 -- names all that has to unfold for a printout to compute
 unfoldable pub printing : ℕ
-unfolding definitions decimal messageForm eventForm setupForm answerForm processorForm inputLines classOf classAt afterWord numberAt headAt messageAt endingAt deliverAt signAt showAt ticksAt eventAt headingAt tableAt openingAt reading ticksPrinted printedAnswer eventReply openingReply closing printout
+unfolding definitions decimal messageForm eventForm setupForm answerForm processorForm inputLines classOf classAt afterWord numberAt kindFoundAt messageAt endingAt deliverAt signAt showAt ticksAt eventAt headingAt tableAt openingAt reading ticksPrinted printedAnswer eventReply openingReply closing printout
 printing = 0
 
 -- ---- "A schedule and its printout"
@@ -76,11 +76,11 @@ schedule-printed = refl
 
 -- what an input prints, beside the answers to its lines and what comes at the end
 abbrev pub row : Standing → List ℕ → List Answer → List (List ℕ) → Row
-row x s answers end = words (printed x (inputLines s)) (scheduleOf (map answerForm answers ++ end))
+row x s answers end = words (printedFrom x (inputLines s)) (scheduleOf (map answerForm answers ++ end))
 
 -- so many tally and network words lent
 abbrev pub lending : ℕ → ℕ → Standing
-lending t w = standingOf unopened (replicate t 0) (replicate w 0)
+lending t w = standingOf unopenedSession (replicate t 0) (replicate w 0)
 
 -- those of 6 views and of 16 messages
 abbrev pub small : Standing
@@ -94,8 +94,8 @@ opens mask c = setupForm (setupOf standard mask (replicate 4 c))
 abbrev pub refusedOpens : List ℕ
 refusedOpens = opens 0 12
 
-abbrev pub events : List Event → List (List ℕ)
-events es = map eventForm es
+abbrev pub eventLines : List Event → List (List ℕ)
+eventLines es = map eventForm es
 
 -- the lines of these processors, all in one view with one clock
 abbrev pub places : List ℕ → ℕ → ℕ → List (List ℕ)
@@ -111,20 +111,20 @@ inputs =
     ∷ row small (newline ∷ []) (Refused 1 ∷ []) []
     ∷ row small (opens 0 0) (Refused 1 ∷ []) []
     -- before an opening, and after one that is refused: no run, so none at the end
-    ∷ row small (scheduleOf (events (Settle ∷ Tick 1 ∷ Tick 0 ∷ Deliver (View 0 0) ∷ []))) (Refused 9 ∷ Refused 9 ∷ Refused 1 ∷ Refused 9 ∷ []) []
-    ∷ row small (scheduleOf (refusedOpens ∷ events (Tick 1 ∷ Settle ∷ []))) (Refused 7 ∷ Refused 9 ∷ Refused 9 ∷ []) []
+    ∷ row small (scheduleOf (eventLines (Settle ∷ Tick 1 ∷ Tick 0 ∷ Deliver (View 0 0) ∷ []))) (Refused 9 ∷ Refused 9 ∷ Refused 1 ∷ Refused 9 ∷ []) []
+    ∷ row small (scheduleOf (refusedOpens ∷ eventLines (Tick 1 ∷ Settle ∷ []))) (Refused 7 ∷ Refused 9 ∷ Refused 9 ∷ []) []
     -- refused lines, then an opening; what is left after the last newline is not done
-    ∷ row small (scheduleOf (eventForm Settle ∷ refusedOpens ∷ opens 0 0 ∷ events (Tick 0 ∷ [])) ++ eventForm (Tick 1))
+    ∷ row small (scheduleOf (eventForm Settle ∷ refusedOpens ∷ opens 0 0 ∷ eventLines (Tick 0 ∷ [])) ++ eventForm (Tick 1))
     (Refused 9 ∷ Refused 7 ∷ Done 0 8 ∷ Refused 1 ∷ Refused 1 ∷ []) (places four 0 0)
     -- an empty line within
-    ∷ row small (scheduleOf (opens 0 0 ∷ [] ∷ events (Tick 1 ∷ []))) (Done 0 8 ∷ Refused 1 ∷ Done 1 8 ∷ []) (places four 0 1)
+    ∷ row small (scheduleOf (opens 0 0 ∷ [] ∷ eventLines (Tick 1 ∷ []))) (Done 0 8 ∷ Refused 1 ∷ Done 1 8 ∷ []) (places four 0 1)
     -- a faulty processor is not among those at the end
     ∷ row small (scheduleOf (opens 4 0 ∷ [])) (Done 0 6 ∷ []) (places (0 ∷ 1 ∷ 3 ∷ []) 0 0)
     -- a refused opening leaves the run going, with its messages
-    ∷ row small (scheduleOf (opens 0 0 ∷ events (Deliver (View 0 0) ∷ Tick 2 ∷ []) ++ (refusedOpens ∷ events (Tick 1 ∷ []))))
+    ∷ row small (scheduleOf (opens 0 0 ∷ eventLines (Deliver (View 0 0) ∷ Tick 2 ∷ []) ++ (refusedOpens ∷ eventLines (Tick 1 ∷ []))))
     (Done 0 8 ∷ Done 0 7 ∷ Done 2 7 ∷ Refused 7 ∷ Done 1 7 ∷ []) (places four 0 3)
     -- an accepted one begins another: unsettled, with other processors and clocks
-    ∷ row small (scheduleOf (opens 0 0 ∷ events (Settle ∷ Tick 2 ∷ []) ++ (opens 8 5 ∷ events (Tick 3 ∷ Settle ∷ []))))
+    ∷ row small (scheduleOf (opens 0 0 ∷ eventLines (Settle ∷ Tick 2 ∷ []) ++ (opens 8 5 ∷ eventLines (Tick 3 ∷ Settle ∷ []))))
     (Done 0 8 ∷ Done 0 8 ∷ Done 2 8 ∷ Done 0 6 ∷ Done 3 6 ∷ Done 0 6 ∷ []) (places (0 ∷ 1 ∷ 2 ∷ []) 0 8)
     ∷ []
 
@@ -137,15 +137,15 @@ inputs-hold = refl
 pub refusals : List Row
 refusals =
     -- by 16, after two ticks and after none; by 17; by 18
-    row small (scheduleOf (opens 0 0 ∷ events (Settle ∷ Tick 5 ∷ Tick 5 ∷ []))) (Done 0 8 ∷ Done 0 8 ∷ Stopped 2 8 16 ∷ Stopped 0 8 16 ∷ []) (places four 0 2)
-    ∷ row small (scheduleOf (opens 0 11 ∷ events (Tick 13 ∷ Tick 1 ∷ []))) (Done 0 8 ∷ Stopped 12 16 17 ∷ Stopped 0 16 17 ∷ []) (places four 3 23)
-    ∷ row small (scheduleOf (opens 0 10 ∷ events (Deliver (View 0 0) ∷ Deliver (View 0 1) ∷ Tick 2 ∷ Tick 2 ∷ [])))
+    row small (scheduleOf (opens 0 0 ∷ eventLines (Settle ∷ Tick 5 ∷ Tick 5 ∷ []))) (Done 0 8 ∷ Done 0 8 ∷ Stopped 2 8 16 ∷ Stopped 0 8 16 ∷ []) (places four 0 2)
+    ∷ row small (scheduleOf (opens 0 11 ∷ eventLines (Tick 13 ∷ Tick 1 ∷ []))) (Done 0 8 ∷ Stopped 12 16 17 ∷ Stopped 0 16 17 ∷ []) (places four 3 23)
+    ∷ row small (scheduleOf (opens 0 10 ∷ eventLines (Deliver (View 0 0) ∷ Deliver (View 0 1) ∷ Tick 2 ∷ Tick 2 ∷ [])))
     (Done 0 8 ∷ Done 0 7 ∷ Done 0 10 ∷ Stopped 1 10 18 ∷ Stopped 0 10 18 ∷ []) (places four 0 11)
     -- only ticks are stopped: other events, refused by 15 and 18
-    ∷ row small (scheduleOf (opens 0 0 ∷ events (Settle ∷ Settle ∷ []))) (Done 0 8 ∷ Done 0 8 ∷ Refused 15 ∷ []) (places four 0 0)
-    ∷ row small (scheduleOf (opens 0 11 ∷ events (Tick 1 ∷ Deliver (Vote 0 0) ∷ Deliver (Vote 0 1) ∷ Deliver (Vote 0 2) ∷ [])))
+    ∷ row small (scheduleOf (opens 0 0 ∷ eventLines (Settle ∷ Settle ∷ []))) (Done 0 8 ∷ Done 0 8 ∷ Refused 15 ∷ []) (places four 0 0)
+    ∷ row small (scheduleOf (opens 0 11 ∷ eventLines (Tick 1 ∷ Deliver (Vote 0 0) ∷ Deliver (Vote 0 1) ∷ Deliver (Vote 0 2) ∷ [])))
     (Done 0 8 ∷ Done 1 16 ∷ Done 0 15 ∷ Done 0 14 ∷ Refused 18 ∷ []) (places four 3 12)
-    ∷ row (lending 24 48) (scheduleOf (opens 8 11 ∷ events (Tick 1 ∷ Deliver (Vote 0 0) ∷ Deliver (Vote 0 1) ∷ Sign (Vote 0 3) ∷ [])))
+    ∷ row (lending 24 48) (scheduleOf (opens 8 11 ∷ eventLines (Tick 1 ∷ Deliver (Vote 0 0) ∷ Deliver (Vote 0 1) ∷ Sign (Vote 0 3) ∷ [])))
     (Done 0 6 ∷ Done 1 12 ∷ Done 0 11 ∷ Done 0 10 ∷ Refused 18 ∷ []) (places (0 ∷ 1 ∷ 2 ∷ []) 3 12)
     ∷ []
 
@@ -163,22 +163,22 @@ lastFormed = handedIn standard 0 5 false 0 1 (replicate 4 5) zeroes (replicate 2
 abbrev pub wordsMissing : State
 wordsMissing = handedIn standard 0 5 false 0 2 (replicate 4 5) zeroes [] (1 ∷ 0 ∷ 0 ∷ 0 ∷ [])
 
-pub handed : List Row
-handed =
+pub handedRuns : List Row
+handedRuns =
     -- certificates, refused by 17; ticks, by another check
-    row (leaving true lastFormed) (scheduleOf (events (Deliver (Qc 5 0) ∷ Show (Qc 5 1) ∷ []))) (Refused 17 ∷ Refused 17 ∷ []) (places four 0 5)
-    ∷ row (leaving true wordsMissing) (scheduleOf (events (Tick 1 ∷ []))) (Refused 9 ∷ []) (places four 0 5)
+    row (leaving true lastFormed) (scheduleOf (eventLines (Deliver (Qc 5 0) ∷ Show (Qc 5 1) ∷ []))) (Refused 17 ∷ Refused 17 ∷ []) (places four 0 5)
+    ∷ row (leaving true wordsMissing) (scheduleOf (eventLines (Tick 1 ∷ []))) (Refused 9 ∷ []) (places four 0 5)
     -- a run that is not open gets no event, no refused opening opens it, and it is not printed
-    ∷ row (leaving false lastFormed) (scheduleOf (eventForm (Tick 1) ∷ refusedOpens ∷ events (Tick 1 ∷ []))) (Refused 9 ∷ Refused 7 ∷ Refused 9 ∷ []) []
-    ∷ row (leaving false lastFormed) (scheduleOf (opens 0 1 ∷ events (Tick 1 ∷ []))) (Done 0 8 ∷ Done 1 8 ∷ []) (places four 0 2)
+    ∷ row (leaving false lastFormed) (scheduleOf (eventForm (Tick 1) ∷ refusedOpens ∷ eventLines (Tick 1 ∷ []))) (Refused 9 ∷ Refused 7 ∷ Refused 9 ∷ []) []
+    ∷ row (leaving false lastFormed) (scheduleOf (opens 0 1 ∷ eventLines (Tick 1 ∷ []))) (Done 0 8 ∷ Done 1 8 ∷ []) (places four 0 2)
     -- a line of more than 4,800 bytes
-    ∷ words (printed (leaving true lastFormed) (ended (replicate 4801 32) ∷ ended (eventForm (Tick 1)) ∷ []))
+    ∷ words (printedFrom (leaving true lastFormed) (ended (replicate 4801 32) ∷ ended (eventForm (Tick 1)) ∷ []))
     (scheduleOf (map answerForm (Refused 1 ∷ Done 1 1 ∷ []) ++ places four 0 6))
     ∷ []
 
-pub handed-hold : agreeing 0 handed ≡ length handed
-unfolding handed printing
-handed-hold = refl
+pub handedRuns-hold : agreeing 0 handedRuns ≡ length handedRuns
+unfolding handedRuns printing
+handedRuns-hold = refl
 
 -- n processors, of those below 63 none correct
 abbrev pub highest : ℕ → State
@@ -194,8 +194,8 @@ ends-hold = refl
 
 -- ---- "lends 3,600 ledger words and 2,048 post words"
 
-pub lents : List Row
-lents =
+pub lentWords : List Row
+lentWords =
     number (length (atStart .tally)) 3600
     ∷ number (length (atStart .network)) 2048
     -- words for 900 views, not for 903
@@ -203,6 +203,6 @@ lents =
     (Done 0 8 ∷ Refused 6 ∷ []) (places four 0 0)
     ∷ []
 
-pub lents-hold : agreeing 0 lents ≡ length lents
-unfolding lents printing
-lents-hold = refl
+pub lentWords-hold : agreeing 0 lentWords ≡ length lentWords
+unfolding lentWords printing
+lentWords-hold = refl

@@ -35,16 +35,16 @@ abbrev pub standingOf : Session → List ℕ → List ℕ → Standing
 standingOf session tally network = record { session = session; tally = tally; network = network }
 
 -- what the simulator is given of it
-abbrev pub stateIn : Standing → State
-stateIn x = stateOf (x .session .run) (x .tally) (x .network)
+abbrev pub standingState : Standing → State
+standingState x = stateOf (x .session .run) (x .tally) (x .network)
 
 -- what the simulator left, in a run that is open or not
 abbrev pub leaving : Bool → State → Standing
 leaving opened s = standingOf (record { opened = opened; run = s .run }) (s .tally) (s .network)
 
 -- before an accepted opening there is no run: 0 everywhere stands for it
-abbrev pub unopened : Session
-unopened = record { opened = false; run = runOf (noSetup .plan) 0 0 false 0 0 (replicate tableClocks 0) (replicate tableClocks 0) }
+abbrev pub unopenedSession : Session
+unopenedSession = record { opened = false; run = runOf (noSetup .plan) 0 0 false 0 0 (replicate tableClocks 0) (replicate tableClocks 0) }
 
 -- "lends 3,600 ledger words and 2,048 post words"
 abbrev pub tallyLent : ℕ
@@ -54,7 +54,7 @@ abbrev pub networkLent : ℕ
 networkLent = 2048
 
 abbrev pub atStart : Standing
-atStart = standingOf unopened (replicate tallyLent 0) (replicate networkLent 0)
+atStart = standingOf unopenedSession (replicate tallyLent 0) (replicate networkLent 0)
 
 -- ---- a line
 
@@ -63,8 +63,8 @@ pub record Reply : Type 0 where
   pub standing : Standing
   pub answer : Answer
 
-abbrev pub refusing : ℕ → Standing → Reply
-refusing r x = record { standing = x; answer = Refused r }
+abbrev pub refusedReply : ℕ → Standing → Reply
+refusedReply r x = record { standing = x; answer = Refused r }
 
 -- "ticks ended by check 16, 17 or 18"
 abbrev pub endsTicks : ℕ → Bool
@@ -87,8 +87,8 @@ printedAnswer (Tick m) h a = ticksPrinted h a
 -- "Before an accepted opening an event gets 9."
 unfoldable pub eventReply : Event → Standing → Reply
 eventReply e x =
-    let a = applied e (stateIn x) in
-    cond (x .session .opened) (record { standing = leaving true (a .state); answer = printedAnswer e (a .state .run .held) (a .answer) }) (refusing 9 x)
+    let a = applied e (standingState x) in
+    cond (x .session .opened) (record { standing = leaving true (a .state); answer = printedAnswer e (a .state .run .held) (a .answer) }) (refusedReply 9 x)
 
 -- whether a run is open after an opening with such an answer
 abbrev pub staysOpen : Bool → Answer → Bool
@@ -97,13 +97,13 @@ staysOpen opened a = opened || accepted a
 -- "A later accepted opening begins a new run in place of the old; a refused one leaves the old run going."
 unfoldable pub openingReply : Setup → Standing → Reply
 openingReply u x =
-    let a = opening u (stateIn x) in record { standing = leaving (staysOpen (x .session .opened) (a .answer)) (a .state); answer = a .answer }
+    let a = opening u (standingState x) in record { standing = leaving (staysOpen (x .session .opened) (a .answer)) (a .state); answer = a .answer }
 
 -- an event, an opening, or none of the forms
 abbrev pub readReply : Read → Setup → Standing → Reply
 readReply (Read.Event e) u x = eventReply e x
 readReply Read.Opening u x = openingReply u x
-readReply Read.NoForm u x = refusing 1 x
+readReply Read.NoForm u x = refusedReply 1 x
 
 abbrev pub reply : Reading → Standing → Reply
 reply r x = readReply (r .read) (r .setup) x
@@ -130,10 +130,10 @@ closing s = cond (s .opened) (processorLines (s .run) tableClocks) []
 -- ---- a whole input
 
 -- what is printed for its lines, and at the end
-abbrev pub printed : Standing → List Cut → List ℕ
-printed x [] = closing (x .session)
-printed x (c ∷ cs) = let r = reply (cutRead reading c) x in printedLine r ++ printed (r .standing) cs
+abbrev pub printedFrom : Standing → List Cut → List ℕ
+printedFrom x [] = closing (x .session)
+printedFrom x (c ∷ cs) = let r = reply (cutRead reading c) x in printedLine r ++ printedFrom (r .standing) cs
 
 -- "The bench program reads lines from standard input .. Per line it prints .."
 unfoldable pub printout : List ℕ → List ℕ
-printout s = printed atStart (inputLines s)
+printout s = printedFrom atStart (inputLines s)

@@ -7,7 +7,7 @@ use Prim.Native.Nat.{ℕ, _≤_}
 use lib.ListN.{length, take, drop}
 use Rattle.lines.specs.declared.Next.the-variants.{Unfinished}
 use Rattle.lines.specs.declared.Written.{Written}
-use Rattle.lines.specs.declared.Written.the-variants.{Bytes, Refused}
+use Rattle.lines.specs.Contracts.{writtenBytes}
 use Rattle.lines.specs.Printout.{printedMost}
 use Rattle.lines.specs.Splitting.{nextLine}
 use Rattle.printout.specs.declared.Served.{Served}
@@ -37,13 +37,9 @@ Course x late input (c ∷ cs) e =
     ((more : List ℕ) × (input ≡ c .bytes ++ more)) × Serves x late (c .bytes) (c .out) (c .tally) (c .network) (c .served) (c .after)
     × Course (standingOf (c .served .session) (c .tally) (c .network)) (c .served .late) (drop (c .served .used) input) cs e
 
-abbrev pub bytesIn : Written → ℕ
-bytesIn (Bytes k) = k
-bytesIn (Refused r) = 0
-
 -- what they printed
 abbrev pub written : List Call → End → List ℕ
-written [] e = take (bytesIn (e .answer)) (e .after)
+written [] e = take (writtenBytes (e .answer)) (e .after)
 written (c ∷ cs) e = take (c .served .printed) (c .after) ++ written cs e
 
 abbrev pub PrintsWhole : Type 0

@@ -2,7 +2,7 @@
 use types::Plan;
 use types::Run;
 ghost use mathlib.Core.Path.{_≡_};
-ghost use Rattle.printout.specs.Printout.{unopened};
+ghost use Rattle.printout.specs.Printout.{unopenedSession};
 
 // The state of the program but for the lent buffers: whether a run is open, and the run.
 pub struct Session {
@@ -13,7 +13,7 @@ pub struct Session {
 impl Session {
     // Before the first opening.
     pub fn unopened() -> Session
-        ensures { λ r. ⌜ r ≡ unopened ⌝ }
+        ensures { λ r. ⌜ r ≡ unopenedSession ⌝ }
     {
         Session {
             opened: false,

@@ -16,7 +16,7 @@ use Rattle.lines.specs.declared.Read.{Read}
 use Rattle.lines.specs.declared.Read.the-variants as Read
 use Rattle.lines.specs.declared.Read.the-variants.{NoForm}
 use Rattle.lines.specs.Decimal.{decimal}
-use Rattle.lines.specs.Forms.{openBracket, closeBracket, blank, deliverWord, signWord, showWord, settleWord, tickWord, openWord, messageForm, carrying, eventForm, eventFields, Below, EventLine}
+use Rattle.lines.specs.Forms.{openBracket, closeBracket, oneBlank, deliverWord, signWord, showWord, settleWord, tickWord, openWord, messageForm, carryingForm, eventForm, eventFields, Below, EventLine}
 use Rattle.reader.specs.declared.Said.{Said}
 use Rattle.reader.specs.declared.Said.the-variants.{Told, NoMessage}
 use Rattle.reader.specs.Scan.{Part, word, field, fields, starts}
@@ -46,7 +46,7 @@ ending-only s at e b f =
     }))
     (λ _. tt)) tt
 
-carrying-only : (s : List ℕ) (at : ℕ) (w : List ℕ) (make : Message → Event) → ((m : Message) → eventForm (make m) ≡ carrying w m)
+carrying-only : (s : List ℕ) (at : ℕ) (w : List ℕ) (make : Message → Event) → ((m : Message) → eventForm (make m) ≡ carryingForm w m)
     → ((m : Message) → PairBelow m → Below (eventFields (make m)))
     → s ≡ openBracket ++ (w ++ drop at s) → EventRead s (endingSaid s make (messageAt s at))
 carrying-only s at w make forms belows h = go (messageAt s at) (message-only s at)
@@ -55,12 +55,12 @@ carrying-only s at w make forms belows h = go (messageAt s at) (message-only s a
     go (Told m k) t =
         ending-only s k (make m) (belows m (t .1))
         (λ (c : drop k s ≡ closeBracket).
-        h ∙ ap (λ (r : List ℕ). openBracket ++ (w ++ r)) (t .0 ∙ ap (λ (r : List ℕ). blank ++ (messageForm m ++ r)) c) ∙ sym (forms m))
+        h ∙ ap (λ (r : List ℕ). openBracket ++ (w ++ r)) (t .0 ∙ ap (λ (r : List ℕ). oneBlank ++ (messageForm m ++ r)) c) ∙ sym (forms m))
     go NoMessage t = tt
 
 -- " m"
 abbrev tickParts : List Part
-tickParts = word blank ∷ field ∷ []
+tickParts = word oneBlank ∷ field ∷ []
 
 ticks-only : (s : List ℕ) (at : ℕ) → s ≡ openBracket ++ (tickWord ++ drop at s) → EventRead s (ticksAt s at)
 unfolding ticksAt eventForm
@@ -73,7 +73,7 @@ ticks-only s at h = by-parts (EventRead s) tickParts s at (endingTicks s) ticked
         ending-only s k (Tick m) (subst Below l (t .below))
         (λ (c : drop k s ≡ closeBracket).
         h ∙ ap (λ (r : List ℕ). openBracket ++ (tickWord ++ r)) (t .bytes ∙ ap (λ (x : List ℕ). filled tickParts x (drop k s)) l
-        ∙ ap (λ (r : List ℕ). blank ++ (decimal m ++ r)) c))
+        ∙ ap (λ (r : List ℕ). oneBlank ++ (decimal m ++ r)) c))
 
 -- behind the first bracket
 pub event-only : (s : List ℕ) (at : ℕ) → s ≡ openBracket ++ drop at s → EventRead s (eventAt s at)
@@ -97,22 +97,22 @@ ending-there s at e h f =
     word-there (λ (x : Read). x ≡ Read.Event e) s at closeBracket _ NoForm [] h
     (λ k l. rw (eq-eqb k (length s) (left-none s k l), f))
 
-carrying-there : (s : List ℕ) (at : ℕ) (make : Message → Event) (m : Message) → Left s at (blank ++ (messageForm m ++ closeBracket)) → PairBelow m
+carrying-there : (s : List ℕ) (at : ℕ) (make : Message → Event) (m : Message) → Left s at (oneBlank ++ (messageForm m ++ closeBracket)) → PairBelow m
     → lacksForm (make m) ≡ false → endingSaid s make (messageAt s at) ≡ Read.Event (make m)
 carrying-there s at make m h b f = message-there (λ (x : Read). x ≡ Read.Event (make m)) s at (endingSaid s make) m closeBracket h b (λ k l. ending-there s k (make m) l f)
 
-ticks-there : (s : List ℕ) (at m : ℕ) → Left s at (blank ++ (decimal m ++ closeBracket)) → Below (m ∷ []) → lacksForm (Tick m) ≡ false → ticksAt s at ≡ Read.Event (Tick m)
+ticks-there : (s : List ℕ) (at m : ℕ) → Left s at (oneBlank ++ (decimal m ++ closeBracket)) → Below (m ∷ []) → lacksForm (Tick m) ≡ false → ticksAt s at ≡ Read.Event (Tick m)
 unfolding ticksAt
 ticks-there s at m h b f =
     parts-there (λ (x : Read). x ≡ Read.Event (Tick m)) tickParts s at (endingTicks s) (m ∷ []) closeBracket h refl b tt (λ k l. ending-there s k (Tick m) l f)
 
 -- the bytes of the form behind its first bracket
 abbrev pub inside : Event → List ℕ
-inside (Deliver m) = deliverWord ++ (blank ++ (messageForm m ++ closeBracket))
-inside (Sign m) = signWord ++ (blank ++ (messageForm m ++ closeBracket))
-inside (Show m) = showWord ++ (blank ++ (messageForm m ++ closeBracket))
+inside (Deliver m) = deliverWord ++ (oneBlank ++ (messageForm m ++ closeBracket))
+inside (Sign m) = signWord ++ (oneBlank ++ (messageForm m ++ closeBracket))
+inside (Show m) = showWord ++ (oneBlank ++ (messageForm m ++ closeBracket))
 inside Settle = settleWord ++ closeBracket
-inside (Tick m) = tickWord ++ (blank ++ (decimal m ++ closeBracket))
+inside (Tick m) = tickWord ++ (oneBlank ++ (decimal m ++ closeBracket))
 
 pub inside-form : (e : Event) → eventForm e ≡ openBracket ++ inside e
 unfolding eventForm

@@ -17,7 +17,7 @@ use Rattle.types.specs.declared.Event.the-variants.{Deliver, Sign, Show, Settle
 use Rattle.types.specs.declared.Setup.{Setup}
 use Rattle.types.specs.Quantities.{nMost}
 use Rattle.lines.specs.Decimal.{decimal}
-use Rattle.lines.specs.Forms.{openBracket, closeBracket, blank, furtherClocks, clocksForm, lineClocks, headingNumbers, messageForm, eventForm, setupForm, lacksSetupForm}
+use Rattle.lines.specs.Forms.{openBracket, closeBracket, oneBlank, furtherClocks, clocksForm, lineClocks, headingNumbers, messageForm, eventForm, setupForm, lacksSetupForm}
 use Rattle.lines.specs.Promises.{formMost}
 use Rattle.lines.proofs.Decimals.{length-small, length-large, length-most}
 use Rattle.reader.specs.Scan.{Part, word, field}
@@ -76,7 +76,7 @@ unfolding setupForm
 setup-length u f =
     let h : u .plan .n ≤ nMost = ltb-false nMost (u .plan .n) (or-parts (eqb (u .plan .n) 0) (ltb nMost (u .plan .n)) f .1) in
     let clocks : List ℕ = clocksForm (lineClocks u) in
-    let table : List ℕ = blank ++ (openBracket ++ (clocks ++ (closeBracket ++ closeBracket))) in
+    let table : List ℕ = oneBlank ++ (openBracket ++ (clocks ++ (closeBracket ++ closeBracket))) in
     let others : List Part = drop 2 headingParts in
     let numbers : List ℕ = drop 1 (headingNumbers (u .plan) (u .faulty)) in
     let c : length (lineClocks u) ≤ nMost = omega (arith, length-take (u .plan .n) (u .clocks)) in

@@ -6,15 +6,15 @@ use lib.ListN.{drop, getD}
 use Rattle.types.specs.declared.Message.{Message}
 use Rattle.types.specs.declared.Message.the-variants.{View, Vote, Vc, Qc}
 use Rattle.lines.specs.Decimal.{decimal}
-use Rattle.lines.specs.Forms.{openBracket, closeBracket, blank, viewWord, voteWord, vcWord, qcWord, messageFields, messageForm, Below}
+use Rattle.lines.specs.Forms.{openBracket, closeBracket, oneBlank, viewWord, voteWord, vcWord, qcWord, messageFields, messageForm, Below}
 use Rattle.reader.specs.declared.Kind.{Kind}
 use Rattle.reader.specs.declared.Kind.the-variants as Kind
-use Rattle.reader.specs.declared.Head.{Head}
-use Rattle.reader.specs.declared.Head.the-variants.{Is, NoKind}
+use Rattle.reader.specs.declared.KindFound.{KindFound}
+use Rattle.reader.specs.declared.KindFound.the-variants.{Is, NoKind}
 use Rattle.reader.specs.declared.Said.{Said}
 use Rattle.reader.specs.declared.Said.the-variants.{Told, NoMessage}
 use Rattle.reader.specs.Scan.{fields}
-use Rattle.reader.specs.Lines.{headAt, messageOf, pairParts, saidFields, saidHead, messageAt}
+use Rattle.reader.specs.Lines.{kindFoundAt, messageOf, pairParts, saidFields, saidKind, messageAt}
 use Rattle.reader.proofs.Words.{Left, by-word, word-there, word-away}
 use Rattle.reader.proofs.Templates.{filled, Taken, by-parts, parts-there, picked-all}
 
@@ -26,10 +26,10 @@ wordOf Kind.Vote = voteWord
 wordOf Kind.Vc = vcWord
 wordOf Kind.Qc = qcWord
 
-pair-form : (w p : ℕ) (r : List ℕ) → blank ++ (decimal w ++ (blank ++ (decimal p ++ closeBracket))) ++ r ≡ filled pairParts (w ∷ p ∷ []) r
+pair-form : (w p : ℕ) (r : List ℕ) → oneBlank ++ (decimal w ++ (oneBlank ++ (decimal p ++ closeBracket))) ++ r ≡ filled pairParts (w ∷ p ∷ []) r
 pair-form w p r =
-    ap (λ (l : List ℕ). blank ++ l) (append-assoc (decimal w) (blank ++ (decimal p ++ closeBracket)) r
-    ∙ ap (λ (l : List ℕ). decimal w ++ (blank ++ l)) (append-assoc (decimal p) closeBracket r))
+    ap (λ (l : List ℕ). oneBlank ++ l) (append-assoc (decimal w) (oneBlank ++ (decimal p ++ closeBracket)) r
+    ∙ ap (λ (l : List ℕ). decimal w ++ (oneBlank ++ l)) (append-assoc (decimal p) closeBracket r))
 
 message-form : (k : Kind) (w p : ℕ) (r : List ℕ) → messageForm (messageOf k w p) ++ r ≡ openBracket ++ (wordOf k ++ filled pairParts (w ∷ p ∷ []) r)
 unfolding messageForm
@@ -50,25 +50,25 @@ pair-of Kind.Qc w p b = b
 
 -- ---- what is read is it
 
-abbrev Headed : List ℕ → ℕ → Head → Type 0
-Headed s at (Is k a) = drop at s ≡ wordOf k ++ drop a s
-Headed s at NoKind = Unit {0}
+abbrev Kinded : List ℕ → ℕ → KindFound → Type 0
+Kinded s at (Is k a) = drop at s ≡ wordOf k ++ drop a s
+Kinded s at NoKind = Unit {0}
 
-head-only : (s : List ℕ) (at : ℕ) → Headed s at (headAt s at)
-unfolding headAt
-head-only s at =
-    by-word (Headed s at) s at viewWord (Is Kind.View) _ (λ k e. e)
-    (by-word (Headed s at) s at voteWord (Is Kind.Vote) _ (λ k e. e)
-    (by-word (Headed s at) s at vcWord (Is Kind.Vc) _ (λ k e. e)
-    (by-word (Headed s at) s at qcWord (Is Kind.Qc) NoKind (λ k e. e) tt)))
+kind-only : (s : List ℕ) (at : ℕ) → Kinded s at (kindFoundAt s at)
+unfolding kindFoundAt
+kind-only s at =
+    by-word (Kinded s at) s at viewWord (Is Kind.View) _ (λ k e. e)
+    (by-word (Kinded s at) s at voteWord (Is Kind.Vote) _ (λ k e. e)
+    (by-word (Kinded s at) s at vcWord (Is Kind.Vc) _ (λ k e. e)
+    (by-word (Kinded s at) s at qcWord (Is Kind.Qc) NoKind (λ k e. e) tt)))
 
 -- the form of the message stands behind a blank
 abbrev pub Spoken : List ℕ → ℕ → Said → Type 0
-Spoken s at (Told m k) = (drop at s ≡ blank ++ (messageForm m ++ drop k s)) × PairBelow m
+Spoken s at (Told m k) = (drop at s ≡ oneBlank ++ (messageForm m ++ drop k s)) × PairBelow m
 Spoken s at NoMessage = Unit {0}
 
-spoken-head : (s : List ℕ) (at b : ℕ) → drop at s ≡ blank ++ (openBracket ++ drop b s) → (x : Head) → Headed s b x → Spoken s at (saidHead s x)
-spoken-head s at b e (Is k a) h =
+spoken-kind : (s : List ℕ) (at b : ℕ) → drop at s ≡ oneBlank ++ (openBracket ++ drop b s) → (x : KindFound) → Kinded s b x → Spoken s at (saidKind s x)
+spoken-kind s at b e (Is k a) h =
     by-parts (Spoken s at) pairParts s a (saidFields k) spoken tt
   where
     spoken : (ns : List ℕ) (j : ℕ) → Taken pairParts s a ns j → Spoken s at (saidFields k (fields ns j))
@@ -76,46 +76,46 @@ spoken-head s at b e (Is k a) h =
         let w : ℕ = getD ns 0 0 in
         let p : ℕ = getD ns 1 0 in
         let l : ns ≡ w ∷ p ∷ [] = picked-all _ ns (t .number) in (
-          e ∙ ap (λ (r : List ℕ). blank ++ (openBracket ++ r)) (h ∙ ap (λ (r : List ℕ). wordOf k ++ r) (t .bytes ∙ ap (λ (x : List ℕ). filled pairParts x (drop j s)) l))
-              ∙ ap (λ (r : List ℕ). blank ++ r) (sym (message-form k w p (drop j s))),
+          e ∙ ap (λ (r : List ℕ). oneBlank ++ (openBracket ++ r)) (h ∙ ap (λ (r : List ℕ). wordOf k ++ r) (t .bytes ∙ ap (λ (x : List ℕ). filled pairParts x (drop j s)) l))
+              ∙ ap (λ (r : List ℕ). oneBlank ++ r) (sym (message-form k w p (drop j s))),
           pair-of k w p (subst Below l (t .below)),
         )
-spoken-head s at b e NoKind h = tt
+spoken-kind s at b e NoKind h = tt
 
 pub message-only : (s : List ℕ) (at : ℕ) → Spoken s at (messageAt s at)
 unfolding messageAt
 message-only s at =
-    by-word (Spoken s at) s at blank _ NoMessage
+    by-word (Spoken s at) s at oneBlank _ NoMessage
     (λ a e. by-word (Spoken s at) s a openBracket _ NoMessage
-    (λ b f. spoken-head s at b (e ∙ ap (λ (r : List ℕ). blank ++ r) f) (headAt s b) (head-only s b)) tt) tt
+    (λ b f. spoken-kind s at b (e ∙ ap (λ (r : List ℕ). oneBlank ++ r) f) (kindFoundAt s b) (kind-only s b)) tt) tt
 
 -- ---- it is read
 
-head-there : {A : Type 0} (P : A → Type 0) (s : List ℕ) (at : ℕ) (f : Head → A) (k : Kind) (r : List ℕ) → Left s at (wordOf k ++ r)
-    → ((a : ℕ) → Left s a r → P (f (Is k a))) → P (f (headAt s at))
-unfolding headAt
-head-there P s at f Kind.View r h g = word-there (λ (x : Head). P (f x)) s at viewWord _ _ r h g
-head-there P s at f Kind.Vote r h g = let Q : Head → Type 0 = λ (x : Head). P (f x) in word-away Q s at viewWord _ _ _ h refl (word-there Q s at voteWord _ _ r h g)
-head-there P s at f Kind.Vc r h g =
-    let Q : Head → Type 0 = λ (x : Head). P (f x) in
+kind-there : {A : Type 0} (P : A → Type 0) (s : List ℕ) (at : ℕ) (f : KindFound → A) (k : Kind) (r : List ℕ) → Left s at (wordOf k ++ r)
+    → ((a : ℕ) → Left s a r → P (f (Is k a))) → P (f (kindFoundAt s at))
+unfolding kindFoundAt
+kind-there P s at f Kind.View r h g = word-there (λ (x : KindFound). P (f x)) s at viewWord _ _ r h g
+kind-there P s at f Kind.Vote r h g = let Q : KindFound → Type 0 = λ (x : KindFound). P (f x) in word-away Q s at viewWord _ _ _ h refl (word-there Q s at voteWord _ _ r h g)
+kind-there P s at f Kind.Vc r h g =
+    let Q : KindFound → Type 0 = λ (x : KindFound). P (f x) in
     word-away Q s at viewWord _ _ _ h refl (word-away Q s at voteWord _ _ _ h refl (word-there Q s at vcWord _ _ r h g))
-head-there P s at f Kind.Qc r h g =
-    let Q : Head → Type 0 = λ (x : Head). P (f x) in
+kind-there P s at f Kind.Qc r h g =
+    let Q : KindFound → Type 0 = λ (x : KindFound). P (f x) in
     word-away Q s at viewWord _ _ _ h refl (word-away Q s at voteWord _ _ _ h refl (word-away Q s at vcWord _ _ _ h refl (word-there Q s at qcWord _ _ r h g)))
 
 pair-there : {A : Type 0} (P : A → Type 0) (s : List ℕ) (at : ℕ) (f : Said → A) (k : Kind) (w p : ℕ) (r : List ℕ)
-    → Left s at (blank ++ (messageForm (messageOf k w p) ++ r)) → Below (w ∷ p ∷ []) → ((j : ℕ) → Left s j r → P (f (Told (messageOf k w p) j))) → P (f (messageAt s at))
+    → Left s at (oneBlank ++ (messageForm (messageOf k w p) ++ r)) → Below (w ∷ p ∷ []) → ((j : ℕ) → Left s j r → P (f (Told (messageOf k w p) j))) → P (f (messageAt s at))
 unfolding messageAt
 pair-there P s at f k w p r h b g =
     let Q : Said → Type 0 = λ (x : Said). P (f x) in
-    word-there Q s at blank _ NoMessage _ h
+    word-there Q s at oneBlank _ NoMessage _ h
     (λ a l. word-there Q s a openBracket _ NoMessage _ (subst (Left s a) (message-form k w p r) l)
-    (λ c m. head-there Q s c (saidHead s) k _ m
+    (λ c m. kind-there Q s c (saidKind s) k _ m
     (λ d n. parts-there Q pairParts s d (saidFields k) (w ∷ p ∷ []) r n refl b tt g)))
 
 -- where the form of a message stands behind a blank, the message is read
 pub message-there : {A : Type 0} (P : A → Type 0) (s : List ℕ) (at : ℕ) (f : Said → A) (m : Message) (r : List ℕ)
-    → Left s at (blank ++ (messageForm m ++ r)) → PairBelow m → ((k : ℕ) → Left s k r → P (f (Told m k))) → P (f (messageAt s at))
+    → Left s at (oneBlank ++ (messageForm m ++ r)) → PairBelow m → ((k : ℕ) → Left s k r → P (f (Told m k))) → P (f (messageAt s at))
 message-there P s at f (View w p) r h b g = pair-there P s at f Kind.View w p r h b g
 message-there P s at f (Vote w p) r h b g = pair-there P s at f Kind.Vote w p r h b g
 message-there P s at f (Vc w p) r h b g = pair-there P s at f Kind.Vc w p r h b g

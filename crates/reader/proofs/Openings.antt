@@ -20,7 +20,7 @@ use Rattle.lines.specs.declared.Read.the-variants as Read
 use Rattle.lines.specs.declared.Read.the-variants.{NoForm}
 use Rattle.lines.specs.declared.Reading.{Reading}
 use Rattle.lines.specs.Decimal.{decimal}
-use Rattle.lines.specs.Forms.{openBracket, closeBracket, blank, openWord, furtherClocks, clocksForm, lineClocks, headingNumbers, setupForm, Below, EventLine, SetupLine, trimmed}
+use Rattle.lines.specs.Forms.{openBracket, closeBracket, oneBlank, openWord, furtherClocks, clocksForm, lineClocks, headingNumbers, setupForm, Below, EventLine, SetupLine, trimmed}
 use Rattle.lines.specs.Contracts.{noSetup, openingReading, noForm}
 use Rattle.reader.specs.Scan.{fields}
 use Rattle.reader.specs.Lines.{headingParts, headingFields, headingAt, furtherParts, tableParts, tableFields, tableAt, endingTable, endingHeading, openingAt}
@@ -34,14 +34,14 @@ further-form zero [] r h = refl
 further-form zero (c ∷ cs) r h = absurd (omega arith)
 further-form (suc j) [] r h = absurd (omega arith)
 further-form (suc j) (c ∷ cs) r h =
-    ap (λ (l : List ℕ). blank ++ l)
+    ap (λ (l : List ℕ). oneBlank ++ l)
     (ap (λ (l : List ℕ). decimal c ++ l) (further-form j cs r (omega arith)) ∙ sym (append-assoc (decimal c) (furtherClocks cs) (closeBracket ++ (closeBracket ++ r))))
 
 table-form : (n : ℕ) (cs r : List ℕ) → length cs ≡ n → 1 ≤ n
-    → filled (tableParts n) cs r ≡ blank ++ (openBracket ++ (clocksForm cs ++ (closeBracket ++ (closeBracket ++ r))))
+    → filled (tableParts n) cs r ≡ oneBlank ++ (openBracket ++ (clocksForm cs ++ (closeBracket ++ (closeBracket ++ r))))
 table-form n [] r h p = absurd (omega arith)
 table-form n (c ∷ cs) r h p =
-    ap (λ (l : List ℕ). blank ++ (openBracket ++ l))
+    ap (λ (l : List ℕ). oneBlank ++ (openBracket ++ l))
     (ap (λ (l : List ℕ). decimal c ++ l) (further-form (n - 1) cs r (omega arith)) ∙ sym (append-assoc (decimal c) (furtherClocks cs) (closeBracket ++ (closeBracket ++ r))))
 
 setup-parts : (u : Setup) → length (lineClocks u) ≡ u .plan .n → 1 ≤ u .plan .n

@@ -7,7 +7,7 @@ use native.Mathlib.Omega.{arith}
 use lib.ListN.{length, take, drop, set, replicate, length-take, length-set, take-append-drop}
 use lib.Seq.{take-suc-set, drop-set-lt, drop-drop}
 use Rattle.types.specs.Quantities.{nMost, tableClocks}
-use Rattle.lines.specs.Forms.{openBracket, closeBracket, blank}
+use Rattle.lines.specs.Forms.{openBracket, closeBracket, oneBlank}
 use Rattle.reader.specs.declared.After.{After}
 use Rattle.reader.specs.declared.After.the-variants.{At, Away}
 use Rattle.reader.specs.declared.Number.the-variants.{Value, NoNumber}
@@ -16,25 +16,25 @@ use Rattle.reader.specs.Lines.{furtherParts, tableParts, noTable, tableF
 
 -- ---- a number behind a blank, and what follows it
 
-next-parts : (ps : List Part) (s : List ℕ) (at : ℕ) → readParts (word blank ∷ field ∷ ps) s at ≡ onNumber (nextNumberAt s at) (λ n k. before n (readParts ps s k)) none
+next-parts : (ps : List Part) (s : List ℕ) (at : ℕ) → readParts (word oneBlank ∷ field ∷ ps) s at ≡ onNumber (nextNumberAt s at) (λ n k. before n (readParts ps s k)) none
 unfolding nextNumberAt
-next-parts ps s at = go (afterWord s at blank)
+next-parts ps s at = go (afterWord s at oneBlank)
   where
     go : (a : After) → onAfter a (λ k. readParts (field ∷ ps) s k) none ≡ onNumber (onAfter a (numberAt s) NoNumber) (λ n k. before n (readParts ps s k)) none
     go (At k) = refl
     go Away = refl
 
-pub next-value : (ps : List Part) (s : List ℕ) (at n k : ℕ) → nextNumberAt s at ≡ Value n k → readParts (word blank ∷ field ∷ ps) s at ≡ before n (readParts ps s k)
+pub next-value : (ps : List Part) (s : List ℕ) (at n k : ℕ) → nextNumberAt s at ≡ Value n k → readParts (word oneBlank ∷ field ∷ ps) s at ≡ before n (readParts ps s k)
 next-value ps s at n k e = next-parts ps s at ∙ rw e
 
-pub next-none : (ps : List Part) (s : List ℕ) (at : ℕ) → nextNumberAt s at ≡ NoNumber → readParts (word blank ∷ field ∷ ps) s at ≡ none
+pub next-none : (ps : List Part) (s : List ℕ) (at : ℕ) → nextNumberAt s at ≡ NoNumber → readParts (word oneBlank ∷ field ∷ ps) s at ≡ none
 next-none ps s at e = next-parts ps s at ∙ rw e
 
 -- ---- the parts of a table
 
 first-parts : (s : List ℕ) (at n : ℕ) → readParts (tableParts n) s at ≡ onNumber (firstClockAt s at) (λ c k. before c (readParts (furtherParts (n - 1)) s k)) none
 unfolding firstClockAt
-first-parts s at n = go (afterWord s at blank)
+first-parts s at n = go (afterWord s at oneBlank)
   where
     further : ℕ → ℕ → Fields
     further c k = before c (readParts (furtherParts (n - 1)) s k)

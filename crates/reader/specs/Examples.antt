@@ -6,22 +6,22 @@ use Rattle.types.specs.declared.Message.the-variants.{View, Vote, Vc, Qc}
 use Rattle.types.specs.declared.Event.the-variants.{Deliver, Sign, Show, Settle, Tick}
 use Rattle.model.specs.Rows.{standard, setupOf}
 use Rattle.lines.specs.Decimal.{decimal}
-use Rattle.lines.specs.Forms.{openBracket, closeBracket, blank, openWord, tickWord, joined, carrying, signWord, showWord, clocksForm, messageForm, eventForm, setupForm}
+use Rattle.lines.specs.Forms.{openBracket, closeBracket, oneBlank, openWord, tickWord, joined, carryingForm, signWord, showWord, clocksForm, messageForm, eventForm, setupForm}
 use Rattle.lines.specs.Contracts.{eventReading, openingReading, noForm}
 use Rattle.reader.specs.Bytes.{classOf, classAt}
 use Rattle.reader.specs.Scan.{afterWord, numberAt}
-use Rattle.reader.specs.Lines.{headAt, messageAt, endingAt, deliverAt, signAt, showAt, ticksAt, eventAt, headingAt, tableAt, openingAt, reading}
+use Rattle.reader.specs.Lines.{kindFoundAt, messageAt, endingAt, deliverAt, signAt, showAt, ticksAt, eventAt, headingAt, tableAt, openingAt, reading}
 
 abbrev settled : List ℕ
 settled = eventForm Settle
 
 -- "(tick ..)" with these bytes for its number
 abbrev ticking : List ℕ → List ℕ
-ticking digits = joined (openBracket ∷ tickWord ∷ blank ∷ digits ∷ closeBracket ∷ [])
+ticking digits = joined (openBracket ∷ tickWord ∷ oneBlank ∷ digits ∷ closeBracket ∷ [])
 
 -- "(open n 2 4 6 0 (..))"
 abbrev opening : ℕ → List ℕ → List ℕ
-opening n clocks = joined (openBracket ∷ openWord ∷ blank ∷ decimal n ∷ blank ∷ decimal 2 ∷ blank ∷ decimal 4 ∷ blank ∷ decimal 6 ∷ blank ∷ decimal 0 ∷ blank ∷ openBracket ∷ clocksForm clocks ∷ closeBracket ∷ closeBracket ∷ [])
+opening n clocks = joined (openBracket ∷ openWord ∷ oneBlank ∷ decimal n ∷ oneBlank ∷ decimal 2 ∷ oneBlank ∷ decimal 4 ∷ oneBlank ∷ decimal 6 ∷ oneBlank ∷ decimal 0 ∷ oneBlank ∷ openBracket ∷ clocksForm clocks ∷ closeBracket ∷ closeBracket ∷ [])
 
 pub good : List (List ℕ)
 good =
@@ -31,17 +31,17 @@ good =
 pub good-read : map reading good ≡ (
     eventReading (Deliver (View 0 0)) ∷ eventReading (Sign (Vote 10 2)) ∷ eventReading (Show (Qc 100 0)) ∷ eventReading Settle ∷ eventReading (Tick 18446744073709551615)
     ∷ openingReading (setupOf standard 0 (1 ∷ 2 ∷ 3 ∷ 4 ∷ [])) ∷ [])
-unfolding good reading eventAt openingAt headingAt tableAt deliverAt signAt showAt ticksAt endingAt messageAt headAt numberAt afterWord classOf classAt decimal eventForm messageForm setupForm
+unfolding good reading eventAt openingAt headingAt tableAt deliverAt signAt showAt ticksAt endingAt messageAt kindFoundAt numberAt afterWord classOf classAt decimal eventForm messageForm setupForm
 good-read = refl
 
 pub bad : List (List ℕ)
 bad =
-    [] ∷ (settled ++ blank) ∷ (blank ++ settled) ∷ (settled ++ (13 ∷ [])) ∷ (settled ++ settled)
-    ∷ ticking (decimal 0) ∷ ticking (48 ∷ 51 ∷ []) ∷ ticking (blank ++ decimal 3) ∷ ticking (9 ∷ 51 ∷ []) ∷ ticking (43 ∷ 51 ∷ []) ∷ ticking [] ∷ ticking (decimal (2 ^ 64))
-    ∷ carrying signWord (Vc 0 0) ∷ carrying showWord (Vote 0 0)
+    [] ∷ (settled ++ oneBlank) ∷ (oneBlank ++ settled) ∷ (settled ++ (13 ∷ [])) ∷ (settled ++ settled)
+    ∷ ticking (decimal 0) ∷ ticking (48 ∷ 51 ∷ []) ∷ ticking (oneBlank ++ decimal 3) ∷ ticking (9 ∷ 51 ∷ []) ∷ ticking (43 ∷ 51 ∷ []) ∷ ticking [] ∷ ticking (decimal (2 ^ 64))
+    ∷ carryingForm signWord (Vc 0 0) ∷ carryingForm showWord (Vote 0 0)
     ∷ opening 0 [] ∷ opening 3 (1 ∷ 2 ∷ 3 ∷ 4 ∷ []) ∷ opening 5 (1 ∷ 2 ∷ 3 ∷ 4 ∷ []) ∷ []
 
 -- "a line that fails check 1"
 pub bad-read : map reading bad ≡ map (λ s. noForm) bad
-unfolding bad reading eventAt openingAt headingAt tableAt deliverAt signAt showAt ticksAt endingAt messageAt headAt numberAt afterWord classOf classAt decimal eventForm messageForm setupForm
+unfolding bad reading eventAt openingAt headingAt tableAt deliverAt signAt showAt ticksAt endingAt messageAt kindFoundAt numberAt afterWord classOf classAt decimal eventForm messageForm setupForm
 bad-read = refl

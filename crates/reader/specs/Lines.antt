@@ -15,7 +15,7 @@ use Rattle.lines.specs.declared.Read.{Read}
 use Rattle.lines.specs.declared.Read.the-variants as Read
 use Rattle.lines.specs.declared.Read.the-variants.{NoForm}
 use Rattle.lines.specs.declared.Reading.{Reading}
-use Rattle.lines.specs.Forms.{openBracket, closeBracket, blank, openWord, deliverWord, signWord, showWord, settleWord, tickWord, viewWord, voteWord, vcWord, qcWord}
+use Rattle.lines.specs.Forms.{openBracket, closeBracket, oneBlank, openWord, deliverWord, signWord, showWord, settleWord, tickWord, viewWord, voteWord, vcWord, qcWord}
 use Rattle.lines.specs.Contracts.{noSetup, openingReading, noForm}
 use Rattle.reader.specs.declared.After.{After}
 use Rattle.reader.specs.declared.After.the-variants.{At, Away}
@@ -23,8 +23,8 @@ use Rattle.reader.specs.declared.Number.{Number}
 use Rattle.reader.specs.declared.Number.the-variants.{NoNumber}
 use Rattle.reader.specs.declared.Kind.{Kind}
 use Rattle.reader.specs.declared.Kind.the-variants as Kind
-use Rattle.reader.specs.declared.Head.{Head}
-use Rattle.reader.specs.declared.Head.the-variants.{Is, NoKind}
+use Rattle.reader.specs.declared.KindFound.{KindFound}
+use Rattle.reader.specs.declared.KindFound.the-variants.{Is, NoKind}
 use Rattle.reader.specs.declared.Said.{Said}
 use Rattle.reader.specs.declared.Said.the-variants.{Told, NoMessage}
 use Rattle.reader.specs.declared.Heading.{Heading}
@@ -35,13 +35,13 @@ use Rattle.reader.specs.Scan.{Part, word, field, Fields, fields, none, a
 -- j numbers, each behind a blank
 abbrev pub numbers : ℕ → List Part
 numbers zero = []
-numbers (suc j) = word blank ∷ field ∷ numbers j
+numbers (suc j) = word oneBlank ∷ field ∷ numbers j
 
 -- ---- "(view w p)", and so for vote, vc, qc
 
 -- the kind whose word stands at the place, and the place after it
-unfoldable pub headAt : List ℕ → ℕ → Head
-headAt s at =
+unfoldable pub kindFoundAt : List ℕ → ℕ → KindFound
+kindFoundAt s at =
     onAfter (afterWord s at viewWord) (Is Kind.View)
     (onAfter (afterWord s at voteWord) (Is Kind.Vote)
     (onAfter (afterWord s at vcWord) (Is Kind.Vc)
@@ -55,19 +55,19 @@ messageOf Kind.Qc w p = Qc w p
 
 -- " w p)"
 abbrev pub pairParts : List Part
-pairParts = word blank ∷ field ∷ word blank ∷ field ∷ word closeBracket ∷ []
+pairParts = word oneBlank ∷ field ∷ word oneBlank ∷ field ∷ word closeBracket ∷ []
 
 abbrev pub saidFields : Kind → Fields → Said
 saidFields k (fields ns e) = Told (messageOf k (getD ns 0 0) (getD ns 1 0)) e
 saidFields k none = NoMessage
 
-abbrev pub saidHead : List ℕ → Head → Said
-saidHead s (Is k a) = saidFields k (readParts pairParts s a)
-saidHead s NoKind = NoMessage
+abbrev pub saidKind : List ℕ → KindFound → Said
+saidKind s (Is k a) = saidFields k (readParts pairParts s a)
+saidKind s NoKind = NoMessage
 
 -- the message behind a blank, and the place after it
 unfoldable pub messageAt : List ℕ → ℕ → Said
-messageAt s at = onAfter (afterWord s at blank) (λ a. onAfter (afterWord s a openBracket) (λ b. saidHead s (headAt s b)) NoMessage) NoMessage
+messageAt s at = onAfter (afterWord s at oneBlank) (λ a. onAfter (afterWord s a openBracket) (λ b. saidKind s (kindFoundAt s b)) NoMessage) NoMessage
 
 -- ---- the events
 
@@ -123,11 +123,11 @@ headingAt s at = headingFields (readParts headingParts s at)
 -- " c1 c2 ..))", j clocks
 abbrev pub furtherParts : ℕ → List Part
 furtherParts zero = word closeBracket ∷ word closeBracket ∷ []
-furtherParts (suc j) = word blank ∷ field ∷ furtherParts j
+furtherParts (suc j) = word oneBlank ∷ field ∷ furtherParts j
 
 -- " (c0 c1 ..))", n clocks from 1
 abbrev pub tableParts : ℕ → List Part
-tableParts n = word blank ∷ word openBracket ∷ field ∷ furtherParts (n - 1)
+tableParts n = word oneBlank ∷ word openBracket ∷ field ∷ furtherParts (n - 1)
 
 abbrev pub noTable : Table
 noTable = record { end = Away; clocks = replicate tableClocks 0 }
@@ -142,10 +142,10 @@ tableAt s at n = tableFields (readParts (tableParts n) s at)
 
 -- its pieces: a blank and a number; the first clock; the brackets behind the last
 unfoldable pub nextNumberAt : List ℕ → ℕ → Number
-nextNumberAt s at = onAfter (afterWord s at blank) (numberAt s) NoNumber
+nextNumberAt s at = onAfter (afterWord s at oneBlank) (numberAt s) NoNumber
 
 unfoldable pub firstClockAt : List ℕ → ℕ → Number
-firstClockAt s at = onAfter (afterWord s at blank) (λ a. onAfter (afterWord s a openBracket) (numberAt s) NoNumber) NoNumber
+firstClockAt s at = onAfter (afterWord s at oneBlank) (λ a. onAfter (afterWord s a openBracket) (numberAt s) NoNumber) NoNumber
 
 unfoldable pub tableEndAt : List ℕ → ℕ → After
 tableEndAt s at = onAfter (afterWord s at closeBracket) (λ a. afterWord s a closeBracket) Away

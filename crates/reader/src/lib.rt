@@ -9,11 +9,11 @@ ghost use mathlib.Core.Path.{_≡_};
 ghost use Prim.Native.Nat.{_+_, _≤_};
 ghost use lib.ListN.{length, drop};
 ghost use Rattle.types.specs.Quantities.{nMost};
-ghost use Rattle.lines.specs.Forms.{openBracket, closeBracket, blank};
+ghost use Rattle.lines.specs.Forms.{openBracket, closeBracket, oneBlank};
 ghost use Rattle.lines.specs.Contracts.{noSetup, noForm, Reads};
 ghost use Rattle.reader.specs.Bytes.{classOf, classAt, digitRun, spelled};
 ghost use Rattle.reader.specs.Scan.{afterWord, fitting, numberAt};
-ghost use Rattle.reader.specs.Lines.{headAt, messageOf, saidHead, messageAt, endingAt, deliverAt, signAt, showAt, ticksAt, eventAt, headingAt, nextNumberAt, firstClockAt, tableEndAt, noTable, tableAt, openingAt, reading};
+ghost use Rattle.reader.specs.Lines.{kindFoundAt, messageOf, saidKind, messageAt, endingAt, deliverAt, signAt, showAt, ticksAt, eventAt, headingAt, nextNumberAt, firstClockAt, tableEndAt, noTable, tableAt, openingAt, reading};
 
 // ---- bytes
 
@@ -81,7 +81,7 @@ fn after_close_bracket(s: &[u8], at: usize) -> After
 }
 
 fn after_blank(s: &[u8], at: usize) -> After
-    ensures { λ r. ⌜ r ≡ afterWord (now (s .entry)) at blank ⌝ }
+    ensures { λ r. ⌜ r ≡ afterWord (now (s .entry)) at oneBlank ⌝ }
 {
     let Class::Blank = class_at(s, at) else {
         return After::Away;
@@ -163,7 +163,7 @@ enum Kind {
 }
 
 // A kind, and the place after its word.
-enum Head {
+enum KindFound {
     Is(Kind, usize),
     NoKind,
 }
@@ -174,22 +174,22 @@ enum Said {
     NoMessage,
 }
 
-fn read_head(s: &[u8], at: usize) -> Head
-    ensures { λ r. ⌜ r ≡ headAt (now (s .entry)) at ⌝ }
+fn read_kind(s: &[u8], at: usize) -> KindFound
+    ensures { λ r. ⌜ r ≡ kindFoundAt (now (s .entry)) at ⌝ }
 {
     if let After::At(a) = after_word(s, at, b"view") {
-        return Head::Is(Kind::View, a);
+        return KindFound::Is(Kind::View, a);
     }
     if let After::At(a) = after_word(s, at, b"vote") {
-        return Head::Is(Kind::Vote, a);
+        return KindFound::Is(Kind::Vote, a);
     }
     if let After::At(a) = after_word(s, at, b"vc") {
-        return Head::Is(Kind::Vc, a);
+        return KindFound::Is(Kind::Vc, a);
     }
     if let After::At(a) = after_word(s, at, b"qc") {
-        return Head::Is(Kind::Qc, a);
+        return KindFound::Is(Kind::Qc, a);
     }
-    Head::NoKind
+    KindFound::NoKind
 }
 
 fn make(kind: Kind, w: u64, p: u64) -> Message
@@ -205,9 +205,9 @@ fn make(kind: Kind, w: u64, p: u64) -> Message
 
 // Behind the bracket: kind, view, processor and the closing bracket.
 fn read_inside(s: &[u8], at: usize) -> Said
-    ensures { λ r. ⌜ r ≡ saidHead (now (s .entry)) (headAt (now (s .entry)) at) ⌝ }
+    ensures { λ r. ⌜ r ≡ saidKind (now (s .entry)) (kindFoundAt (now (s .entry)) at) ⌝ }
 {
-    let Head::Is(kind, a) = read_head(s, at) else {
+    let KindFound::Is(kind, a) = read_kind(s, at) else {
         return Said::NoMessage;
     };
     let After::At(b) = after_blank(s, a) else {

@@ -4,7 +4,7 @@ use mathlib.Core.Bool.{Bool, false}
 use Prim.Native.Nat.{ℕ, _+_, _-_, _≤_}
 use native.Mathlib.Omega.{arith}
 use mathlib.Core.List.{List, [], _++_}
-use lib.ListN.{length, take, drop}
+use lib.ListN.{length, take, drop, replicate}
 use lib.Seq.{take-add, length-take-le, paste}
 use borrow.Rule.Slice.PartMut.{midOf}
 use Rattle.lines.specs.declared.Next.the-variants.{Unfinished}
@@ -12,8 +12,8 @@ use Rattle.lines.specs.Printout.{printedMost}
 use Rattle.lines.specs.Splitting.{beforeNewline, nextLine}
 use Rattle.printout.specs.declared.Session.{Session}
 use Rattle.printout.specs.declared.Served.{Served}
-use Rattle.printout.specs.Printout.{Standing, standingOf, unopened}
-use Rattle.printout.specs.Contracts.{placeOf, Fed, fed, Begun, Serves}
+use Rattle.printout.specs.Printout.{Standing, standingOf, unopenedSession, tallyLent, networkLent, atStart}
+use Rattle.printout.specs.Contracts.{placeAt, Advance, fed, Begun, Serves}
 use Rattle.printout.proofs.Feeding.{fed-append}
 use Rattle.printout.proofs.Promises.{goes-on}
 use Rattle.driver.specs.Contracts.{KnownReachable}
@@ -30,10 +30,10 @@ leads-none x begun late b = record { state = refl; begins = b }
 pub leads-then : {x y z : Standing} {begun a b : List ℕ} {late late' : Bool} → Leads x begun a y late
     → ((begun' : List ℕ) → Begun late begun' → Leads y begun' b z late') → Leads x begun (a ++ b) z late'
 leads-then {x} {y} {z} {begun} {a} {b} {late} {late'} h g =
-    let F : Fed = fed (placeOf x begun) a in
+    let F : Advance = fed (placeAt x begun) a in
     let u : Leads (F .place .standing) (F .place .begun) b z late' =
     subst (λ (s : Standing). Leads s (F .place .begun) b z late') (h .state) (g (F .place .begun) (h .begins)) in
-    let e : fed (placeOf x begun) (a ++ b) .place ≡ fed (F .place) b .place = ap (λ (f : Fed). f .place) (fed-append (placeOf x begun) a b) in
+    let e : fed (placeAt x begun) (a ++ b) .place ≡ fed (F .place) b .place = ap (λ (f : Advance). f .place) (fed-append (placeAt x begun) a b) in
     record { state = u .state ∙ ap (λ p. p .standing) (sym e); begins = subst (λ p. Begun late' (p .begun)) (sym e) (u .begins) }
 
 -- ---- the lines of the bytes at hand, call by call
@@ -81,48 +81,37 @@ going-threads x late bytes out tally network s passed used g h = record { within
 
 -- ---- read after read
 
-pub reaches-start : (out tally network window : List ℕ) (s : Session) → s ≡ unopened
-    → Reaches (standingOf unopened tally network) out tally network window (record { session = s; late = false; bytes = 0 })
+pub reaches-start : (tally network window : List ℕ) (s : Session) → s ≡ unopenedSession → tally ≡ replicate tallyLent 0 → network ≡ replicate networkLent 0
+    → Reaches tally network window (record { session = s; late = false; bytes = 0 })
 unfolding nextLine beforeNewline
-reaches-start out tally network window s e = record {
-  input = [];
-  leads = record { state = ap (λ (z : Session). standingOf z tally network) e; begins = refl };
-  within = omega arith;
-  rest = λ h. refl;
-}
+reaches-start tally network window s e t n =
+    record { input = []; leads = record { state = λ i. standingOf (e i) (t i) (n i); begins = refl }; within = omega arith; rest = refl }
 
 -- an open run comes from an accepted opening, since none was open at first
-pub reaches-known : (known : Bool) (tally₀ network₀ out tally network window : List ℕ) (r : Progress) → Reaches (standingOf unopened tally₀ network₀) out tally network window r
-    → KnownReachable known (standingOf (r .session) tally network)
-reaches-known known tally₀ network₀ out tally network window r h =
-    let x : Standing = standingOf unopened tally₀ network₀ in
-    subst (KnownReachable known) (sym (h .leads .state)) (known-fed known (placeOf x []) (h .input) (known-unopened known tally₀ network₀))
+pub reaches-known : (known : Bool) (tally network window : List ℕ) (r : Progress) → Reaches tally network window r → KnownReachable known (standingOf (r .session) tally network)
+reaches-known known tally network window r h =
+    subst (KnownReachable known) (sym (h .leads .state)) (known-fed known (placeAt atStart []) (h .input) (known-unopened known _ _))
 
 -- a read leaves the bytes that were not used
-pub reaches-read : (x : Standing) (out tally network w w' : List ℕ) (r : Progress) → Reaches x out tally network w r → take (r .bytes) w' ≡ take (r .bytes) w → length w' ≡ length w
-    → Reaches x out tally network w' r
-reaches-read x out tally network w w' r h e l = record {
-  input = h .input;
-  leads = h .leads;
-  within = omega (arith, h .within);
-  rest = λ p. ap nextLine e ∙ h .rest p;
-}
+pub reaches-read : (tally network w w' : List ℕ) (r : Progress) → Reaches tally network w r → take (r .bytes) w' ≡ take (r .bytes) w → length w' ≡ length w
+    → Reaches tally network w' r
+reaches-read tally network w w' r h e l = record { input = h .input; leads = h .leads; within = omega (arith, h .within); rest = ap nextLine e ∙ h .rest }
 
 pub threads-within : (x : Standing) (late : Bool) (filled : ℕ) (w out tally network : List ℕ) (a : Progress) → filled ≤ length w → Threads x late (take filled w) out tally network a → a .bytes ≤ filled
 threads-within x late filled w out tally network a f t = omega (arith, t .within, length-take-le filled w f)
 
 -- what was read is answered, and the bytes that are left go to the start of the window
-pub reaches-more : (x : Standing) (out tally network w : List ℕ) (r : Progress) (w' : List ℕ) (filled : ℕ) (out' tally' network' : List ℕ) (a : Progress) (k : ℕ) (w'' : List ℕ)
-    → Reaches x out tally network w r → filled ≤ length w' → length out' ≡ length out
-    → Threads (standingOf (r .session) tally network) (r .late) (take filled w') out' tally' network' a
+pub reaches-more : (tally network w : List ℕ) (r : Progress) (w' : List ℕ) (filled room : ℕ) (out tally' network' : List ℕ) (a : Progress) (k : ℕ) (w'' : List ℕ)
+    → Reaches tally network w r → filled ≤ length w' → printedMost ≤ room → length out ≡ room
+    → Threads (standingOf (r .session) tally network) (r .late) (take filled w') out tally' network' a
     → k ≡ filled - a .bytes → w'' ≡ paste w' 0 (drop (a .bytes) w') k → length w'' ≡ length w'
-    → Reaches x out tally' network' w'' (record { session = a .session; late = a .late; bytes = k })
-reaches-more x out tally network w r w' filled out' tally' network' a k w'' h f l t e p q =
-    let b : a .bytes ≤ filled = threads-within _ (r .late) filled w' out' tally' network' a f t in
+    → Reaches tally' network' w'' (record { session = a .session; late = a .late; bytes = k })
+reaches-more tally network w r w' filled room out tally' network' a k w'' h f o l t e p q =
+    let b : a .bytes ≤ filled = threads-within _ (r .late) filled w' out tally' network' a f t in
     record {
       input = h .input ++ take (a .bytes) (take filled w');
       leads = leads-then (h .leads) (t .leads);
       within = omega arith;
-      rest = λ s.
-          ap nextLine (ap₂ (λ (i : ℕ) (y : List ℕ). take i y) e (p ∙ ap (paste w' 0 (drop (a .bytes) w')) e) ∙ kept-bytes w' (a .bytes) filled b f) ∙ t .stops (omega (arith, s));
+      rest =
+          ap nextLine (ap₂ (λ (i : ℕ) (y : List ℕ). take i y) e (p ∙ ap (paste w' 0 (drop (a .bytes) w')) e) ∙ kept-bytes w' (a .bytes) filled b f) ∙ t .stops (omega arith);
     }

@@ -1,16 +1,20 @@
 // The simulate program between two open files. What is read and what is printed are the driver's; here bytes are moved.
-use driver::NETWORK_WORDS;
-use driver::TALLY_WORDS;
 use lines::Written;
 use printout::Session;
 ghost use mathlib.Core.Path.{_≡_};
 ghost use mathlib.Core.Bool.{true};
 ghost use Prim.Native.Nat.{_+_, _-_, _≤_};
-ghost use lib.ListN.{length, take, drop};
+ghost use lib.ListN.{length, take, drop, replicate};
+ghost use Rattle.lines.specs.Printout.{printedMost};
 ghost use lib.Seq.{paste};
-ghost use Rattle.printout.specs.Printout.{unopened, standingOf};
+ghost use Rattle.printout.specs.Printout.{standingOf, tallyLent, networkLent};
 ghost use Rattle.driver.specs.Contracts.{KnownReachable};
 ghost use Rattle.stream.specs.Threads.{Threads, Reaches};
+
+// The words that the program lends.
+const TALLY_WORDS: usize = 3600;
+
+const NETWORK_WORDS: usize = 2048;
 
 // The session, whether bytes of a line that is too long were passed over, and a number of bytes: used, or left unused at the start of the window.
 struct Progress {
@@ -82,7 +86,7 @@ fn read_behind(from: i32, window: &mut [u8], unused: usize) -> usize
     io::count(got, free)
 }
 
-// Reads to the end. No input uses up the turns.
+// From the program's start reads to the end. No input uses up the turns.
 fn answer_input(
     from: i32,
     to: i32,
@@ -91,8 +95,8 @@ fn answer_input(
     window: &mut [u8],
     out: &mut [u8],
 ) -> Progress
-    ensures { λ r. ⌜ Reaches (standingOf unopened (now (tally .entry)) (now (network .entry))) (now (out .entry))
-        (now (tally .exit)) (now (network .exit)) (now (window .exit)) r ⌝ }
+    requires { ⌜ (now tally ≡ replicate tallyLent 0) × (now network ≡ replicate networkLent 0) × (printedMost ≤ length (now out)) ⌝ }
+    ensures { λ r. ⌜ Reaches (now (tally .exit)) (now (network .exit)) (now (window .exit)) r ⌝ }
 {
     let mut session = Session::unopened();
     let mut late = false;

@@ -7,8 +7,11 @@ use lines::Written;
 use types::Event;
 use types::Message;
 use types::Setup;
+ghost use mathlib.Core.Path.{_≡_};
+ghost use mathlib.Core.Bool.{true};
 ghost use Prim.Native.Nat.{_<_, _≤_};
-ghost use lib.ListN.{length};
+ghost use lib.ListN.{length, take};
+ghost use Rattle.lines.specs.Contracts.{line};
 
 // The bytes of input that it takes.
 const INPUT_BYTES: usize = 131072;
@@ -67,8 +70,10 @@ fn say_setup(setup: Setup) {
     say_clocks(&clocks);
 }
 
-// Whether the first k bytes of out are the line and a newline.
-fn is_line(out: &[u8], k: usize, line: &[u8]) -> bool {
+// Whether the first k bytes of out are the form and a newline.
+fn is_line(out: &[u8], k: usize, form: &[u8]) -> bool
+    ensures { λ r. ⌜ (r ≡ true → take k (now (out .entry)) ≡ line (now (form .entry))) ⌝ }
+{
     if out.len() < k {
         return false;
     }
@@ -79,7 +84,7 @@ fn is_line(out: &[u8], k: usize, line: &[u8]) -> bool {
     if out[end] != b'\n' {
         return false;
     }
-    check::same(&out[..end], line)
+    check::same(&out[..end], form)
 }
 
 // What writing answered, where it wrote the line that was read.

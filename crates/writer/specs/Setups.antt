@@ -4,11 +4,11 @@ use mathlib.Core.List.{List, [], _∷_}
 use Rattle.types.specs.declared.Plan.{Plan}
 use Rattle.types.specs.declared.Setup.{Setup}
 use Rattle.lines.specs.Decimal.{decimal}
-use Rattle.lines.specs.Forms.{blank, openBracket, closeBracket, joined, clocksForm}
+use Rattle.lines.specs.Forms.{oneBlank, openBracket, closeBracket, joined, clocksForm}
 
 abbrev pub setupWith : Plan → ℕ → List ℕ → Setup
 setupWith plan faulty clocks = record { plan = plan; faulty = faulty; clocks = clocks }
 
 -- what its form has behind the plan
 abbrev pub startForm : ℕ → List ℕ → List ℕ
-startForm faulty clocks = joined (blank ∷ decimal faulty ∷ blank ∷ openBracket ∷ clocksForm clocks ∷ closeBracket ∷ closeBracket ∷ [])
+startForm faulty clocks = joined (oneBlank ∷ decimal faulty ∷ oneBlank ∷ openBracket ∷ clocksForm clocks ∷ closeBracket ∷ closeBracket ∷ [])

@@ -4,7 +4,7 @@ ghost use mathlib.Core.List.{[], _∷_, _++_};
 ghost use Prim.Native.Nat.{_≤_};
 ghost use lib.ListN.{length};
 ghost use Rattle.lines.specs.Decimal.{decimal};
-ghost use Rattle.lines.specs.Forms.{blank};
+ghost use Rattle.lines.specs.Forms.{oneBlank};
 ghost use Rattle.writer.specs.Stamps.{Room, Stamped};
 
 // One byte.
@@ -60,8 +60,8 @@ pub(crate) fn put_number(out: &mut [u8], at: usize, n: u64) -> usize
 
 // A blank and then a number.
 pub(crate) fn put_spaced(out: &mut [u8], at: usize, n: u64) -> usize
-    requires { ⌜ Room (now out) at (blank ++ decimal n) ⌝ }
-    ensures { λ r. ⌜ Stamped (now (out .entry)) at (blank ++ decimal n) r (now (out .exit)) ⌝ }
+    requires { ⌜ Room (now out) at (oneBlank ++ decimal n) ⌝ }
+    ensures { λ r. ⌜ Stamped (now (out .entry)) at (oneBlank ++ decimal n) r (now (out .exit)) ⌝ }
 {
     let digits = put_byte(out, at, b' ');
     put_number(out, digits, n)

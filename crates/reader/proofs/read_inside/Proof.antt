@@ -7,11 +7,11 @@ use Rattle.reader.proofs.read_inside.Lts as lts
 use Rattle.reader.proofs.after_blank.Reads as after-blank-reads
 use Rattle.reader.proofs.after_close_bracket.Reads as after-close-bracket-reads
 use Rattle.reader.proofs.make.Reads as make-reads
-use Rattle.reader.proofs.read_head.Reads as read-head-reads
+use Rattle.reader.proofs.read_kind.Reads as read-kind-reads
 use Rattle.reader.proofs.read_number.Reads as read-number-reads
 
-read-head-requires : tie.Need-read-head-requires
-read-head-requires c κs = search needs
+read-kind-requires : tie.Need-read-kind-requires
+read-kind-requires c κs = search needs
 
 enum-known-kind : tie.Need-enum-known-kind
 enum-known-kind c = search needs
@@ -20,7 +20,7 @@ enum-told : tie.Need-enum-told
 enum-told c = search needs
 
 returns : tie.Need-returns
-returns c = rw (sym (c .before .before .read-head .ensures) ∙ c .enum-told .given .1)
+returns c = rw (sym (c .before .before .read-kind .ensures) ∙ c .enum-told .given .1)
 
 after-blank-requires : tie.Need-after-blank-requires
 after-blank-requires c κs = search needs
@@ -34,7 +34,7 @@ enum-told-2 c = search needs
 returns-2 : tie.Need-returns-2
 returns-2 c =
     rw (
-      sym (c .before .before .before .before .before .before .read-head .ensures) ∙ c .before .before .before .before .kind .given .1,
+      sym (c .before .before .before .before .before .before .read-kind .ensures) ∙ c .before .before .before .before .kind .given .1,
       sym (c .before .before .after-blank .ensures) ∙ c .enum-told2 .given .1,
     )
 
@@ -50,7 +50,7 @@ enum-told-3 c = search needs
 returns-3 : tie.Need-returns-3
 returns-3 c =
     rw (
-      sym (c .before .before .before .before .before .before .before .before .before .before .read-head .ensures) ∙ c .before .before .before .before .before .before .before .before .kind .given .1,
+      sym (c .before .before .before .before .before .before .before .before .before .before .read-kind .ensures) ∙ c .before .before .before .before .before .before .before .before .kind .given .1,
       sym (c .before .before .before .before .before .before .after-blank .ensures) ∙ c .before .before .before .before .b .given .1,
       sym (c .before .before .read-number .ensures) ∙ c .enum-told3 .given .1,
     )
@@ -67,7 +67,7 @@ enum-told-4 c = search needs
 returns-4 : tie.Need-returns-4
 returns-4 c =
     rw (
-      sym (c .before .before .before .before .before .before .before .before .before .before .before .before .before .before .read-head .ensures) ∙ c .before .before .before .before .before .before .before .before .before .before .before .before .kind .given .1,
+      sym (c .before .before .before .before .before .before .before .before .before .before .before .before .before .before .read-kind .ensures) ∙ c .before .before .before .before .before .before .before .before .before .before .before .before .kind .given .1,
       sym (c .before .before .before .before .before .before .before .before .before .before .after-blank .ensures) ∙ c .before .before .before .before .before .before .before .before .b .given .1,
       sym (c .before .before .before .before .before .before .read-number .ensures) ∙ c .before .before .before .before .w .given .1,
       sym (c .before .before .after-blank2 .ensures) ∙ c .enum-told4 .given .1,
@@ -85,7 +85,7 @@ enum-told-5 c = search needs
 returns-5 : tie.Need-returns-5
 returns-5 c =
     rw (
-      sym (c .before .before .before .before .before .before .before .before .before .before .before .before .before .before .before .before .before .before .read-head .ensures) ∙ c .before .before .before .before .before .before .before .before .before .before .before .before .before .before .before .before .kind .given .1,
+      sym (c .before .before .before .before .before .before .before .before .before .before .before .before .before .before .before .before .before .before .read-kind .ensures) ∙ c .before .before .before .before .before .before .before .before .before .before .before .before .before .before .before .before .kind .given .1,
       sym (c .before .before .before .before .before .before .before .before .before .before .before .before .before .before .after-blank .ensures) ∙ c .before .before .before .before .before .before .before .before .before .before .before .before .b .given .1,
       sym (c .before .before .before .before .before .before .before .before .before .before .read-number .ensures) ∙ c .before .before .before .before .before .before .before .before .w .given .1,
       sym (c .before .before .before .before .before .before .after-blank2 .ensures) ∙ c .before .before .before .before .d .given .1,
@@ -104,7 +104,7 @@ enum-told-6 c = search needs
 returns-6 : tie.Need-returns-6
 returns-6 c =
     rw (
-      sym (c .before .before .before .before .before .before .before .before .before .before .before .before .before .before .before .before .before .before .before .before .before .before .read-head .ensures) ∙ c .before .before .before .before .before .before .before .before .before .before .before .before .before .before .before .before .before .before .before .before .kind .given .1,
+      sym (c .before .before .before .before .before .before .before .before .before .before .before .before .before .before .before .before .before .before .before .before .before .before .read-kind .ensures) ∙ c .before .before .before .before .before .before .before .before .before .before .before .before .before .before .before .before .before .before .before .before .kind .given .1,
       sym (c .before .before .before .before .before .before .before .before .before .before .before .before .before .before .before .before .before .before .after-blank .ensures) ∙ c .before .before .before .before .before .before .before .before .before .before .before .before .before .before .before .before .b .given .1,
       sym (c .before .before .before .before .before .before .before .before .before .before .before .before .before .before .read-number .ensures) ∙ c .before .before .before .before .before .before .before .before .before .before .before .before .w .given .1,
       sym (c .before .before .before .before .before .before .before .before .before .before .after-blank2 .ensures) ∙ c .before .before .before .before .before .before .before .before .d .given .1,
@@ -118,7 +118,7 @@ make-requires c κs = search needs
 returns-7 : tie.Need-returns-7
 returns-7 c =
     rw (
-      sym (c .before .before .before .before .before .before .before .before .before .before .before .before .before .before .before .before .before .before .before .before .before .before .before .before .read-head .ensures) ∙ c .before .before .before .before .before .before .before .before .before .before .before .before .before .before .before .before .before .before .before .before .before .before .kind .given .1,
+      sym (c .before .before .before .before .before .before .before .before .before .before .before .before .before .before .before .before .before .before .before .before .before .before .before .before .read-kind .ensures) ∙ c .before .before .before .before .before .before .before .before .before .before .before .before .before .before .before .before .before .before .before .before .before .before .kind .given .1,
       sym (c .before .before .before .before .before .before .before .before .before .before .before .before .before .before .before .before .before .before .before .before .after-blank .ensures) ∙ c .before .before .before .before .before .before .before .before .before .before .before .before .before .before .before .before .before .before .b .given .1,
       sym (c .before .before .before .before .before .before .before .before .before .before .before .before .before .before .before .before .read-number .ensures) ∙ c .before .before .before .before .before .before .before .before .before .before .before .before .before .before .w .given .1,
       sym (c .before .before .before .before .before .before .before .before .before .before .before .before .after-blank2 .ensures) ∙ c .before .before .before .before .before .before .before .before .before .before .d .given .1,
@@ -131,7 +131,7 @@ pub read-inside-spec : {M : Type 1} → statement M
 read-inside-spec =
     tie.close
     (tie.spec
-    read-head-requires
+    read-kind-requires
     enum-known-kind
     enum-told
     returns

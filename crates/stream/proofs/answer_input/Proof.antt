@@ -1,7 +1,6 @@
 use Rattle.stream.proofs.Threading.{reaches-start, reaches-known, reaches-read, threads-within, reaches-more}
 use borrow.Author.Needs.{needs}
 use Rattle.stream.specs.Threads.{Reaches}
-use Rattle.printout.specs.Printout.{standingOf, unopened}
 use native.Mathlib.Omega.{arith}
 use lib.Seq.{length-take-le}
 use lib.ListN.{length}
@@ -16,7 +15,7 @@ use Rattle.stream.proofs.keep.Reads as keep-reads
 use Rattle.stream.proofs.read_behind.Reads as read-behind-reads
 
 abbrev Inv-loop : tie.InvT-loop
-Inv-loop from to tally₀ network₀ window₀ out₀ session₀ late₀ unused₀ turns₀ tally network window out session late unused turns = Reaches (standingOf unopened tally₀ network₀) out₀ tally network window (record { session = session; late = late; bytes = unused }) × (length tally ≡ length tally₀) × (length network ≡ length network₀) × (length window ≡ length window₀) × (length out ≡ length out₀)
+Inv-loop from to tally₀ network₀ window₀ out₀ session₀ late₀ unused₀ turns₀ tally network window out session late unused turns = Reaches tally network window (record { session = session; late = late; bytes = unused }) × (length tally ≡ length tally₀) × (length network ≡ length network₀) × (length window ≡ length window₀) × (length out ≡ length out₀)
 
 abbrev μ-loop : tie.MeasureT-loop
 μ-loop from to tally₀ network₀ window₀ out₀ session₀ late₀ unused₀ turns₀ tally network window out session late unused turns = turns
@@ -25,7 +24,7 @@ unopened-requires : tie.Need-unopened-requires Inv-loop μ-loop
 unopened-requires c κs = search needs
 
 loop-holds : tie.Need-loop-holds Inv-loop μ-loop
-loop-holds c = (reaches-start _ _ _ _ _ (c .unopened .ensures), refl, refl, refl, refl)
+loop-holds c = (reaches-start _ _ _ _ (c .unopened .ensures) (c .before .before .before .before .before .pre .0) (c .before .before .before .before .before .pre .1), refl, refl, refl, refl)
 
 sub-turns : tie.Need-sub-turns Inv-loop μ-loop
 sub-turns c = search needs
@@ -46,7 +45,7 @@ same-length-4 : tie.Need-same-length-4 Inv-loop μ-loop
 same-length-4 c = c .before .before .before .before .before .before .loop .inv .4
 
 returns : tie.Need-returns Inv-loop μ-loop
-returns c = (reaches-read _ _ _ _ _ _ _ (c .before .before .before .before .before .before .loop .inv .0) (c .before .before .before .read-behind .ensures .1) (c .before .before .before .read-behind .kept .1 .0))
+returns c = (reaches-read _ _ _ _ _ (c .before .before .before .before .before .before .loop .inv .0) (c .before .before .before .read-behind .ensures .1) (c .before .before .before .read-behind .kept .1 .0))
 
 add-filled : tie.Need-add-filled Inv-loop μ-loop
 add-filled c = omega (arith, c .before .before .before .read-behind .ensures .0, c .before .before .before .read-behind .kept .1 .0, c .before .before .before .before .before .before .loop .inv .3, c .before .before .before .before .before .before .before .before .before .before .before .before .good)
@@ -58,7 +57,7 @@ slice-aggregate-answer-all : tie.Need-slice-aggregate-answer-all Inv-loop μ-loo
 slice-aggregate-answer-all c = sym (length-take-le _ _ (c .before .before .before .before .read-behind .ensures .0))
 
 answer-all-requires : tie.Need-answer-all-requires Inv-loop μ-loop
-answer-all-requires c κs = reaches-known _ _ _ _ _ _ _ _ (c .before .before .before .before .before .before .before .before .before .before .loop .inv .0)
+answer-all-requires c κs = reaches-known _ _ _ _ _ (c .before .before .before .before .before .before .before .before .before .before .loop .inv .0)
 
 keep-requires : tie.Need-keep-requires Inv-loop μ-loop
 keep-requires c κs = (threads-within _ _ _ _ _ _ _ _ (c .before .before .before .before .before .before .before .before .before .before .before .before .before .before .before .before .read-behind .ensures .0) (c .before .before .before .before .before .before .before .before .answer-all .ensures), c .before .before .before .before .before .before .before .before .before .before .before .before .before .before .before .before .read-behind .ensures .0)
@@ -67,7 +66,7 @@ loop-less : tie.Need-loop-less Inv-loop μ-loop
 loop-less c = search needs
 
 loop-again : tie.Need-loop-again Inv-loop μ-loop
-loop-again c = (reaches-more _ _ _ _ _ _ _ _ _ _ _ _ _ _ (c .before .before .before .before .before .before .before .before .before .before .before .before .before .before .before .before .before .before .before .before .before .before .loop .inv .0) (c .before .before .before .before .before .before .before .before .before .before .before .before .before .before .before .before .before .before .before .read-behind .ensures .0) (c .before .before .before .before .before .before .before .before .before .before .before .before .before .before .before .before .before .before .before .before .before .before .loop .inv .4) (c .before .before .before .before .before .before .before .before .before .before .before .answer-all .ensures) (c .before .before .keep .ensures .0) (c .before .before .keep .ensures .1) (c .before .before .keep .kept .0), c .before .before .before .before .before .before .before .before .before .before .before .answer-all .kept .1 .1 .1 .0 ∙ c .before .before .before .before .before .before .before .before .before .before .before .before .before .before .before .before .before .before .before .before .before .before .loop .inv .1, c .before .before .before .before .before .before .before .before .before .before .before .answer-all .kept .1 .1 .1 .1 .0 ∙ c .before .before .before .before .before .before .before .before .before .before .before .before .before .before .before .before .before .before .before .before .before .before .loop .inv .2, c .before .before .keep .kept .0 ∙ c .before .before .before .before .before .before .before .before .before .before .before .before .before .before .before .before .before .before .before .read-behind .kept .1 .0 ∙ c .before .before .before .before .before .before .before .before .before .before .before .before .before .before .before .before .before .before .before .before .before .before .loop .inv .3, c .before .before .before .before .before .before .before .before .before .before .before .answer-all .kept .1 .1 .1 .1 .1 .0 ∙ c .before .before .before .before .before .before .before .before .before .before .before .before .before .before .before .before .before .before .before .before .before .before .loop .inv .4)
+loop-again c = (reaches-more _ _ _ _ _ _ _ _ _ _ _ _ _ (c .before .before .before .before .before .before .before .before .before .before .before .before .before .before .before .before .before .before .before .before .before .before .loop .inv .0) (c .before .before .before .before .before .before .before .before .before .before .before .before .before .before .before .before .before .before .before .read-behind .ensures .0) (c .before .before .before .before .before .before .before .before .before .before .before .before .before .before .before .before .before .before .before .before .before .before .before .before .before .before .before .before .pre .2) (c .before .before .before .before .before .before .before .before .before .before .before .before .before .before .before .before .before .before .before .before .before .before .loop .inv .4) (c .before .before .before .before .before .before .before .before .before .before .before .answer-all .ensures) (c .before .before .keep .ensures .0) (c .before .before .keep .ensures .1) (c .before .before .keep .kept .0), c .before .before .before .before .before .before .before .before .before .before .before .answer-all .kept .1 .1 .1 .0 ∙ c .before .before .before .before .before .before .before .before .before .before .before .before .before .before .before .before .before .before .before .before .before .before .loop .inv .1, c .before .before .before .before .before .before .before .before .before .before .before .answer-all .kept .1 .1 .1 .1 .0 ∙ c .before .before .before .before .before .before .before .before .before .before .before .before .before .before .before .before .before .before .before .before .before .before .loop .inv .2, c .before .before .keep .kept .0 ∙ c .before .before .before .before .before .before .before .before .before .before .before .before .before .before .before .before .before .before .before .read-behind .kept .1 .0 ∙ c .before .before .before .before .before .before .before .before .before .before .before .before .before .before .before .before .before .before .before .before .before .before .loop .inv .3, c .before .before .before .before .before .before .before .before .before .before .before .answer-all .kept .1 .1 .1 .1 .1 .0 ∙ c .before .before .before .before .before .before .before .before .before .before .before .before .before .before .before .before .before .before .before .before .before .before .loop .inv .4)
 
 same-length-5 : tie.Need-same-length-5 Inv-loop μ-loop
 same-length-5 c = search needs

@@ -1,5 +1,5 @@
 use lib.Seq.{length-take-le}
-use mathlib.Core.Path.{sym}
+use mathlib.Core.Path.{refl, sym}
 use borrow.Author.Needs.{needs}
 use Rattle.stream.proofs.run.Statement.{statement}
 use Rattle.stream.proofs.run.Tie as tie
@@ -28,7 +28,7 @@ slice-aggregate-answer-input-4 : tie.Need-slice-aggregate-answer-input-4
 slice-aggregate-answer-input-4 c = search needs
 
 answer-input-requires : tie.Need-answer-input-requires
-answer-input-requires c κs = search needs
+answer-input-requires c κs = (refl, refl, search needs)
 
 array-share-prefix-window : tie.Need-array-share-prefix-window
 array-share-prefix-window c = search needs

@@ -1,10 +1,10 @@
-use Rattle.reader.specs.Lines.{headAt}
+use Rattle.reader.specs.Lines.{kindFoundAt}
 use mathlib.Core.Path.{sym, _∙_}
 use borrow.Author.Needs.{needs}
-use Rattle.reader.proofs.read_head.Statement.{statement}
-use Rattle.reader.proofs.read_head.Tie as tie
-use Rattle.reader.proofs.read_head.Reads as reads
-use Rattle.reader.proofs.read_head.Lts as lts
+use Rattle.reader.proofs.read_kind.Statement.{statement}
+use Rattle.reader.proofs.read_kind.Tie as tie
+use Rattle.reader.proofs.read_kind.Reads as reads
+use Rattle.reader.proofs.read_kind.Lts as lts
 use Rattle.reader.proofs.after_word.Reads as after-word-reads
 
 slice-aggregate-after-word : tie.Need-slice-aggregate-after-word
@@ -17,7 +17,7 @@ enum-known-a : tie.Need-enum-known-a
 enum-known-a c = search needs
 
 returns : tie.Need-returns
-unfolding headAt
+unfolding kindFoundAt
 returns c = rw (sym (c .before .before .before .after-word .ensures) ∙ c .before .a .given .1)
 
 enum-told : tie.Need-enum-told
@@ -33,7 +33,7 @@ enum-known-a-2 : tie.Need-enum-known-a-2
 enum-known-a-2 c = search needs
 
 returns-2 : tie.Need-returns-2
-unfolding headAt
+unfolding kindFoundAt
 returns-2 c =
     rw (
       sym (c .before .before .before .before .before .before .before .after-word .ensures) ∙ c .before .before .before .before .before .enum-told .given .1,
@@ -53,7 +53,7 @@ enum-known-a-3 : tie.Need-enum-known-a-3
 enum-known-a-3 c = search needs
 
 returns-3 : tie.Need-returns-3
-unfolding headAt
+unfolding kindFoundAt
 returns-3 c =
     rw (
       sym (c .before .before .before .before .before .before .before .before .before .before .before .after-word .ensures) ∙ c .before .before .before .before .before .before .before .before .before .enum-told .given .1,
@@ -74,7 +74,7 @@ enum-known-a-4 : tie.Need-enum-known-a-4
 enum-known-a-4 c = search needs
 
 returns-4 : tie.Need-returns-4
-unfolding headAt
+unfolding kindFoundAt
 returns-4 c =
     rw (
       sym (c .before .before .before .before .before .before .before .before .before .before .before .before .before .before .before .after-word .ensures) ∙ c .before .before .before .before .before .before .before .before .before .before .before .before .before .enum-told .given .1,
@@ -87,7 +87,7 @@ enum-told-4 : tie.Need-enum-told-4
 enum-told-4 c = search needs
 
 returns-5 : tie.Need-returns-5
-unfolding headAt
+unfolding kindFoundAt
 returns-5 c =
     rw (
       sym (c .before .before .before .before .before .before .before .before .before .before .before .before .before .before .after-word .ensures) ∙ c .before .before .before .before .before .before .before .before .before .before .before .before .enum-told .given .1,
@@ -96,8 +96,8 @@ returns-5 c =
       sym (c .before .before .after-word4 .ensures) ∙ c .enum-told4 .given .1,
     )
 
-pub read-head-spec : {M : Type 1} → statement M
-read-head-spec =
+pub read-kind-spec : {M : Type 1} → statement M
+read-kind-spec =
     tie.close
     (tie.spec
     slice-aggregate-after-word

@@ -168,7 +168,7 @@ module _ (plan : Plan) (faulty : ℕ) (ok : Planned plan faulty) where
     unfolding nowSettled
     way = leads-all es (nowSettled s) (settled-tracked s x) tt
 
-    long : perLeader plan * (size faulty + 1) * plan .gamma + plan .gamma + 4 * plan .delta < runs.ticks π (way .way)
+    long : perLeader plan * (size faulty + 1) * plan .gamma + plan .gamma + 4 * plan .delta < runs.ticksIn π (way .way)
     long = omega (arith, far, steps-kept π (way .way) .0, ticks-are-time (nowSettled s) es)
 
     found : Reached π (x .tally) (way .to .processors) (way .to .tally)

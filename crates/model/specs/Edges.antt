@@ -15,7 +15,7 @@ use Rattle.model.specs.Checks.{lengthsOutside}
 use Rattle.model.specs.Opening.{opening}
 use Rattle.model.specs.Processors.{sentIn, checkIn, stepped}
 use Rattle.model.specs.Lists.{after}
-use Rattle.model.specs.Rows.{definitions, planOf, standard, zeroes, copies, setupOf, lent, buffers, handedIn, withNetwork, Row, agreeing, truth, words, schedule, handed, fieldsOf, movedNumbers}
+use Rattle.model.specs.Rows.{definitions, planOf, standard, zeroes, copies, setupOf, lent, buffers, handedIn, withNetwork, Row, agreeing, truth, words, schedule, handedRow, fieldsOf, movedNumbers}
 
 -- ---- limits
 
@@ -36,9 +36,9 @@ limits =
     (length (opening (setupOf standard 0 zeroes) buffers .state .run .clocks) ∷ length (opening (setupOf standard 0 zeroes) buffers .state .run .views) ∷ [])
     (64 ∷ 64 ∷ [])
     -- a run handed in with a mask bit at n is unsound
-    ∷ handed (handedIn standard 16 5 false 0 0 (replicate 4 5) zeroes [] []) (Settle ∷ []) (Refused 9 ∷ [])
+    ∷ handedRow (handedIn standard 16 5 false 0 0 (replicate 4 5) zeroes [] []) (Settle ∷ []) (Refused 9 ∷ [])
     -- a faulty clock above VΓ is not read by 17
-    ∷ handed (handedIn standard 8 5 false 0 0 (5 ∷ 5 ∷ 5 ∷ 999 ∷ []) (0 ∷ 0 ∷ 0 ∷ 50 ∷ []) [] []) (Tick 1 ∷ []) (Done 1 0 ∷ [])
+    ∷ handedRow (handedIn standard 8 5 false 0 0 (5 ∷ 5 ∷ 5 ∷ 999 ∷ []) (0 ∷ 0 ∷ 0 ∷ 50 ∷ []) [] []) (Tick 1 ∷ []) (Done 1 0 ∷ [])
     -- one processor whose plan has Γ below 2Δ
     ∷ (movedNumbers (stepped (planOf 4 2 3 6) (record { number = 2; clock = 2; view = 0 }) input.Tick), (9 ∷ []) ∷ (2 ∷ 0 ∷ 2 ∷ []) ∷ [])
     ∷ (movedNumbers (stepped (planOf 4 2 3 6) (record { number = 2; clock = 2; view = 0 }) (input.Vc 3)), (9 ∷ []) ∷ (2 ∷ 0 ∷ 2 ∷ []) ∷ [])
@@ -53,17 +53,17 @@ limits =
 pub orders : List Row
 orders =
     -- 9 before 15
-    handed (handedIn standard 0 5 true 6 0 (replicate 4 5) zeroes [] []) (Settle ∷ []) (Refused 9 ∷ [])
+    handedRow (handedIn standard 0 5 true 6 0 (replicate 4 5) zeroes [] []) (Settle ∷ []) (Refused 9 ∷ [])
     -- 12 before 18
-    ∷ handed (withNetwork (copies 8 (2 ∷ 0 ∷ 0 ∷ 0 ∷ [])) (handedIn standard 8 5 false 0 8 (replicate 4 5) zeroes (7 ∷ 1 ∷ []) []))
+    ∷ handedRow (withNetwork (copies 8 (2 ∷ 0 ∷ 0 ∷ 0 ∷ [])) (handedIn standard 8 5 false 0 8 (replicate 4 5) zeroes (7 ∷ 1 ∷ []) []))
     (Sign (View 0 1) ∷ []) (Refused 12 ∷ [])
     -- 13 and 14 before 17
     ∷ schedule buffers (setupOf standard 0 zeroes) (Deliver (Qc 5 0) ∷ Show (Qc 5 0) ∷ []) (Done 0 8 ∷ Refused 13 ∷ Refused 14 ∷ [])
     -- 13 before 18
-    ∷ handed (withNetwork (copies 8 (2 ∷ 0 ∷ 0 ∷ 0 ∷ [])) (handedIn standard 0 5 false 0 8 (replicate 4 5) zeroes (15 ∷ 1 ∷ []) []))
+    ∷ handedRow (withNetwork (copies 8 (2 ∷ 0 ∷ 0 ∷ 0 ∷ [])) (handedIn standard 0 5 false 0 8 (replicate 4 5) zeroes (15 ∷ 1 ∷ []) []))
     (Deliver (View 0 1) ∷ []) (Refused 13 ∷ [])
     -- 17 before 18, delivered
-    ∷ handed
+    ∷ handedRow
     (withNetwork (4 ∷ 5 ∷ 0 ∷ 0 ∷ copies 7 (2 ∷ 0 ∷ 0 ∷ 0 ∷ [])) (handedIn standard 0 5 false 0 8 (replicate 4 5) zeroes (replicate 23 0 ++ (2 ∷ [])) []))
     (Deliver (Qc 5 0) ∷ []) (Refused 17 ∷ [])
     -- and in a tick
@@ -79,7 +79,7 @@ meanings =
     (after (opening (setupOf standard 0 zeroes) (lent 24 64) .state) (Deliver (Vote 0 0) ∷ Deliver (Vote 0 1) ∷ Deliver (Vote 0 2) ∷ Deliver (Vote 0 3) ∷ []) .tally)
     (15 ∷ 0 ∷ 15 ∷ 2 ∷ replicate 20 0)
     -- the marks of a faulty leader's view do not count: f and one that entered are too few
-    ∷ handed (handedIn standard 1 5 false 0 0 (replicate 4 5) zeroes (2 ∷ 0 ∷ 0 ∷ 3 ∷ []) []) (Show (Qc 0 1) ∷ []) (Refused 14 ∷ [])
+    ∷ handedRow (handedIn standard 1 5 false 0 0 (replicate 4 5) zeroes (2 ∷ 0 ∷ 0 ∷ 3 ∷ []) []) (Show (Qc 0 1) ∷ []) (Refused 14 ∷ [])
     -- the check and the messages held that an answer stands for
     ∷ words (checkOf (Done 3 10) ∷ checkOf (Stopped 2 10 16) ∷ checkOf (Refused 9) ∷ heldOf (Done 3 10) ∷ heldOf (Stopped 2 10 16) ∷ heldOf (Refused 9) ∷ [])
     (0 ∷ 16 ∷ 9 ∷ 10 ∷ 10 ∷ 0 ∷ [])

@@ -9,7 +9,7 @@ use Rattle.types.specs.declared.Event.the-variants.{Deliver, Sign, Show, Settle
 use Rattle.types.specs.declared.Input.the-variants as input
 use Rattle.types.specs.declared.Answer.the-variants.{Done, Refused}
 use Rattle.model.specs.Checks.{tooFarAhead}
-use Rattle.model.specs.Rows.{definitions, planOf, standard, padded, table, zeroes, copies, setupOf, lent, buffers, handedIn, withTally, withNetwork, Row, agreeing, truth, schedule, fullSchedule, handed, refusedWhole, oneMove}
+use Rattle.model.specs.Rows.{definitions, planOf, standard, padded, table, zeroes, copies, setupOf, lent, buffers, handedIn, withTally, withNetwork, Row, agreeing, truth, schedule, fullSchedule, handedRow, refusedWhole, oneMove}
 
 -- ---- checks 2 to 8
 
@@ -140,81 +140,81 @@ naming =
 pub handedInRuns : List Row
 handedInRuns =
     -- no run yet: 9 to every event, but 1 to what has no form
-    handed (lent 24 32) (Deliver (View 0 0) ∷ Sign (View 0 0) ∷ Show (Vc 0 0) ∷ Settle ∷ Tick 1 ∷ [])
+    handedRow (lent 24 32) (Deliver (View 0 0) ∷ Sign (View 0 0) ∷ Show (Vc 0 0) ∷ Settle ∷ Tick 1 ∷ [])
     (Refused 9 ∷ Refused 9 ∷ Refused 9 ∷ Refused 9 ∷ Refused 9 ∷ [])
     -- 0 ticks, a certificate signed, a signature shown
-    ∷ handed (lent 24 32) (Tick 0 ∷ Sign (Vc 0 0) ∷ Sign (Qc 0 0) ∷ Show (View 0 0) ∷ Show (Vote 0 0) ∷ [])
+    ∷ handedRow (lent 24 32) (Tick 0 ∷ Sign (Vc 0 0) ∷ Sign (Qc 0 0) ∷ Show (View 0 0) ∷ Show (Vote 0 0) ∷ [])
     (Refused 1 ∷ Refused 1 ∷ Refused 1 ∷ Refused 1 ∷ Refused 1 ∷ [])
     -- sound: a message sent now
-    ∷ handed (handedIn standard 0 5 false 0 1 (replicate 4 5) zeroes [] (2 ∷ 0 ∷ 1 ∷ 5 ∷ [])) (Settle ∷ []) (Done 0 1 ∷ [])
+    ∷ handedRow (handedIn standard 0 5 false 0 1 (replicate 4 5) zeroes [] (2 ∷ 0 ∷ 1 ∷ 5 ∷ [])) (Settle ∷ []) (Done 0 1 ∷ [])
     -- sound: a faulty sender
-    ∷ handed (handedIn standard 2 5 false 0 1 (replicate 4 5) zeroes [] (2 ∷ 0 ∷ 1 ∷ 5 ∷ [])) (Settle ∷ []) (Done 0 1 ∷ [])
+    ∷ handedRow (handedIn standard 2 5 false 0 1 (replicate 4 5) zeroes [] (2 ∷ 0 ∷ 1 ∷ 5 ∷ [])) (Settle ∷ []) (Done 0 1 ∷ [])
     -- sound: a faulty processor's clock and view
-    ∷ handed (handedIn standard 8 5 false 0 1 (5 ∷ 5 ∷ 5 ∷ 999 ∷ []) (0 ∷ 0 ∷ 0 ∷ 50 ∷ []) [] (2 ∷ 0 ∷ 1 ∷ 5 ∷ [])) (Settle ∷ []) (Done 0 1 ∷ [])
+    ∷ handedRow (handedIn standard 8 5 false 0 1 (5 ∷ 5 ∷ 5 ∷ 999 ∷ []) (0 ∷ 0 ∷ 0 ∷ 50 ∷ []) [] (2 ∷ 0 ∷ 1 ∷ 5 ∷ [])) (Settle ∷ []) (Done 0 1 ∷ [])
     -- sound: a clock condition that does not hold
-    ∷ handed (handedIn standard 0 5 false 0 1 (11 ∷ 0 ∷ 0 ∷ 0 ∷ []) zeroes [] (2 ∷ 0 ∷ 1 ∷ 5 ∷ [])) (Settle ∷ []) (Done 0 1 ∷ [])
+    ∷ handedRow (handedIn standard 0 5 false 0 1 (11 ∷ 0 ∷ 0 ∷ 0 ∷ []) zeroes [] (2 ∷ 0 ∷ 1 ∷ 5 ∷ [])) (Settle ∷ []) (Done 0 1 ∷ [])
     -- sound: a settled run with settling time 0
-    ∷ handed (handedIn standard 0 5 true 0 0 (replicate 4 5) zeroes [] []) (Tick 1 ∷ []) (Done 1 0 ∷ [])
+    ∷ handedRow (handedIn standard 0 5 true 0 0 (replicate 4 5) zeroes [] []) (Tick 1 ∷ []) (Done 1 0 ∷ [])
     -- sound: a held view message for a view that is not initial; 11 refuses its delivery
-    ∷ handed (handedIn standard 0 5 false 0 1 (replicate 4 5) zeroes [] (1 ∷ 1 ∷ 0 ∷ 0 ∷ [])) (Settle ∷ Deliver (View 1 0) ∷ [])
+    ∷ handedRow (handedIn standard 0 5 false 0 1 (replicate 4 5) zeroes [] (1 ∷ 1 ∷ 0 ∷ 0 ∷ [])) (Settle ∷ Deliver (View 1 0) ∷ [])
     (Done 0 1 ∷ Refused 11 ∷ [])
     -- unsound: kind 0
-    ∷ handed (handedIn standard 0 5 false 0 1 (replicate 4 5) zeroes [] (0 ∷ 0 ∷ 1 ∷ 5 ∷ [])) (Settle ∷ []) (Refused 9 ∷ [])
+    ∷ handedRow (handedIn standard 0 5 false 0 1 (replicate 4 5) zeroes [] (0 ∷ 0 ∷ 1 ∷ 5 ∷ [])) (Settle ∷ []) (Refused 9 ∷ [])
     -- unsound: kind 5
-    ∷ handed (handedIn standard 0 5 false 0 1 (replicate 4 5) zeroes [] (5 ∷ 0 ∷ 1 ∷ 5 ∷ [])) (Settle ∷ []) (Refused 9 ∷ [])
+    ∷ handedRow (handedIn standard 0 5 false 0 1 (replicate 4 5) zeroes [] (5 ∷ 0 ∷ 1 ∷ 5 ∷ [])) (Settle ∷ []) (Refused 9 ∷ [])
     -- unsound: a view V
-    ∷ handed (handedIn standard 0 5 false 0 1 (replicate 4 5) zeroes [] (2 ∷ 6 ∷ 1 ∷ 5 ∷ [])) (Settle ∷ []) (Refused 9 ∷ [])
+    ∷ handedRow (handedIn standard 0 5 false 0 1 (replicate 4 5) zeroes [] (2 ∷ 6 ∷ 1 ∷ 5 ∷ [])) (Settle ∷ []) (Refused 9 ∷ [])
     -- unsound: a certificate for a view V
-    ∷ handed (handedIn standard 0 5 false 0 1 (replicate 4 5) zeroes [] (4 ∷ 6 ∷ 1 ∷ 5 ∷ [])) (Settle ∷ []) (Refused 9 ∷ [])
+    ∷ handedRow (handedIn standard 0 5 false 0 1 (replicate 4 5) zeroes [] (4 ∷ 6 ∷ 1 ∷ 5 ∷ [])) (Settle ∷ []) (Refused 9 ∷ [])
     -- unsound: a processor n
-    ∷ handed (handedIn standard 0 5 false 0 1 (replicate 4 5) zeroes [] (2 ∷ 0 ∷ 4 ∷ 5 ∷ [])) (Settle ∷ []) (Refused 9 ∷ [])
+    ∷ handedRow (handedIn standard 0 5 false 0 1 (replicate 4 5) zeroes [] (2 ∷ 0 ∷ 4 ∷ 5 ∷ [])) (Settle ∷ []) (Refused 9 ∷ [])
     -- unsound: a message to a faulty leader
-    ∷ handed (handedIn standard 1 5 false 0 1 (replicate 4 5) zeroes [] (2 ∷ 0 ∷ 1 ∷ 5 ∷ [])) (Settle ∷ []) (Refused 9 ∷ [])
+    ∷ handedRow (handedIn standard 1 5 false 0 1 (replicate 4 5) zeroes [] (2 ∷ 0 ∷ 1 ∷ 5 ∷ [])) (Settle ∷ []) (Refused 9 ∷ [])
     -- unsound: a certificate to a faulty processor
-    ∷ handed (handedIn standard 2 5 false 0 1 (replicate 4 5) zeroes [] (4 ∷ 0 ∷ 1 ∷ 5 ∷ [])) (Settle ∷ []) (Refused 9 ∷ [])
+    ∷ handedRow (handedIn standard 2 5 false 0 1 (replicate 4 5) zeroes [] (4 ∷ 0 ∷ 1 ∷ 5 ∷ [])) (Settle ∷ []) (Refused 9 ∷ [])
     -- unsound: sent later than now
-    ∷ handed (handedIn standard 0 5 false 0 1 (replicate 4 5) zeroes [] (2 ∷ 0 ∷ 1 ∷ 6 ∷ [])) (Settle ∷ []) (Refused 9 ∷ [])
+    ∷ handedRow (handedIn standard 0 5 false 0 1 (replicate 4 5) zeroes [] (2 ∷ 0 ∷ 1 ∷ 6 ∷ [])) (Settle ∷ []) (Refused 9 ∷ [])
     -- unsound: a second message out of range
-    ∷ handed (handedIn standard 0 5 false 0 2 (replicate 4 5) zeroes [] (2 ∷ 0 ∷ 1 ∷ 5 ∷ 2 ∷ 0 ∷ 1 ∷ 6 ∷ [])) (Settle ∷ []) (Refused 9 ∷ [])
+    ∷ handedRow (handedIn standard 0 5 false 0 2 (replicate 4 5) zeroes [] (2 ∷ 0 ∷ 1 ∷ 5 ∷ 2 ∷ 0 ∷ 1 ∷ 6 ∷ [])) (Settle ∷ []) (Refused 9 ∷ [])
     -- unsound: a word beyond the last message
-    ∷ handed (handedIn standard 0 5 false 0 1 (replicate 4 5) zeroes [] (2 ∷ 0 ∷ 1 ∷ 5 ∷ 0 ∷ 0 ∷ 0 ∷ 1 ∷ [])) (Settle ∷ []) (Refused 9 ∷ [])
+    ∷ handedRow (handedIn standard 0 5 false 0 1 (replicate 4 5) zeroes [] (2 ∷ 0 ∷ 1 ∷ 5 ∷ 0 ∷ 0 ∷ 0 ∷ 1 ∷ [])) (Settle ∷ []) (Refused 9 ∷ [])
     -- unsound: the last of the words that no message can use
-    ∷ handed (withNetwork (replicate 34 0 ++ (1 ∷ [])) (handedIn standard 0 5 false 0 0 (replicate 4 5) zeroes [] [])) (Settle ∷ []) (Refused 9 ∷ [])
+    ∷ handedRow (withNetwork (replicate 34 0 ++ (1 ∷ [])) (handedIn standard 0 5 false 0 0 (replicate 4 5) zeroes [] [])) (Settle ∷ []) (Refused 9 ∷ [])
     -- unsound: more messages than fit
-    ∷ handed (withNetwork (copies 8 (2 ∷ 0 ∷ 0 ∷ 0 ∷ []) ++ (2 ∷ 0 ∷ 0 ∷ [])) (handedIn standard 0 5 false 0 9 (replicate 4 5) zeroes [] [])) (Settle ∷ [])
+    ∷ handedRow (withNetwork (copies 8 (2 ∷ 0 ∷ 0 ∷ 0 ∷ []) ++ (2 ∷ 0 ∷ 0 ∷ [])) (handedIn standard 0 5 false 0 9 (replicate 4 5) zeroes [] [])) (Settle ∷ [])
     (Refused 9 ∷ [])
     -- unsound: a number of them that would wrap round
-    ∷ handed (handedIn standard 0 5 false 0 4611686018427387904 (replicate 4 5) zeroes [] (2 ∷ 0 ∷ 1 ∷ 5 ∷ [])) (Settle ∷ []) (Refused 9 ∷ [])
+    ∷ handedRow (handedIn standard 0 5 false 0 4611686018427387904 (replicate 4 5) zeroes [] (2 ∷ 0 ∷ 1 ∷ 5 ∷ [])) (Settle ∷ []) (Refused 9 ∷ [])
     -- unsound: a settling time in an unsettled run
-    ∷ handed (handedIn standard 0 5 false 1 1 (replicate 4 5) zeroes [] (2 ∷ 0 ∷ 1 ∷ 5 ∷ [])) (Settle ∷ []) (Refused 9 ∷ [])
+    ∷ handedRow (handedIn standard 0 5 false 1 1 (replicate 4 5) zeroes [] (2 ∷ 0 ∷ 1 ∷ 5 ∷ [])) (Settle ∷ []) (Refused 9 ∷ [])
     -- unsound: one later than now
-    ∷ handed (handedIn standard 0 5 true 6 1 (replicate 4 5) zeroes [] (2 ∷ 0 ∷ 1 ∷ 5 ∷ [])) (Tick 1 ∷ []) (Refused 9 ∷ [])
+    ∷ handedRow (handedIn standard 0 5 true 6 1 (replicate 4 5) zeroes [] (2 ∷ 0 ∷ 1 ∷ 5 ∷ [])) (Tick 1 ∷ []) (Refused 9 ∷ [])
     -- unsound: a correct clock at VΓ, in a view V
-    ∷ handed (handedIn standard 0 5 false 0 1 (5 ∷ 5 ∷ 5 ∷ 24 ∷ []) (0 ∷ 0 ∷ 0 ∷ 6 ∷ []) [] (2 ∷ 0 ∷ 1 ∷ 5 ∷ [])) (Settle ∷ []) (Refused 9 ∷ [])
+    ∷ handedRow (handedIn standard 0 5 false 0 1 (5 ∷ 5 ∷ 5 ∷ 24 ∷ []) (0 ∷ 0 ∷ 0 ∷ 6 ∷ []) [] (2 ∷ 0 ∷ 1 ∷ 5 ∷ [])) (Settle ∷ []) (Refused 9 ∷ [])
     -- unsound: the time at VΓ
-    ∷ handed (handedIn standard 0 24 false 0 1 (replicate 4 5) zeroes [] (2 ∷ 0 ∷ 1 ∷ 5 ∷ [])) (Settle ∷ []) (Refused 9 ∷ [])
+    ∷ handedRow (handedIn standard 0 24 false 0 1 (replicate 4 5) zeroes [] (2 ∷ 0 ∷ 1 ∷ 5 ∷ [])) (Settle ∷ []) (Refused 9 ∷ [])
     -- sound: the time below it
-    ∷ handed (handedIn standard 0 23 false 0 1 (replicate 4 5) zeroes [] (2 ∷ 0 ∷ 1 ∷ 5 ∷ [])) (Settle ∷ []) (Done 0 1 ∷ [])
+    ∷ handedRow (handedIn standard 0 23 false 0 1 (replicate 4 5) zeroes [] (2 ∷ 0 ∷ 1 ∷ 5 ∷ [])) (Settle ∷ []) (Done 0 1 ∷ [])
     -- unsound: a clock below its view's clock time
-    ∷ handed (handedIn standard 0 5 false 0 1 (5 ∷ 5 ∷ 5 ∷ 7 ∷ []) (0 ∷ 0 ∷ 0 ∷ 2 ∷ []) [] (2 ∷ 0 ∷ 1 ∷ 5 ∷ [])) (Settle ∷ []) (Refused 9 ∷ [])
+    ∷ handedRow (handedIn standard 0 5 false 0 1 (5 ∷ 5 ∷ 5 ∷ 7 ∷ []) (0 ∷ 0 ∷ 0 ∷ 2 ∷ []) [] (2 ∷ 0 ∷ 1 ∷ 5 ∷ [])) (Settle ∷ []) (Refused 9 ∷ [])
     -- sound: a clock at it
-    ∷ handed (handedIn standard 0 5 false 0 1 (5 ∷ 5 ∷ 5 ∷ 8 ∷ []) (0 ∷ 0 ∷ 0 ∷ 2 ∷ []) [] (2 ∷ 0 ∷ 1 ∷ 5 ∷ [])) (Settle ∷ []) (Done 0 1 ∷ [])
+    ∷ handedRow (handedIn standard 0 5 false 0 1 (5 ∷ 5 ∷ 5 ∷ 8 ∷ []) (0 ∷ 0 ∷ 0 ∷ 2 ∷ []) [] (2 ∷ 0 ∷ 1 ∷ 5 ∷ [])) (Settle ∷ []) (Done 0 1 ∷ [])
     -- unsound: a clock at that of the next initial view
-    ∷ handed (handedIn standard 0 5 false 0 1 (5 ∷ 5 ∷ 5 ∷ 12 ∷ []) (0 ∷ 0 ∷ 0 ∷ 2 ∷ []) [] (2 ∷ 0 ∷ 1 ∷ 5 ∷ [])) (Settle ∷ []) (Refused 9 ∷ [])
+    ∷ handedRow (handedIn standard 0 5 false 0 1 (5 ∷ 5 ∷ 5 ∷ 12 ∷ []) (0 ∷ 0 ∷ 0 ∷ 2 ∷ []) [] (2 ∷ 0 ∷ 1 ∷ 5 ∷ [])) (Settle ∷ []) (Refused 9 ∷ [])
     -- unsound: a view whose clock time would wrap round to 0
-    ∷ handed (handedIn standard 0 5 false 0 1 zeroes (0 ∷ 0 ∷ 0 ∷ 4611686018427387904 ∷ []) [] (2 ∷ 0 ∷ 1 ∷ 5 ∷ [])) (Settle ∷ []) (Refused 9 ∷ [])
+    ∷ handedRow (handedIn standard 0 5 false 0 1 zeroes (0 ∷ 0 ∷ 0 ∷ 4611686018427387904 ∷ []) [] (2 ∷ 0 ∷ 1 ∷ 5 ∷ [])) (Settle ∷ []) (Refused 9 ∷ [])
     -- unsound: n out of range
-    ∷ handed (handedIn (planOf 3 2 4 6) 0 5 false 0 1 (replicate 4 5) zeroes [] (2 ∷ 0 ∷ 1 ∷ 5 ∷ [])) (Settle ∷ []) (Refused 9 ∷ [])
+    ∷ handedRow (handedIn (planOf 3 2 4 6) 0 5 false 0 1 (replicate 4 5) zeroes [] (2 ∷ 0 ∷ 1 ∷ 5 ∷ [])) (Settle ∷ []) (Refused 9 ∷ [])
     -- unsound: Γ below 2Δ
-    ∷ handed (handedIn (planOf 4 2 3 6) 0 5 false 0 1 (replicate 4 5) zeroes [] (2 ∷ 0 ∷ 1 ∷ 5 ∷ [])) (Settle ∷ []) (Refused 9 ∷ [])
+    ∷ handedRow (handedIn (planOf 4 2 3 6) 0 5 false 0 1 (replicate 4 5) zeroes [] (2 ∷ 0 ∷ 1 ∷ 5 ∷ [])) (Settle ∷ []) (Refused 9 ∷ [])
     -- unsound: no multiple of 3
-    ∷ handed (handedIn (planOf 4 2 4 5) 0 5 false 0 1 (replicate 4 5) zeroes [] (2 ∷ 0 ∷ 1 ∷ 5 ∷ [])) (Settle ∷ []) (Refused 9 ∷ [])
+    ∷ handedRow (handedIn (planOf 4 2 4 5) 0 5 false 0 1 (replicate 4 5) zeroes [] (2 ∷ 0 ∷ 1 ∷ 5 ∷ [])) (Settle ∷ []) (Refused 9 ∷ [])
     -- unsound: more than t faulty
-    ∷ handed (handedIn standard 12 5 false 0 1 (replicate 4 5) zeroes [] (2 ∷ 0 ∷ 1 ∷ 5 ∷ [])) (Settle ∷ []) (Refused 9 ∷ [])
+    ∷ handedRow (handedIn standard 12 5 false 0 1 (replicate 4 5) zeroes [] (2 ∷ 0 ∷ 1 ∷ 5 ∷ [])) (Settle ∷ []) (Refused 9 ∷ [])
     -- unsound: too few tally words
-    ∷ handed (withTally (padded 23 []) (handedIn standard 0 5 false 0 1 (replicate 4 5) zeroes [] (2 ∷ 0 ∷ 1 ∷ 5 ∷ []))) (Settle ∷ []) (Refused 9 ∷ [])
+    ∷ handedRow (withTally (padded 23 []) (handedIn standard 0 5 false 0 1 (replicate 4 5) zeroes [] (2 ∷ 0 ∷ 1 ∷ 5 ∷ []))) (Settle ∷ []) (Refused 9 ∷ [])
     -- unsound: too few network words
-    ∷ handed (withNetwork (padded 31 (2 ∷ 0 ∷ 1 ∷ 5 ∷ [])) (handedIn standard 0 5 false 0 1 (replicate 4 5) zeroes [] [])) (Settle ∷ []) (Refused 9 ∷ [])
+    ∷ handedRow (withNetwork (padded 31 (2 ∷ 0 ∷ 1 ∷ 5 ∷ [])) (handedIn standard 0 5 false 0 1 (replicate 4 5) zeroes [] [])) (Settle ∷ []) (Refused 9 ∷ [])
     ∷ []
 
 -- ---- one processor by itself

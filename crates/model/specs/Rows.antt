@@ -161,8 +161,8 @@ fullSchedule s u es xs ps =
     (map numbersOf (o .answer ∷ answers (o .state) es) ++ positions (after (o .state) es), map numbersOf xs ++ ps)
 
 -- events on a run handed in
-abbrev pub handed : State → List Event → List Answer → Row
-handed s es xs = (map numbersOf (answers s es), map numbersOf xs)
+abbrev pub handedRow : State → List Event → List Answer → Row
+handedRow s es xs = (map numbersOf (answers s es), map numbersOf xs)
 
 -- "A refusal answers its number alone and changes nothing"
 abbrev pub unchanged : State → After → ℕ → Row

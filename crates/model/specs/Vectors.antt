@@ -14,7 +14,7 @@ use Rattle.model.specs.State.{State}
 use Rattle.model.specs.Opening.{opening}
 use Rattle.model.specs.Events.{tickOnce}
 use Rattle.model.specs.Lists.{after, sinceSettling, ticksDone, ticksSince, formedIn, formedDuring, formedSince}
-use Rattle.model.specs.Rows.{definitions, planOf, standard, table, zeroes, copies, setupOf, lent, buffers, handedIn, withNetwork, Row, agreeing, truth, words, schedule, fullSchedule, handed, unchanged, refusedWhole, refusedOpening}
+use Rattle.model.specs.Rows.{definitions, planOf, standard, table, zeroes, copies, setupOf, lent, buffers, handedIn, withNetwork, Row, agreeing, truth, words, schedule, fullSchedule, handedRow, unchanged, refusedWhole, refusedOpening}
 
 -- buffers that held other things before: two tally words more than six views need, and two network words more than eight messages need
 used : State
@@ -44,7 +44,7 @@ moves =
     ∷ schedule buffers (setupOf standard 0 (replicate 4 11)) (Tick 1 ∷ Deliver (Vote 0 0) ∷ Deliver (Vote 0 1) ∷ Deliver (Vote 0 2) ∷ [])
     (Done 0 8 ∷ Done 1 16 ∷ Done 0 15 ∷ Done 0 14 ∷ Done 0 17 ∷ [])
     -- "its own view" is the leader's: processor 1 has left view 3, in which the signer, processor 0, still is
-    ∷ handed (handedIn standard 0 5 false 0 1 (12 ∷ 16 ∷ 12 ∷ 12 ∷ []) (3 ∷ 4 ∷ 3 ∷ 3 ∷ []) (replicate 12 0 ++ (15 ∷ 4 ∷ [])) (1 ∷ 3 ∷ 0 ∷ 0 ∷ []))
+    ∷ handedRow (handedIn standard 0 5 false 0 1 (12 ∷ 16 ∷ 12 ∷ 12 ∷ []) (3 ∷ 4 ∷ 3 ∷ 3 ∷ []) (replicate 12 0 ++ (15 ∷ 4 ∷ [])) (1 ∷ 3 ∷ 0 ∷ 0 ∷ []))
     (Deliver (View 3 0) ∷ []) (Done 0 0 ∷ [])
     -- a clock above the entered view's clock time is not set back
     ∷ fullSchedule buffers (setupOf standard 0 (replicate 4 6)) (Deliver (Vote 0 0) ∷ Deliver (Vote 0 1) ∷ Deliver (Vote 0 2) ∷ Deliver (Qc 0 0) ∷ [])
@@ -108,16 +108,16 @@ moves =
     -- mask 2: those for view 3
     ∷ schedule buffers (setupOf standard 2 (11 ∷ 0 ∷ 11 ∷ 11 ∷ [])) (Tick 1 ∷ []) (Done 0 6 ∷ Done 1 6 ∷ [])
     -- a set handed in with t+2 signers and no mark: the next one heard forms the certificate
-    ∷ handed (handedIn standard 0 5 false 0 2 (replicate 4 5) zeroes (15 ∷ 14 ∷ 14 ∷ []) (1 ∷ 0 ∷ 0 ∷ 0 ∷ 2 ∷ 0 ∷ 0 ∷ 0 ∷ []))
+    ∷ handedRow (handedIn standard 0 5 false 0 2 (replicate 4 5) zeroes (15 ∷ 14 ∷ 14 ∷ []) (1 ∷ 0 ∷ 0 ∷ 0 ∷ 2 ∷ 0 ∷ 0 ∷ 0 ∷ []))
     (Deliver (View 0 0) ∷ Deliver (Vote 0 0) ∷ []) (Done 0 5 ∷ Done 0 8 ∷ [])
     -- also one heard before
-    ∷ handed (handedIn standard 0 5 false 0 2 (replicate 4 5) zeroes (15 ∷ 14 ∷ 14 ∷ []) (1 ∷ 0 ∷ 1 ∷ 0 ∷ 2 ∷ 0 ∷ 1 ∷ 0 ∷ []))
+    ∷ handedRow (handedIn standard 0 5 false 0 2 (replicate 4 5) zeroes (15 ∷ 14 ∷ 14 ∷ []) (1 ∷ 0 ∷ 1 ∷ 0 ∷ 2 ∷ 0 ∷ 1 ∷ 0 ∷ []))
     (Deliver (View 0 1) ∷ Deliver (Vote 0 1) ∷ []) (Done 0 5 ∷ Done 0 8 ∷ [])
     -- bits at n and above count in a set handed in
-    ∷ handed (handedIn standard 0 5 false 0 2 (replicate 4 5) zeroes (15 ∷ 32 ∷ 96 ∷ []) (1 ∷ 0 ∷ 0 ∷ 0 ∷ 2 ∷ 0 ∷ 0 ∷ 0 ∷ []))
+    ∷ handedRow (handedIn standard 0 5 false 0 2 (replicate 4 5) zeroes (15 ∷ 32 ∷ 96 ∷ []) (1 ∷ 0 ∷ 0 ∷ 0 ∷ 2 ∷ 0 ∷ 0 ∷ 0 ∷ []))
     (Deliver (View 0 0) ∷ Deliver (Vote 0 0) ∷ []) (Done 0 5 ∷ Done 0 8 ∷ [])
     -- and in an entered set
-    ∷ handed (handedIn standard 1 5 false 0 0 (replicate 4 5) zeroes (96 ∷ []) []) (Show (Qc 0 1) ∷ []) (Done 0 0 ∷ [])
+    ∷ handedRow (handedIn standard 1 5 false 0 0 (replicate 4 5) zeroes (96 ∷ []) []) (Show (Qc 0 1) ∷ []) (Done 0 0 ∷ [])
     ∷ []
 
 -- ---- what is left in the lent words
@@ -191,7 +191,7 @@ timing =
     ∷ schedule buffers (setupOf standard 1 (replicate 4 10)) (Tick 1 ∷ Settle ∷ Tick 1 ∷ Tick 9 ∷ [])
     (Done 0 0 ∷ Done 1 0 ∷ Done 0 0 ∷ Done 1 6 ∷ Stopped 2 6 16 ∷ [])
     -- any message held may be the overdue one, not the first alone
-    ∷ handed (handedIn standard 0 5 true 0 2 (replicate 4 5) zeroes [] (2 ∷ 0 ∷ 0 ∷ 5 ∷ 2 ∷ 0 ∷ 1 ∷ 3 ∷ [])) (Tick 1 ∷ []) (Refused 16 ∷ [])
+    ∷ handedRow (handedIn standard 0 5 true 0 2 (replicate 4 5) zeroes [] (2 ∷ 0 ∷ 0 ∷ 5 ∷ 2 ∷ 0 ∷ 1 ∷ 3 ∷ [])) (Tick 1 ∷ []) (Refused 16 ∷ [])
     -- nothing is overdue in an unsettled network
     ∷ schedule buffers (setupOf standard 0 zeroes) (Tick 9 ∷ []) (Done 0 8 ∷ Done 9 8 ∷ [])
     -- ticks stop by 16, go on after the overdue ones are delivered, and stop again

@@ -13,7 +13,7 @@ use Rattle.protocol.specs.Base.{Base}
 use Rattle.protocol.specs.Quorum.{exists-entered, entered-clock}
 use Rattle.protocol.specs.Timed.{Target, Timed}
 use Rattle.protocol.specs.Target.{max-clock, target}
-use Rattle.protocol.specs.Runs.{st, Steps, ticks, steps-kept}
+use Rattle.protocol.specs.Runs.{st, Steps, ticksIn, steps-kept}
 use Rattle.protocol.specs.RunKeeps.{steps-holds, steps-on-time}
 
 module _ {π : Params} {P : Processors} {L : Tally} {F : Flight} {now S : ℕ} {b : Bool} (i : Base π P L F now S b) where
@@ -77,7 +77,7 @@ module _ {π : Params} {P : Processors} {L : Tally} {F : Flight} {now S : ℕ} {
   open Params π using (k, f, gamma, delta, correct)
 
   module _ {P' : Processors} {L' : Tally} {F' : Flight} {now' S' : ℕ} {b' : Bool}
-      (r : Steps π (st P L F now now true) (st P' L' F' now' S' b')) (far : k * (f + 1) * gamma + gamma + 4 * delta < ticks π r) where
+      (r : Steps π (st P L F now now true) (st P' L' F' now' S' b')) (far : k * (f + 1) * gamma + gamma + 4 * delta < ticksIn π r) where
     -- more than k(f + 1)Γ + Γ + 4Δ ticks after settling
     pub reached : Reached π L P' L'
     reached = go (max-clock π (P .clock))
@@ -85,7 +85,7 @@ module _ {π : Params} {P : Processors} {L : Tally} {F : Flight} {now S : ℕ} {
         i' : Base π P' L' F' now' S' b'
         i' = steps-holds π r (settle-holds i)
 
-        when : (now' ≡ now + ticks π r) × (S' ≡ now)
+        when : (now' ≡ now + ticksIn π r) × (S' ≡ now)
         when = steps-kept π r
 
         finish : (M star v : ℕ) → Target π M star v → (T (L .formed true v) → ⊥) → T b' × Timed π P' L' F' now' S' M star v → Reached π L P' L'

@@ -55,12 +55,12 @@ step-ticks π (passes h) = 0
 step-ticks π (ticks-on c h) = 1
 
 -- the ticks of a run
-unfoldable pub ticks : (π : Params) {s s' : St} → Steps π s s' → ℕ
-ticks π none = 0
-ticks π (more r x) = ticks π r + step-ticks π x
+unfoldable pub ticksIn : (π : Params) {s s' : St} → Steps π s s' → ℕ
+ticksIn π none = 0
+ticksIn π (more r x) = ticksIn π r + step-ticks π x
 
-pub ticks-trans : (π : Params) {s s' s'' : St} (r : Steps π s s') (r' : Steps π s' s'') → ticks π (steps-trans r r') ≡ ticks π r + ticks π r'
-unfolding ticks steps-trans
+pub ticks-trans : (π : Params) {s s' s'' : St} (r : Steps π s s') (r' : Steps π s' s'') → ticksIn π (steps-trans r r') ≡ ticksIn π r + ticksIn π r'
+unfolding ticksIn steps-trans
 ticks-trans π r none = omega arith
 ticks-trans π r (more r' x) = omega (arith, ticks-trans π r r')
 
@@ -72,8 +72,8 @@ step-kept π (enters p w h) = (omega arith, refl)
 step-kept π (passes h) = (omega arith, refl)
 step-kept π (ticks-on c h) = (omega arith, refl)
 
-pub steps-kept : (π : Params) {s s' : St} (r : Steps π s s') → (time-of s' ≡ time-of s + ticks π r) × (settling-of s' ≡ settling-of s)
-unfolding ticks
+pub steps-kept : (π : Params) {s s' : St} (r : Steps π s s') → (time-of s' ≡ time-of s + ticksIn π r) × (settling-of s' ≡ settling-of s)
+unfolding ticksIn
 steps-kept π none = (omega arith, refl)
 steps-kept π (more r x) = let y = step-kept π x in let z = steps-kept π r in (omega arith, y .1 ∙ z .1)
 
@@ -107,7 +107,7 @@ step-clock-up π (enters r w h) p c = omega (arith, clock-up h p)
 step-clock-up π (passes h) p c = omega arith
 step-clock-up π (ticks-on k h) p c = omega (arith, h .clock-up p c)
 
-pub steps-clock-up : (π : Params) {s s' : St} (r : Steps π s s') (p : ℕ) → T (π .correct p) → clock-of s p + ticks π r ≤ clock-of s' p
-unfolding ticks
+pub steps-clock-up : (π : Params) {s s' : St} (r : Steps π s s') (p : ℕ) → T (π .correct p) → clock-of s p + ticksIn π r ≤ clock-of s' p
+unfolding ticksIn
 steps-clock-up π none p c = omega arith
 steps-clock-up π (more r x) p c = omega (arith, steps-clock-up π r p c, step-clock-up π x p c)

@@ -1,4 +1,4 @@
--- The words beyond the last message, gathered one by one. Assumes nothing.
+-- The words beyond the last message, gathered one by one or eight by eight. Assumes nothing.
 use mathlib.Core.Path.{_≡_, refl, sym, ap, _∙_}
 use mathlib.Core.Bool.{Bool, true, false, not, _||_}
 use mathlib.Core.List.{List, [], _∷_}
@@ -11,10 +11,7 @@ use lib.ListN.{length, getD, drop}
 use borrow.Author.Tests.{ne-eqb}
 use Rattle.base.specs.Choice.{or-first, not-no}
 use Rattle.model.specs.Checks.{someNonZero}
-
--- what is gathered so far, or one of the words from i on, is not 0
-abbrev pub found : ℕ → ℕ → List ℕ → Bool
-found seen i ws = not (eqb seen 0) || someNonZero (drop i ws)
+use Rattle.checks.specs.Scans.{found, gathered}
 
 -- a union is 0 where both parts are
 union-zero : (a b : ℕ) → bitOr a b ≡ 0 → (a ≡ 0) × (b ≡ 0)
@@ -44,7 +41,15 @@ found-more seen i ws l =
     ∙ or-shift (not (eqb seen 0)) (not (eqb (getD ws i 0) 0)) (someNonZero (drop (suc i) ws))
     ∙ ap (λ (b : Bool). not (eqb seen 0) || b) (sym (next i ws l))
 
-none : (i : ℕ) (ws : List ℕ) → length ws ≤ i → someNonZero (drop i ws) ≡ false
+-- word i and the k behind it are
+pub found-several : (seen i : ℕ) (ws : List ℕ) (k : ℕ) → i + k < length ws → found (gathered seen i ws k) (i + suc k) ws ≡ found seen i ws
+found-several seen i ws zero l = found-more seen i ws (omega arith)
+found-several seen i ws (suc k) l =
+    let e : i + suc (suc k) ≡ i + suc k + 1 = omega arith in
+    ap (λ (j : ℕ). found (gathered seen i ws (suc k)) j ws) e ∙ found-more (gathered seen i ws k) (i + suc k) ws l
+    ∙ found-several seen i ws k (omega arith)
+
+pub none : (i : ℕ) (ws : List ℕ) → length ws ≤ i → someNonZero (drop i ws) ≡ false
 none zero [] l = refl
 none (suc i) [] l = refl
 none zero (x ∷ xs) l = absurd (omega arith)

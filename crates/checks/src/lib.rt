@@ -7,9 +7,9 @@ use types::Processor;
 use types::Setup;
 ghost use mathlib.Core.Path.{_≡_};
 ghost use mathlib.Core.Bool.{false, not, _&&_, _||_};
-ghost use Prim.Native.Nat.{_+_, _^_, _≤_, _<_};
+ghost use Prim.Native.Nat.{_+_, _*_, _^_, _≤_, _<_};
 ghost use lib.Dec.{eqb, leb, ltb};
-ghost use lib.ListN.{drop};
+ghost use lib.ListN.{length, drop};
 ghost use Rattle.base.specs.Count.{bit};
 ghost use Rattle.base.specs.Scan.{some};
 ghost use Rattle.types.specs.Quantities.{correct, startLimit};
@@ -17,7 +17,7 @@ ghost use Rattle.model.specs.State.{stateOf, runFrom, capacity};
 ghost use Rattle.types.specs.Messages.{kindOf, viewIn, processorIn};
 ghost use Rattle.model.specs.Checks.{planOutside, faultyOutside, lengthsOutside, clockOutside, outsideAt, heldUnsound, messageUnsound, someNonZero, unsound, startTooHigh, supporting, aloneAt, tooFarAhead};
 ghost use Rattle.pacemaker.specs.Limits.{Within};
-ghost use Rattle.checks.specs.Scans.{flying};
+ghost use Rattle.checks.specs.Scans.{flying, found, gathered, turnWords};
 ghost use Rattle.checks.specs.Setups.{setupCheck};
 
 // The network has at least so many words for each processor.
@@ -25,6 +25,9 @@ const WORDS_EACH: u64 = 8;
 
 // The network has at most so many words.
 const NETWORK_MOST: u64 = 524288;
+
+// So many words are looked at in a turn.
+const TURN_WORDS: usize = 8;
 
 // Whether the set has a number at n or above.
 fn has_beyond(n: u64, faulty: u64) -> bool
@@ -167,17 +170,62 @@ fn settling_unsound(time: u64, settled: bool, gst: u64) -> bool
     gst != 0
 }
 
-// Whether some word from a place on is not 0. All are read: without a way out of the loop they are read several at a time.
-fn tail_not_zero(network: &[u64], from: usize) -> bool
-    ensures { λ r. ⌜ r ≡ someNonZero (drop from (now (network .entry))) ⌝ }
+// Eight words and what was seen before, gathered.
+fn gather_turn(network: &[u64], i: usize, seen: u64) -> u64
+    requires { ⌜ i + turnWords ≤ length (now network) ⌝ }
+    ensures { λ r. ⌜ r ≡ gathered seen i (now (network .entry)) 7 ⌝ }
+{
+    seen
+        | network[i]
+        | network[i + 1]
+        | network[i + 2]
+        | network[i + 3]
+        | network[i + 4]
+        | network[i + 5]
+        | network[i + 6]
+        | network[i + 7]
+}
+
+// The words from a place on, so many turns of eight. A loop of one word a turn takes twice as long where it happens to lie across two lines of the
+// processor's cache; this one does not.
+fn gather_turns(network: &[u64], from: usize, turns: usize) -> u64
+    requires { ⌜ from + turnWords * turns ≤ length (now network) ⌝ }
+    ensures { λ r. ⌜ found r (from + turnWords * turns) (now (network .entry)) ≡ someNonZero (drop from (now (network .entry))) ⌝ }
 {
     let mut seen = 0;
+    let mut i = from;
+    let mut left = turns;
+    while 0 < left {
+        seen = gather_turn(network, i, seen);
+        i += TURN_WORDS;
+        left -= 1;
+    }
+    seen
+}
+
+// Whether a word was seen before that is not 0, or one from a place on is.
+fn rest_not_zero(network: &[u64], from: usize, before: u64) -> bool
+    ensures { λ r. ⌜ r ≡ found before from (now (network .entry)) ⌝ }
+{
+    let mut seen = before;
     let mut i = from;
     while i < network.len() {
         seen = seen | network[i];
         i += 1;
     }
     seen != 0
+}
+
+// Whether some word from a place on is not 0. All are read: without a way out of the loop they are read several at a time.
+fn tail_not_zero(network: &[u64], from: usize) -> bool
+    ensures { λ r. ⌜ r ≡ someNonZero (drop from (now (network .entry))) ⌝ }
+{
+    if network.len() <= from {
+        return false;
+    }
+    let turns = (network.len() - from) / TURN_WORDS;
+    let seen = gather_turns(network, from, turns);
+    rest_not_zero(network, from + TURN_WORDS * turns, seen)
 }
 
 // Check 9, of a run whose tables are lent beside its head.

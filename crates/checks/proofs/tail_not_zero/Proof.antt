@@ -1,51 +1,42 @@
-use mathlib.Core.Path.{_≡_, refl, _∙_}
-use Prim.Native.Nat.{_-_}
-use lib.ListN.{length, drop}
-use Rattle.model.specs.Checks.{someNonZero}
-use Rattle.checks.proofs.Tail.{found, found-more, found-all}
-use native.Mathlib.Omega.{arith}
+use mathlib.Core.Path.{sym, _∙_}
+use Rattle.checks.proofs.Tail.{none}
+use borrow.Author.Needs.{needs}
 use Rattle.checks.proofs.tail_not_zero.Statement.{statement}
 use Rattle.checks.proofs.tail_not_zero.Tie as tie
 use Rattle.checks.proofs.tail_not_zero.Reads as reads
 use Rattle.checks.proofs.tail_not_zero.Lts as lts
+use Rattle.checks.proofs.gather_turns.Reads as gather-turns-reads
+use Rattle.checks.proofs.rest_not_zero.Reads as rest-not-zero-reads
 
-abbrev Inv-loop : tie.InvT-loop
-Inv-loop network from seen₀ i₀ seen i = found seen i network ≡ someNonZero (drop from network)
+returns : tie.Need-returns
+returns c = sym (none (c .before .before .args .from) (c .before .before .args .network .now) (c .if1 .taken))
 
-abbrev μ-loop : tie.MeasureT-loop
-μ-loop network from seen₀ i₀ seen i = length network - i
+sub-turns : tie.Need-sub-turns
+sub-turns c = search needs
 
-loop-holds : tie.Need-loop-holds Inv-loop μ-loop
-loop-holds c = refl
+gather-turns-requires : tie.Need-gather-turns-requires
+gather-turns-requires c κs = search needs
 
-mul-seen : tie.Need-mul-seen Inv-loop μ-loop
-mul-seen c = omega (arith, c .before .before .good)
+mul-rest-not-zero : tie.Need-mul-rest-not-zero
+mul-rest-not-zero c = search needs
 
-shared-slice-read-seen : tie.Need-shared-slice-read-seen Inv-loop μ-loop
-shared-slice-read-seen c = omega arith
+add-rest-not-zero : tie.Need-add-rest-not-zero
+add-rest-not-zero c = search needs
 
-add-i : tie.Need-add-i Inv-loop μ-loop
-add-i c = omega (arith, c .before .before .before .good)
+rest-not-zero-requires : tie.Need-rest-not-zero-requires
+rest-not-zero-requires c κs = search needs
 
-loop-less : tie.Need-loop-less Inv-loop μ-loop
-loop-less c = omega arith
-
-loop-again : tie.Need-loop-again Inv-loop μ-loop
-loop-again c = found-more (c .before .before .loop .seen) (c .before .before .loop .i) (c .before .before .before .args .network .now) (c .before .loop-test .taken) ∙ c .before .before .loop .inv
-
-returns : tie.Need-returns Inv-loop μ-loop
-returns c = found-all (c .before .loop .seen) (c .before .loop .i) (c .before .before .args .network .now) (c .loop-test .left) ∙ c .before .loop .inv
+returns-2 : tie.Need-returns-2
+returns-2 c = c .rest-not-zero .ensures ∙ c .before .gather-turns .ensures
 
 pub tail-not-zero-spec : {M : Type 1} → statement M
 tail-not-zero-spec =
     tie.close
     (tie.spec
-    Inv-loop
-    μ-loop
-    loop-holds
-    mul-seen
-    shared-slice-read-seen
-    add-i
-    loop-less
-    loop-again
-    returns)
+    returns
+    sub-turns
+    gather-turns-requires
+    mul-rest-not-zero
+    add-rest-not-zero
+    rest-not-zero-requires
+    returns-2)

@@ -5,7 +5,6 @@ use mathlib.Core.Logic.{_≢_}
 use Prim.Native.Nat.{ℕ, _-_, _*_, _/_, _^_, _≤_, _<_}
 use native.Mathlib.Omega.{arith}
 use native.Mathlib.Nat.{mul-zero, mul-le-mul, div-lt-iff-lt-mul, le-div-iff-mul-le}
-use lib.Bits.{bitOr, or-add-and, and-le-l, and-le-r}
 use lib.Dec.{leb, ltb}
 use borrow.Author.Tests.{lt-ltb, le-ltb, ne-eqb}
 use Rattle.base.specs.Choice.{cond-yes, cond-no}
@@ -15,11 +14,8 @@ use Rattle.types.specs.Quantities.{lead, nextInitial, clockTime}
 use Rattle.types.specs.Messages.{kindOf, viewIn, processorIn, lastSignatureKind, addressee}
 use Rattle.types.specs.PlanFunctions.{leadWord, addresseeWord, nextInitialWord, clockTimeWord}
 
-pub small-fits : (w g : ℕ) → bitOr w g < 4294967296 → w * g < 2 ^ 64
-small-fits w g l =
-    let a : w ≤ 4294967295 = omega (arith, or-add-and w g, and-le-r w g) in
-    let b : g ≤ 4294967295 = omega (arith, or-add-and w g, and-le-l w g) in
-    omega (arith, mul-le-mul a b)
+pub small-fits : (w g : ℕ) → w < 4294967296 → g < 4294967296 → w * g < 2 ^ 64
+small-fits w g l h = let a : w ≤ 4294967295 = omega arith in let b : g ≤ 4294967295 = omega arith in omega (arith, mul-le-mul a b)
 
 pub quotient-fits : (w g : ℕ) → 0 < g → w ≤ 18446744073709551615 / g → w * g < 2 ^ 64
 quotient-fits w g p l = omega (arith, le-div-iff-mul-le p .0 l)

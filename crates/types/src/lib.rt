@@ -19,7 +19,7 @@ impl Plan {
     const NO_LEADER: u64 = 0;
     // What `clock_time` and `next_initial` answer where their number does not fit.
     const LARGEST: u64 = 18446744073709551615;
-    // Two numbers whose bits are all below this one have a product that fits.
+    // Two numbers below this have a product that fits.
     const HALF: u64 = 4294967296;
     // The limits of checks 2 to 4.
     pub const N_LEAST: u64 = 4;
@@ -64,8 +64,10 @@ impl Plan {
     pub fn clock_time(self, w: u64) -> u64
         ensures { λ r. ⌜ r ≡ clockTimeWord self w ⌝ }
     {
-        if (w | self.gamma) < Plan::HALF {
-            return w * self.gamma;
+        if w < Plan::HALF {
+            if self.gamma < Plan::HALF {
+                return w * self.gamma;
+            }
         }
         if self.gamma == 0 {
             return 0;

@@ -11,7 +11,7 @@ use lib.ListN.{length, getD, drop}
 use borrow.Author.Tests.{ne-eqb}
 use Rattle.base.specs.Choice.{or-first, not-no}
 use Rattle.model.specs.Checks.{someNonZero}
-use Rattle.checks.specs.Scans.{found, gathered}
+use Rattle.checks.specs.Scans.{nonZeroFrom, gathered}
 
 -- a union is 0 where both parts are
 union-zero : (a b : ℕ) → bitOr a b ≡ 0 → (a ≡ 0) × (b ≡ 0)
@@ -34,19 +34,19 @@ next zero (x ∷ xs) l = refl
 next (suc i) (x ∷ xs) l = next i xs (omega arith)
 
 -- word i is gathered
-pub found-more : (seen i : ℕ) (ws : List ℕ) → i < length ws → found (bitOr seen (getD ws i 0)) (i + 1) ws ≡ found seen i ws
+pub found-more : (seen i : ℕ) (ws : List ℕ) → i < length ws → nonZeroFrom (bitOr seen (getD ws i 0)) (i + 1) ws ≡ nonZeroFrom seen i ws
 found-more seen i ws l =
-    ap (λ (k : ℕ). found (bitOr seen (getD ws i 0)) k ws) (add-one i)
+    ap (λ (k : ℕ). nonZeroFrom (bitOr seen (getD ws i 0)) k ws) (add-one i)
     ∙ ap (λ (b : Bool). b || someNonZero (drop (suc i) ws)) (union-of seen (getD ws i 0))
     ∙ or-shift (not (eqb seen 0)) (not (eqb (getD ws i 0) 0)) (someNonZero (drop (suc i) ws))
     ∙ ap (λ (b : Bool). not (eqb seen 0) || b) (sym (next i ws l))
 
 -- word i and the k behind it are
-pub found-several : (seen i : ℕ) (ws : List ℕ) (k : ℕ) → i + k < length ws → found (gathered seen i ws k) (i + suc k) ws ≡ found seen i ws
+pub found-several : (seen i : ℕ) (ws : List ℕ) (k : ℕ) → i + k < length ws → nonZeroFrom (gathered seen i ws k) (i + suc k) ws ≡ nonZeroFrom seen i ws
 found-several seen i ws zero l = found-more seen i ws (omega arith)
 found-several seen i ws (suc k) l =
     let e : i + suc (suc k) ≡ i + suc k + 1 = omega arith in
-    ap (λ (j : ℕ). found (gathered seen i ws (suc k)) j ws) e ∙ found-more (gathered seen i ws k) (i + suc k) ws l
+    ap (λ (j : ℕ). nonZeroFrom (gathered seen i ws (suc k)) j ws) e ∙ found-more (gathered seen i ws k) (i + suc k) ws l
     ∙ found-several seen i ws k (omega arith)
 
 pub none : (i : ℕ) (ws : List ℕ) → length ws ≤ i → someNonZero (drop i ws) ≡ false
@@ -60,5 +60,5 @@ or-nothing true b e = refl
 or-nothing false b e = e
 
 -- none is left
-pub found-all : (seen i : ℕ) (ws : List ℕ) → length ws ≤ i → not (eqb seen 0) ≡ found seen i ws
+pub found-all : (seen i : ℕ) (ws : List ℕ) → length ws ≤ i → not (eqb seen 0) ≡ nonZeroFrom seen i ws
 found-all seen i ws l = sym (or-nothing (not (eqb seen 0)) (someNonZero (drop i ws)) (none i ws l))

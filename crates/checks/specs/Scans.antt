@@ -14,8 +14,8 @@ abbrev pub flying : Plan → ℕ → ℕ → List ℕ → State
 flying plan faulty time network = stateOf (runOf plan faulty time false 0 0 [] []) [] network
 
 -- what is gathered so far, or one of the words from i on, is not 0
-abbrev pub found : ℕ → ℕ → List ℕ → Bool
-found seen i ws = not (eqb seen 0) || someNonZero (drop i ws)
+abbrev pub nonZeroFrom : ℕ → ℕ → List ℕ → Bool
+nonZeroFrom seen i ws = not (eqb seen 0) || someNonZero (drop i ws)
 
 -- what is gathered, with word i and the k behind it
 abbrev pub gathered : ℕ → ℕ → List ℕ → ℕ → ℕ

@@ -17,7 +17,7 @@ ghost use Rattle.model.specs.State.{stateOf, runFrom, capacity};
 ghost use Rattle.types.specs.Messages.{kindOf, viewIn, processorIn};
 ghost use Rattle.model.specs.Checks.{planOutside, faultyOutside, lengthsOutside, clockOutside, outsideAt, heldUnsound, messageUnsound, someNonZero, unsound, startTooHigh, supporting, aloneAt, tooFarAhead};
 ghost use Rattle.pacemaker.specs.Limits.{Within};
-ghost use Rattle.checks.specs.Scans.{flying, found, gathered, turnWords};
+ghost use Rattle.checks.specs.Scans.{flying, nonZeroFrom, gathered, turnWords};
 ghost use Rattle.checks.specs.Setups.{setupCheck};
 
 // The network has at least so many words for each processor.
@@ -186,11 +186,11 @@ fn gather_turn(network: &[u64], i: usize, seen: u64) -> u64
         | network[i + 7]
 }
 
-// The words from a place on, so many turns of eight. A loop of one word a turn takes twice as long where it happens to lie across two lines of the
+// The words from a place on, so many turns of eight. A loop of one word a turn takes up to 1.7 times as long where it happens to lie across two lines of the
 // processor's cache; this one does not.
 fn gather_turns(network: &[u64], from: usize, turns: usize) -> u64
     requires { ⌜ from + turnWords * turns ≤ length (now network) ⌝ }
-    ensures { λ r. ⌜ found r (from + turnWords * turns) (now (network .entry)) ≡ someNonZero (drop from (now (network .entry))) ⌝ }
+    ensures { λ r. ⌜ nonZeroFrom r (from + turnWords * turns) (now (network .entry)) ≡ someNonZero (drop from (now (network .entry))) ⌝ }
 {
     let mut seen = 0;
     let mut i = from;
@@ -205,7 +205,7 @@ fn gather_turns(network: &[u64], from: usize, turns: usize) -> u64
 
 // Whether a word was seen before that is not 0, or one from a place on is.
 fn rest_not_zero(network: &[u64], from: usize, before: u64) -> bool
-    ensures { λ r. ⌜ r ≡ found before from (now (network .entry)) ⌝ }
+    ensures { λ r. ⌜ r ≡ nonZeroFrom before from (now (network .entry)) ⌝ }
 {
     let mut seen = before;
     let mut i = from;

@@ -5,7 +5,7 @@ pub use Rattle.fever.proofs.Writing.{bytes-told}
 use mathlib.Core.Path.{_≡_, refl, sym, ap, _∙_}
 use mathlib.Core.Bool.{true, false, _||_}
 use mathlib.Core.Logic.{_≢_}
-use mathlib.Core.List.{List, [], _∷_, _++_}
+use mathlib.Core.List.{List, _++_}
 use Prim.Native.Nat.{ℕ, _+_, _<_}
 use native.Mathlib.Omega.{arith}
 use lib.Dec.{eqb, ltb}
@@ -21,9 +21,9 @@ use Rattle.types.specs.Messages.{lacksForm}
 use Rattle.model.specs.State.{State, After, checkOf, ticksOf, heldOf, accepted, refused, done}
 use Rattle.model.specs.Opening.{opened, openingChecks, opening}
 use Rattle.model.specs.Events.{Ticks, ticks, ticksAnswer, tickRun, checks, effect, applied}
-use Rattle.model.specs.Lists.{after, ticksDone}
 use Rattle.liveness.proofs.Judging.{by-judged}
-use Rattle.liveness.proofs.Promises.{ticks-are-time, refused-stays, refused-opening-stays}
+use Rattle.liveness.proofs.History.{event-time}
+use Rattle.liveness.proofs.Promises.{refused-stays, refused-opening-stays}
 use Rattle.lines.specs.declared.Read.{Read}
 use Rattle.lines.specs.declared.Read.the-variants as Read
 use Rattle.fever.specs.Layout.{setupLength, setupIn, runLength, runIn, neitherSettled, timeWord, heldWord, runWords}
@@ -54,11 +54,6 @@ effect-sorted (Tick m) s = ticks-sorted (ticks m s)
 applied-sorted : (e : Event) (s : State) → Sorted (applied e s .answer)
 unfolding applied
 applied-sorted e s = by-judged (λ (a : After). Sorted (a .answer)) (refused s) (checks e s) (effect e s) (λ r. tt) (λ c. effect-sorted e s)
-
--- the ticks of one event are the time gained
-applied-time : (e : Event) (s : State) → applied e s .state .run .time ≡ s .run .time + ticksOf (applied e s .answer)
-unfolding after ticksDone
-applied-time e s = omega (arith, ticks-are-time s (e ∷ []))
 
 -- what refused calls tell
 told-same : (x : Lent) (a : After) → accepted (a .answer) ≡ false → a .state ≡ lentState x → told (x .run) a .lent ≡ x
@@ -93,7 +88,7 @@ refused-keeps y x = by-cond Keeps (ltb (length (x .run)) runLength) (called 1 x)
     read (Read.Event e) =
         by-cond Keeps (lacksForm e) (called 1 x) _ (λ t n q. refl) (λ t.
         by-cond Keeps (neitherSettled (x .run)) (called 9 x) (told (x .run) (applied e (lentState x))) (λ u n q. refl)
-        (λ u. told-refused x (applied e (lentState x)) (refused-stays e (lentState x)) (applied-sorted e (lentState x)) (applied-time e (lentState x))))
+        (λ u. told-refused x (applied e (lentState x)) (refused-stays e (lentState x)) (applied-sorted e (lentState x)) (event-time e (lentState x))))
     read Read.Opening = λ n q. refl
     read Read.NoForm = λ n q. refl
 
@@ -137,6 +132,6 @@ pub ticks-told : TicksTold
 unfolding runIn
 ticks-told e x y =
     record {
-      ticks = sym (told-run x (applied e (lentState x)) timeWord y) ∙ applied-time e (lentState x);
+      ticks = sym (told-run x (applied e (lentState x)) timeWord y) ∙ event-time e (lentState x);
       held = sym (told-run x (applied e (lentState x)) heldWord y) ∙ applied-held e (lentState x) y;
     }

@@ -30,7 +30,7 @@ enough = sevens 139 26 64
 
 -- "(open 4 2 4 6 mask (c0 c1 ..))"
 abbrev pub opensAt : ℕ → List ℕ → List ℕ
-opensAt mask clocks = setupWords (setupOf standard mask clocks)
+opensAt faulty clocks = setupWords (setupOf standard faulty clocks)
 
 -- what a call tells: its answer, the time and the messages held
 abbrev pub tells : Called → List ℕ

@@ -44,7 +44,7 @@ lentAfter x cs zero = x
 lentAfter x [] (suc i) = x
 lentAfter x (c ∷ cs) (suc i) = lentAfter (c .lent) cs i
 
--- the events of the list: a call whose numbers are no event stands in it as one that did nothing
+-- the events of the calls: one whose numbers are no event has none, and did nothing (`NoEventNothing`)
 abbrev pub eventThen : Read → List Event → List Event
 eventThen (Read.Event e) es = e ∷ es
 eventThen Read.Opening es = es

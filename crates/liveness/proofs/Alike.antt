@@ -9,13 +9,13 @@ use Rattle.base.specs.Count.{count-ext}
 use Rattle.base.specs.Scan.{listed}
 use Rattle.base.specs.ScanLaws.{some-ext}
 use Rattle.types.specs.declared.Plan.{Plan}
-use Rattle.types.specs.declared.Setup.{Setup}
+use Rattle.types.specs.Runs.{setupWith}
 use Rattle.types.specs.Quantities.{tableClocks, tolerated, startLimit, correct}
 use Rattle.model.specs.State.{State, withClocks}
 use Rattle.model.specs.Moves.{entries, made}
 use Rattle.model.specs.Checks.{supporting, startTooHigh, tooFarAhead}
 use Rattle.model.specs.Opening.{startClocks, blank, firstEntry, opened, opening}
-use Rattle.liveness.specs.Promises.{SameStart, OpensAlike}
+use Rattle.liveness.specs.Promises.{OpensAlike}
 
 -- what is asked only where b holds
 asked-alike : (b x y : Bool) → (T b → x ≡ y) → (b && x) ≡ (b && y)
@@ -27,9 +27,6 @@ taken-alike true x y h = h tt
 taken-alike false x y h = refl
 
 -- ---- one plan and faulty set, and two tables of clocks that are the same of correct processors
-
-abbrev setupWith : Plan → ℕ → List ℕ → Setup
-setupWith plan faulty clocks = record { plan = plan; faulty = faulty; clocks = clocks }
 
 module _ (plan : Plan) (faulty : ℕ) (xs ys : List ℕ) (same : (p : ℕ) → T (correct plan faulty p) → getD xs p 0 ≡ getD ys p 0) where
   high-alike : startTooHigh plan faulty xs ≡ startTooHigh plan faulty ys

@@ -30,11 +30,10 @@ use Rattle.types.specs.declared.Event.the-variants.{Deliver, Sign, Show, Settle
 use Rattle.types.specs.declared.Setup.{Setup}
 use Rattle.types.specs.Quantities.{perLeader, tolerated, lead, correct}
 use Rattle.model.specs.State.{State, After, clockOf, viewOf, checkOf, accepted, refused, done}
-use Rattle.model.specs.Moves.{Entry, stay, into}
 use Rattle.model.specs.Checks.{supporting, tooFarAhead, unsound}
 use Rattle.model.specs.Opening.{opened, openingChecks, opening}
 use Rattle.model.specs.Events.{nowSettled, ticks, tickRun, checks, effect, applied}
-use Rattle.model.specs.Processors.{Moved, clockAt, entryBy, moving, stepChecks, stepped}
+use Rattle.model.specs.Processors.{Moved, clockAt, entryBy, moving-check, movingBy, stepChecks, refusing, stepped}
 use Rattle.model.specs.Lists.{after, ClockCondition, Since, since, sinceSettling, ticksDone, ticksSince, formedSince}
 use Rattle.liveness.specs.Promises.{settlingBound, Certified, DemandThree, StaysSound, OpeningReaches, EventReaches, ReachableSound, StaysSame, NeverBack, RefusedProcessorStays}
 use Rattle.liveness.specs.Live.{setup, unopened, events, past-bound, opening-accepted}
@@ -334,17 +333,12 @@ reachable-sound s x = ap unsound (x .is) ∙ tracked-sound (x .setup .plan) (x .
 
 -- ---- one processor
 
-moved-unchecked : (plan : Plan) (p clock view : ℕ) (e : Entry) → moving plan p clock view e .check ≡ 0
-moved-unchecked plan p clock view stay = refl
-moved-unchecked plan p clock view (into w) = refl
-
 pub refused-processor-stays : RefusedProcessorStays
 unfolding stepped
 refused-processor-stays plan c i =
-    let next = moving plan (c .number) (clockAt c i) (c .view) (entryBy plan c i) in
-    by-judged (λ (m : Moved). m .check ≢ 0 → (m .processor ≡ c) × (m .sent ≡ []))
-    (λ r. record { processor = c; sent = []; check = r }) (stepChecks plan c i (next .processor .clock)) next
-    (λ r ended. (refl, refl)) (λ x ended. absurd (ended (moved-unchecked plan (c .number) (clockAt c i) (c .view) (entryBy plan c i))))
+    let next = movingBy plan c i in
+    by-judged (λ (m : Moved). m .check ≢ 0 → (m .processor ≡ c) × (m .sent ≡ [])) (refusing c) (stepChecks plan c i (next .processor .clock)) next
+    (λ r ended. (refl, refl)) (λ x ended. absurd (ended (moving-check plan (c .number) (clockAt c i) (c .view) (entryBy plan c i))))
 
 -- ---- a run to which the settling half applies: f is t, and the first leader is faulty
 

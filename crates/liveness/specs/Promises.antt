@@ -28,7 +28,7 @@ use Rattle.model.specs.Lists.{after, ClockCondition, Since, sinceSettling, hasS
 
 -- ---- demand 3
 
--- k(f+1)Γ + Γ + 4Δ, k being the views per leader and f the mask's ones
+-- k(f+1)Γ + Γ + 4Δ, k being the views per leader and f how many are faulty
 abbrev pub settlingBound : Setup → ℕ
 settlingBound u = perLeader (u .plan) * (size (u .faulty) + 1) * u .plan .gamma + u .plan .gamma + 4 * u .plan .delta
 

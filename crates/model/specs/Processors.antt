@@ -1,5 +1,5 @@
 -- "At the cabinet's own face": one processor moved by rules 1 to 3.
-use mathlib.Core.Path.{_≡_}
+use mathlib.Core.Path.{_≡_, refl}
 use mathlib.Core.Bool.{Bool, true, false, _||_}
 use mathlib.Core.List.{List, [], _∷_, _++_}
 use Prim.Native.Nat.{ℕ, _+_}
@@ -71,6 +71,11 @@ sending c ms = record { processor = c; sent = ms; check = 0 }
 abbrev pub moving : Plan → ℕ → ℕ → ℕ → Entry → Moved
 moving plan p clock view stay = sending (record { number = p; clock = clock; view = view }) []
 moving plan p clock view (into w) = sending (record { number = p; clock = entryClock plan clock w; view = w }) (entryMessages plan p w)
+
+-- no move is a refusal
+pub moving-check : (plan : Plan) (p clock view : ℕ) (e : Entry) → moving plan p clock view e .check ≡ 0
+moving-check plan p clock view stay = refl
+moving-check plan p clock view (into w) = refl
 
 -- the move of c by rules 1 to 3
 abbrev pub movingBy : Plan → Processor → Input → Moved

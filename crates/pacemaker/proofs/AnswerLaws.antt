@@ -17,7 +17,7 @@ use Rattle.types.specs.declared.Stepped.the-variants.{Sent, Refused}
 use Rattle.types.specs.Quantities.{initial, clockTime}
 use Rattle.model.specs.Moves.{Entry, stay, into}
 use Rattle.model.specs.Checks.{atEnd}
-use Rattle.model.specs.Processors.{Moved, Gives, messagesOf, moving, movingBy, clockAt, entryBy, processorUnsound, refusing, stepped}
+use Rattle.model.specs.Processors.{Moved, Gives, messagesOf, moving, moving-check, movingBy, clockAt, entryBy, processorUnsound, refusing, stepped}
 use Rattle.pacemaker.specs.Steps.{ending, stepping, Named}
 use Rattle.pacemaker.proofs.StepLaws.{ends, goes-on, certified, voted, is-stepping}
 
@@ -34,10 +34,6 @@ refused-check g = g .check
 
 pub refused-some : {m : Moved} {c : Processor} {r : ℕ} → Gives m c (Refused r) → 0 < m .check
 refused-some {m = m} g = let ne : m .check ≡ 0 → ⊥ = eqb-false (m .check) 0 (sym (g .accepted)) in omega arith
-
-moving-check : (plan : Plan) (p clock view : ℕ) (e : Entry) → moving plan p clock view e .check ≡ 0
-moving-check plan p clock view stay = refl
-moving-check plan p clock view (into w) = refl
 
 -- ---- a step of a sound processor below n
 

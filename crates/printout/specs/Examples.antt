@@ -88,7 +88,7 @@ small = lending 24 64
 
 -- "(open 4 2 4 6 mask (c c c c))"
 abbrev pub opens : ℕ → ℕ → List ℕ
-opens mask c = setupForm (setupOf standard mask (replicate 4 c))
+opens faulty c = setupForm (setupOf standard faulty (replicate 4 c))
 
 -- a start clock of 3Γ: check 7
 abbrev pub refusedOpens : List ℕ

@@ -20,13 +20,13 @@ abbrev ticking : List ℕ → List ℕ
 ticking digits = joined (openBracket ∷ tickWord ∷ oneBlank ∷ digits ∷ closeBracket ∷ [])
 
 -- "(open n 2 4 6 0 (..))"
-abbrev opening : ℕ → List ℕ → List ℕ
-opening n clocks = joined (openBracket ∷ openWord ∷ oneBlank ∷ decimal n ∷ oneBlank ∷ decimal 2 ∷ oneBlank ∷ decimal 4 ∷ oneBlank ∷ decimal 6 ∷ oneBlank ∷ decimal 0 ∷ oneBlank ∷ openBracket ∷ clocksForm clocks ∷ closeBracket ∷ closeBracket ∷ [])
+abbrev openingLine : ℕ → List ℕ → List ℕ
+openingLine n clocks = joined (openBracket ∷ openWord ∷ oneBlank ∷ decimal n ∷ oneBlank ∷ decimal 2 ∷ oneBlank ∷ decimal 4 ∷ oneBlank ∷ decimal 6 ∷ oneBlank ∷ decimal 0 ∷ oneBlank ∷ openBracket ∷ clocksForm clocks ∷ closeBracket ∷ closeBracket ∷ [])
 
 pub good : List (List ℕ)
 good =
     eventForm (Deliver (View 0 0)) ∷ eventForm (Sign (Vote 10 2)) ∷ eventForm (Show (Qc 100 0)) ∷ settled ∷ ticking (decimal 18446744073709551615)
-    ∷ opening 4 (1 ∷ 2 ∷ 3 ∷ 4 ∷ []) ∷ []
+    ∷ openingLine 4 (1 ∷ 2 ∷ 3 ∷ 4 ∷ []) ∷ []
 
 pub good-read : map reading good ≡ (
     eventReading (Deliver (View 0 0)) ∷ eventReading (Sign (Vote 10 2)) ∷ eventReading (Show (Qc 100 0)) ∷ eventReading Settle ∷ eventReading (Tick 18446744073709551615)
@@ -39,7 +39,7 @@ bad =
     [] ∷ (settled ++ oneBlank) ∷ (oneBlank ++ settled) ∷ (settled ++ (13 ∷ [])) ∷ (settled ++ settled)
     ∷ ticking (decimal 0) ∷ ticking (48 ∷ 51 ∷ []) ∷ ticking (oneBlank ++ decimal 3) ∷ ticking (9 ∷ 51 ∷ []) ∷ ticking (43 ∷ 51 ∷ []) ∷ ticking [] ∷ ticking (decimal (2 ^ 64))
     ∷ carryingForm signWord (Vc 0 0) ∷ carryingForm showWord (Vote 0 0)
-    ∷ opening 0 [] ∷ opening 3 (1 ∷ 2 ∷ 3 ∷ 4 ∷ []) ∷ opening 5 (1 ∷ 2 ∷ 3 ∷ 4 ∷ []) ∷ []
+    ∷ openingLine 0 [] ∷ openingLine 3 (1 ∷ 2 ∷ 3 ∷ 4 ∷ []) ∷ openingLine 5 (1 ∷ 2 ∷ 3 ∷ 4 ∷ []) ∷ []
 
 -- "a line that fails check 1"
 pub bad-read : map reading bad ≡ map (λ s. noForm) bad

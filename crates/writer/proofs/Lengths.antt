@@ -10,7 +10,7 @@ use Rattle.types.specs.declared.Event.the-variants.{Deliver, Sign, Show, Settle
 use Rattle.types.specs.Messages.{viewIn, processorIn}
 use Rattle.lines.specs.Decimal.{decimal}
 use Rattle.lines.specs.Forms.{kindWord, messageForm, eventForm, furtherClocks, clocksForm, setupForm}
-use Rattle.writer.specs.Setups.{setupWith}
+use Rattle.types.specs.Runs.{setupWith}
 use Rattle.writer.proofs.Clocks.{further-length, line-whole}
 
 pub message-bytes : (m : Message) (k v p a b : ℕ) → k ≡ length (kindWord m) → v ≡ viewIn m → a ≡ length (decimal v) → p ≡ processorIn m → b ≡ length (decimal p)

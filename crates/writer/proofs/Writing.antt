@@ -17,7 +17,7 @@ use Rattle.lines.specs.declared.Written.{Written}
 use Rattle.lines.specs.declared.Written.the-variants.{Bytes, Refused}
 use Rattle.lines.specs.Forms.{newline, lineClocks, setupForm, lacksSetupForm}
 use Rattle.lines.specs.Contracts.{line, notWritten, writtenAs, writtenIn, Writes}
-use Rattle.writer.specs.Setups.{setupWith}
+use Rattle.types.specs.Runs.{setupWith}
 use Rattle.writer.specs.Stamps.{stamp, Room, Stamped}
 use Rattle.writer.proofs.Stamping.{room-first, room-second, written-both}
 

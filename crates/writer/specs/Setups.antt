@@ -1,13 +1,8 @@
 -- A setup in parts, as the writer's functions take it.
 use Prim.Native.Nat.{ℕ}
 use mathlib.Core.List.{List, [], _∷_}
-use Rattle.types.specs.declared.Plan.{Plan}
-use Rattle.types.specs.declared.Setup.{Setup}
 use Rattle.lines.specs.Decimal.{decimal}
 use Rattle.lines.specs.Forms.{oneBlank, openBracket, closeBracket, joined, clocksForm}
-
-abbrev pub setupWith : Plan → ℕ → List ℕ → Setup
-setupWith plan faulty clocks = record { plan = plan; faulty = faulty; clocks = clocks }
 
 -- what its form has behind the plan
 abbrev pub startForm : ℕ → List ℕ → List ℕ

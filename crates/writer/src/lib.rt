@@ -19,7 +19,7 @@ ghost use Rattle.types.specs.Messages.{lacksForm};
 ghost use Rattle.lines.specs.Forms.{eventForm, setupForm, lacksSetupForm};
 ghost use Rattle.lines.specs.Printout.{answerForm, processorForm};
 ghost use Rattle.lines.specs.Contracts.{Writes};
-ghost use Rattle.writer.specs.Setups.{setupWith};
+ghost use Rattle.types.specs.Runs.{setupWith};
 
 // The line of an event.
 pub fn write_event(event: Event, out: &mut [u8]) -> Written

@@ -8,7 +8,8 @@ ghost use lib.ListN.{length};
 ghost use Rattle.types.specs.Quantities.{nMost};
 ghost use Rattle.lines.specs.Forms.{setupForm, clocksForm};
 ghost use Rattle.lines.specs.Splitting.{lineMost};
-ghost use Rattle.writer.specs.Setups.{setupWith, startForm};
+ghost use Rattle.types.specs.Runs.{setupWith};
+ghost use Rattle.writer.specs.Setups.{startForm};
 ghost use Rattle.writer.specs.Stamps.{Room, Stamped};
 
 // Clocks with a blank between them.
@@ -34,7 +35,7 @@ pub(crate) fn setup_length(plan: Plan, faulty: u64, clocks: &[u64]) -> usize
     bytes + pieces::width(faulty)
 }
 
-// What stands behind the plan: the mask, the clocks in their brackets and the last bracket.
+// What stands behind the plan: the faulty set, the clocks in their brackets and the last bracket.
 fn put_start(out: &mut [u8], at: usize, faulty: u64, clocks: &[u64]) -> usize
     requires { ⌜ (0 < length (now clocks)) × Room (now out) at (startForm faulty (now clocks)) ⌝ }
     ensures { λ r. ⌜ Stamped (now (out .entry)) at (startForm faulty (now (clocks .entry))) r (now (out .exit)) ⌝ }

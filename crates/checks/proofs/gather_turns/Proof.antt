@@ -3,7 +3,7 @@ use Prim.Native.Nat.{ℕ, _+_, _*_}
 use native.Mathlib.Omega.{arith}
 use lib.ListN.{drop}
 use Rattle.model.specs.Checks.{someNonZero}
-use Rattle.checks.specs.Scans.{found, turnWords}
+use Rattle.checks.specs.Scans.{nonZeroFrom, turnWords}
 use Rattle.checks.proofs.Tail.{found-several}
 use Rattle.checks.proofs.gather_turns.Statement.{statement}
 use Rattle.checks.proofs.gather_turns.Tie as tie
@@ -13,7 +13,7 @@ use Rattle.checks.proofs.gather_turn.Reads as gather-turn-reads
 
 abbrev Inv-loop : tie.InvT-loop
 Inv-loop network from turns seen₀ i₀ left₀ seen i left =
-    (i + turnWords * left ≡ from + turnWords * turns) × (found seen i network ≡ someNonZero (drop from network))
+    (i + turnWords * left ≡ from + turnWords * turns) × (nonZeroFrom seen i network ≡ someNonZero (drop from network))
 
 abbrev μ-loop : tie.MeasureT-loop
 μ-loop network from turns seen₀ i₀ left₀ seen i left = left
@@ -36,7 +36,7 @@ loop-less c = omega arith
 loop-again : tie.Need-loop-again Inv-loop μ-loop
 loop-again c = (
   omega (arith, c .before .before .loop .inv .0, c .before .loop-test .taken),
-  ap (λ (x : ℕ). found x (c .before .before .loop .i + turnWords) (c .before .before .before .before .args .network .now)) (c .gather-turn .ensures)
+  ap (λ (x : ℕ). nonZeroFrom x (c .before .before .loop .i + turnWords) (c .before .before .before .before .args .network .now)) (c .gather-turn .ensures)
       ∙ found-several (c .before .before .loop .seen) (c .before .before .loop .i) (c .before .before .before .before .args .network .now) 7 (omega (arith, c .before .before .loop .inv .0, c .before .loop-test .taken, c .before .before .before .before .pre))
       ∙ c .before .before .loop .inv .1,
 )
@@ -44,7 +44,7 @@ loop-again c = (
 returns : tie.Need-returns Inv-loop μ-loop
 returns c =
     let e : c .before .before .before .args .from + turnWords * c .before .before .before .args .turns ≡ c .before .loop .i = omega (arith, c .before .loop .inv .0, c .loop-test .left) in
-    ap (λ (j : ℕ). found (c .before .loop .seen) j (c .before .before .before .args .network .now)) e ∙ c .before .loop .inv .1
+    ap (λ (j : ℕ). nonZeroFrom (c .before .loop .seen) j (c .before .before .before .args .network .now)) e ∙ c .before .loop .inv .1
 
 pub gather-turns-spec : {M : Type 1} → statement M
 gather-turns-spec = tie.close (tie.spec Inv-loop μ-loop loop-holds gather-turn-requires add-i sub-left loop-less loop-again returns)

@@ -1,7 +1,7 @@
 use mathlib.Core.Path.{_≡_, refl, _∙_}
 use Prim.Native.Nat.{_-_}
 use lib.ListN.{length}
-use Rattle.checks.specs.Scans.{found}
+use Rattle.checks.specs.Scans.{nonZeroFrom}
 use Rattle.checks.proofs.Tail.{found-more, found-all}
 use native.Mathlib.Omega.{arith}
 use Rattle.checks.proofs.rest_not_zero.Statement.{statement}
@@ -10,7 +10,7 @@ use Rattle.checks.proofs.rest_not_zero.Reads as reads
 use Rattle.checks.proofs.rest_not_zero.Lts as lts
 
 abbrev Inv-loop : tie.InvT-loop
-Inv-loop network from before seen₀ i₀ seen i = found seen i network ≡ found before from network
+Inv-loop network from before seen₀ i₀ seen i = nonZeroFrom seen i network ≡ nonZeroFrom before from network
 
 abbrev μ-loop : tie.MeasureT-loop
 μ-loop network from before seen₀ i₀ seen i = length network - i

@@ -1,10 +1,9 @@
 -- What the scans of the network look at: the held messages, and the words beyond them.
 use mathlib.Core.Bool.{Bool, false, not, _||_}
 use mathlib.Core.List.{List, []}
-use Prim.Native.Nat.{ℕ, zero, suc, _+_}
-use lib.Bits.{bitOr}
+use Prim.Native.Nat.{ℕ}
 use lib.Dec.{eqb}
-use lib.ListN.{getD, drop}
+use lib.ListN.{drop}
 use Rattle.types.specs.declared.Plan.{Plan}
 use Rattle.model.specs.State.{State, stateOf, runOf}
 use Rattle.model.specs.Checks.{someNonZero}
@@ -16,11 +15,6 @@ flying plan faulty time network = stateOf (runOf plan faulty time false 0 0 [] [
 -- what is gathered so far, or one of the words from i on, is not 0
 abbrev pub nonZeroFrom : ℕ → ℕ → List ℕ → Bool
 nonZeroFrom seen i ws = not (eqb seen 0) || someNonZero (drop i ws)
-
--- what is gathered, with word i and the k behind it
-abbrev pub gathered : ℕ → ℕ → List ℕ → ℕ → ℕ
-gathered seen i ws zero = bitOr seen (getD ws i 0)
-gathered seen i ws (suc k) = bitOr (gathered seen i ws k) (getD ws (i + suc k) 0)
 
 -- the words that one turn gathers
 abbrev pub turnWords : ℕ

@@ -5,7 +5,7 @@ use types::Plan;
 use types::Sends;
 ghost use mathlib.Core.Path.{_≡_};
 ghost use mathlib.Core.List.{[], _∷_};
-ghost use mathlib.Core.Bool.{cond};
+ghost use mathlib.Core.Bool.{true, cond};
 ghost use Prim.Native.Nat.{_+_, _-_, _<_, _≤_};
 ghost use lib.ListN.{length};
 ghost use Rattle.base.specs.Sets.{size};
@@ -122,6 +122,37 @@ pub(crate) fn enter(
         Sends::Vote(w) => enter_later(tally, network, held, plan, faulty, p, w, time),
         Sends::ViewAndVote(w) => enter_initial(tally, network, held, plan, faulty, p, w, time),
     }
+}
+
+// Whether nothing is sent.
+fn silent(sends: Sends) -> bool
+    ensures { λ r. ⌜ (r ≡ true → sends ≡ Sends.Nothing) ⌝ }
+{
+    match sends {
+        Sends::Nothing => true,
+        Sends::Vote(_) => false,
+        Sends::ViewAndVote(_) => false,
+    }
+}
+
+// The same in a tick, in which most processors send nothing: for those nothing is called.
+pub(crate) fn enter_by_tick(
+    tally: &mut [u64],
+    network: &mut [u64],
+    held: usize,
+    plan: Plan,
+    faulty: u64,
+    p: u64,
+    sends: Sends,
+    time: u64,
+) -> usize
+    requires { ⌜ (0 < plan .n) × (p < 64) × (held + length (sentBy plan faulty p sends) ≤ capacity (now network)) ⌝ }
+    ensures { λ r. ⌜ Posts (sentBy plan faulty p sends) held time (now (network .entry)) r (now (network .exit)) × (now (tally .exit) ≡ enteredBy (now (tally .entry)) p sends) ⌝ }
+{
+    if silent(sends) {
+        return held;
+    }
+    enter(tally, network, held, plan, faulty, p, sends, time)
 }
 
 // Whether the leader of view w is correct.

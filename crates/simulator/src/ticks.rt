@@ -150,7 +150,7 @@ fn arrive_all(
         let sends = x.sends;
         clocks[i] = x.processor.clock;
         views[i] = x.processor.view;
-        held = moves::enter(tally, network, held, head.plan, head.faulty, q, sends, time);
+        held = moves::enter_by_tick(tally, network, held, head.plan, head.faulty, q, sends, time);
         q += 1;
     }
     let mut next = head;

@@ -18,7 +18,7 @@ use Rattle.simulator.proofs.ticks.arrive_all.Statement.{statement}
 use Rattle.simulator.proofs.ticks.arrive_all.Tie as tie
 use Rattle.simulator.proofs.ticks.arrive_all.Reads as reads
 use Rattle.simulator.proofs.ticks.arrive_all.Lts as lts
-use Rattle.simulator.proofs.moves.enter.Reads as enter-reads
+use Rattle.simulator.proofs.moves.enter_by_tick.Reads as enter-by-tick-reads
 use Rattle.simulator.proofs.ticks.arrive.Reads as arrive-reads
 
 abbrev Inv-loop : tie.InvT-loop
@@ -63,8 +63,8 @@ mul-views c = omega (arith, c .before .before .before .loop-test .taken, within 
 element-write-views : tie.Need-element-write-views Inv-loop μ-loop
 element-write-views c = omega (arith, c .before .before .before .loop-test .taken, within (c .before .before .before .before .before .before .before .before .args .head .plan) (c .before .before .before .before .before .before .before .before .pre .fit .plan) .n-most)
 
-enter-requires : tie.Need-enter-requires Inv-loop μ-loop
-enter-requires c κs =
+enter-by-tick-requires : tie.Need-enter-by-tick-requires Inv-loop μ-loop
+enter-by-tick-requires c κs =
     let s : State = stateOf (runFrom (c .before .before .before .before .before .before .before .before .before .before .args .head) (c .before .before .before .before .before .before .before .before .before .before .args .clocks .now) (c .before .before .before .before .before .before .before .before .before .before .args .views .now)) (c .before .before .before .before .before .before .before .before .before .before .args .tally .now) (c .before .before .before .before .before .before .before .before .before .before .args .network .now) in
     let most : s .run .plan .n ≤ length (s .run .clocks) = c .before .before .before .before .before .before .before .before .before .before .pre .whole .clocks in
     let a : Arrives (s .run .plan) (s .run .faulty) (seat (s .run) (c .before .before .before .before .before .before .loop .q)) (c .before .before .arrive .result) = subst (λ (p : Processor). Arrives (s .run .plan) (s .run .faulty) p (c .before .before .arrive .result)) (seat-kept s (c .before .before .before .before .before .before .loop .q) (runFrom (c .before .before .before .before .before .before .before .before .before .before .args .head) (c .before .before .before .before .before .before .loop .clocks) (c .before .before .before .before .before .before .loop .views)) (c .before .before .before .before .before .before .loop .inv .1)) (c .before .before .arrive .ensures) in
@@ -85,8 +85,8 @@ loop-again c =
     let on : c .before .before .before .before .before .before .before .arrive .result .ends ≡ false = a .ends ∙ some-not (endsAt (s .run)) _ (c .before .before .before .before .before .before .before .before .before .before .before .loop .q) (c .before .before .before .before .before .before .before .before .before .before .before .before .before .before .before .pre .goes-on) (c .before .before .before .before .before .before .before .before .before .before .loop-test .taken) in (
       omega arith,
       next-turn s most (c .before .before .before .before .before .before .before .before .before .before .before .loop .q) (c .before .before .before .before .before .before .before .before .before .before .loop-test .taken) (c .before .before .before .before .before .before .before .arrive .result) a on (runFrom (c .before .before .before .before .before .before .before .before .before .before .before .before .before .before .before .args .head) (c .before .before .before .before .before .before .before .before .before .before .before .loop .clocks) (c .before .before .before .before .before .before .before .before .before .before .before .loop .views)) (c .before .before .before .before .before .before .before .before .before .before .before .loop .inv .1),
-      tally-turn s most (c .before .before .before .before .before .before .before .before .before .before .before .loop .q) (c .before .before .before .before .before .before .before .before .before .before .loop-test .taken) (c .before .before .before .before .before .before .before .arrive .result) a on _ _ (c .before .before .before .before .before .before .before .before .before .before .before .loop .inv .2) (c .before .before .before .before .enter .ensures .1),
-      posts-turn s most (c .before .before .before .before .before .before .before .before .before .before .before .loop .q) (c .before .before .before .before .before .before .before .before .before .before .loop-test .taken) (c .before .before .before .before .before .before .before .arrive .result) a on (c .before .before .before .before .before .before .before .before .before .before .before .before .before .before .before .pre .room) _ _ _ (c .before .before .before .before .before .before .before .before .before .before .before .loop .inv .3) _ _ (c .before .before .before .before .enter .ensures .0),
+      tally-turn s most (c .before .before .before .before .before .before .before .before .before .before .before .loop .q) (c .before .before .before .before .before .before .before .before .before .before .loop-test .taken) (c .before .before .before .before .before .before .before .arrive .result) a on _ _ (c .before .before .before .before .before .before .before .before .before .before .before .loop .inv .2) (c .before .before .before .before .enter-by-tick .ensures .1),
+      posts-turn s most (c .before .before .before .before .before .before .before .before .before .before .before .loop .q) (c .before .before .before .before .before .before .before .before .before .before .loop-test .taken) (c .before .before .before .before .before .before .before .arrive .result) a on (c .before .before .before .before .before .before .before .before .before .before .before .before .before .before .before .pre .room) _ _ _ (c .before .before .before .before .before .before .before .before .before .before .before .loop .inv .3) _ _ (c .before .before .before .before .enter-by-tick .ensures .0),
       omega arith,
       omega arith,
     )
@@ -124,7 +124,7 @@ arrive-all-spec =
     element-write-clocks
     mul-views
     element-write-views
-    enter-requires
+    enter-by-tick-requires
     add-q
     loop-less
     loop-again

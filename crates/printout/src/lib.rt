@@ -4,6 +4,11 @@ use types::Run;
 ghost use mathlib.Core.Path.{_≡_};
 ghost use Rattle.printout.specs.Printout.{unopenedSession};
 
+// The words that the program lends: so many for the tally, so many for the network.
+pub const TALLY_LENT: usize = 3600;
+
+pub const NETWORK_LENT: usize = 2048;
+
 // The state of the program but for the lent buffers: whether a run is open, and the run.
 pub struct Session {
     pub opened: bool,

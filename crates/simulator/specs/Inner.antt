@@ -40,6 +40,14 @@ enteredBy t p Nothing = t
 enteredBy t p (VoteFor w) = added t w enteredWord p
 enteredBy t p (ViewAndVote w) = added t w enteredWord p
 
+-- that the network has room for it
+abbrev pub CanEnter : Plan → ℕ → ℕ → Sends → ℕ → List ℕ → Type 0
+CanEnter plan faulty p x held ws = (0 < plan .n) × (p < 64) × (held + length (sentBy plan faulty p x) ≤ capacity ws)
+
+-- that both are done: how many messages are held then, the network's words and the tally
+abbrev pub Enters : Plan → ℕ → ℕ → Sends → ℕ → ℕ → List ℕ → List ℕ → ℕ → List ℕ → List ℕ → Type 0
+Enters plan faulty p x held time t ws held' t' ws' = Posts (sentBy plan faulty p x) held time ws held' ws' × (t' ≡ enteredBy t p x)
+
 -- ---- a reaction
 
 -- that it is what an input makes of a processor: rules 1 to 3, and check 17

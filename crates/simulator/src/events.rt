@@ -23,7 +23,7 @@ ghost use Rattle.model.specs.State.{stateOf, runFrom, leftBehind, capacity};
 ghost use Rattle.model.specs.Moves.{ripe, handling, made, formedMessages, heardChange};
 ghost use Rattle.model.specs.Checks.{planOutside, faultyOutside, unsound, exists};
 ghost use Rattle.model.specs.Events.{applied};
-ghost use Rattle.simulator.specs.Inner.{Fit, Decides, ReachesCorrect, seat, namedCheck, sentBy, movedChange, changeBy, sentFor, finished};
+ghost use Rattle.simulator.specs.Inner.{Fit, Decides, ReachesCorrect, seat, namedCheck, CanEnter, movedChange, changeBy, sentFor, finished};
 
 // A refusal: the check's number alone.
 pub(crate) fn refuse(head: Head, check: u64) -> AppliedHead
@@ -187,7 +187,7 @@ fn move_on(
     tally: &mut [u64],
     network: &mut [u64],
 ) -> Head
-    requires { ⌜ (0 < head .plan .n) × (p < 64) × (head .held + length (sentBy (head .plan) (head .faulty) p (x .sends)) ≤ capacity (now network)) ⌝ }
+    requires { ⌜ CanEnter (head .plan) (head .faulty) p (x .sends) (head .held) (now network) ⌝ }
     ensures { λ r. ⌜ stateOf (runFrom r (now (clocks .exit)) (now (views .exit))) (now (tally .exit)) (now (network .exit))
         ≡ made (stateOf (runFrom head (now (clocks .entry)) (now (views .entry))) (now (tally .entry)) (now (network .entry))) (movedChange (runFrom head (now (clocks .entry)) (now (views .entry))) (now (tally .entry)) p x) ⌝ }
 {

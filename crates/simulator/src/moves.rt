@@ -11,9 +11,9 @@ ghost use lib.ListN.{length};
 ghost use Rattle.base.specs.Sets.{size};
 ghost use Rattle.types.specs.Quantities.{lead, correct};
 ghost use Rattle.types.specs.Messages.{addressee};
-ghost use Rattle.model.specs.State.{enteredWord, added, capacity};
+ghost use Rattle.model.specs.State.{capacity};
 ghost use Rattle.model.specs.Moves.{toCorrect, needed, ripe, certificate, toEach, heardTally, formedMessages};
-ghost use Rattle.simulator.specs.Inner.{Posts, sentBy, enteredBy};
+ghost use Rattle.simulator.specs.Inner.{Posts, sentBy, CanEnter, Enters};
 
 // The one way by which a message goes into the network: to a correct processor, behind the held ones. Answers how many are held then.
 pub(crate) fn send(
@@ -77,8 +77,8 @@ fn enter_later(
     w: u64,
     time: u64,
 ) -> usize
-    requires { ⌜ (0 < plan .n) × (p < 64) × (held + length (sentBy plan faulty p (Sends.Vote w)) ≤ capacity (now network)) ⌝ }
-    ensures { λ r. ⌜ Posts (sentBy plan faulty p (Sends.Vote w)) held time (now (network .entry)) r (now (network .exit)) × (now (tally .exit) ≡ added (now (tally .entry)) w enteredWord p) ⌝ }
+    requires { ⌜ CanEnter plan faulty p (Sends.Vote w) held (now network) ⌝ }
+    ensures { λ r. ⌜ Enters plan faulty p (Sends.Vote w) held time (now (tally .entry)) (now (network .entry)) r (now (tally .exit)) (now (network .exit)) ⌝ }
 {
     buffers::enter(tally, w, p);
     send(network, held, plan, faulty, Message::Vote(w, p), time)
@@ -95,8 +95,8 @@ fn enter_initial(
     w: u64,
     time: u64,
 ) -> usize
-    requires { ⌜ (0 < plan .n) × (p < 64) × (held + length (sentBy plan faulty p (Sends.ViewAndVote w)) ≤ capacity (now network)) ⌝ }
-    ensures { λ r. ⌜ Posts (sentBy plan faulty p (Sends.ViewAndVote w)) held time (now (network .entry)) r (now (network .exit)) × (now (tally .exit) ≡ added (now (tally .entry)) w enteredWord p) ⌝ }
+    requires { ⌜ CanEnter plan faulty p (Sends.ViewAndVote w) held (now network) ⌝ }
+    ensures { λ r. ⌜ Enters plan faulty p (Sends.ViewAndVote w) held time (now (tally .entry)) (now (network .entry)) r (now (tally .exit)) (now (network .exit)) ⌝ }
 {
     buffers::enter(tally, w, p);
     let h = send(network, held, plan, faulty, Message::View(w, p), time);
@@ -114,8 +114,8 @@ pub(crate) fn enter(
     sends: Sends,
     time: u64,
 ) -> usize
-    requires { ⌜ (0 < plan .n) × (p < 64) × (held + length (sentBy plan faulty p sends) ≤ capacity (now network)) ⌝ }
-    ensures { λ r. ⌜ Posts (sentBy plan faulty p sends) held time (now (network .entry)) r (now (network .exit)) × (now (tally .exit) ≡ enteredBy (now (tally .entry)) p sends) ⌝ }
+    requires { ⌜ CanEnter plan faulty p sends held (now network) ⌝ }
+    ensures { λ r. ⌜ Enters plan faulty p sends held time (now (tally .entry)) (now (network .entry)) r (now (tally .exit)) (now (network .exit)) ⌝ }
 {
     match sends {
         Sends::Nothing => held,
@@ -146,8 +146,8 @@ pub(crate) fn enter_by_tick(
     sends: Sends,
     time: u64,
 ) -> usize
-    requires { ⌜ (0 < plan .n) × (p < 64) × (held + length (sentBy plan faulty p sends) ≤ capacity (now network)) ⌝ }
-    ensures { λ r. ⌜ Posts (sentBy plan faulty p sends) held time (now (network .entry)) r (now (network .exit)) × (now (tally .exit) ≡ enteredBy (now (tally .entry)) p sends) ⌝ }
+    requires { ⌜ CanEnter plan faulty p sends held (now network) ⌝ }
+    ensures { λ r. ⌜ Enters plan faulty p sends held time (now (tally .entry)) (now (network .entry)) r (now (tally .exit)) (now (network .exit)) ⌝ }
 {
     if silent(sends) {
         return held;

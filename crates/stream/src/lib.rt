@@ -11,11 +11,6 @@ ghost use Rattle.printout.specs.Printout.{standingOf, tallyLent, networkLent};
 ghost use Rattle.driver.specs.Contracts.{KnownReachable};
 ghost use Rattle.stream.specs.Threads.{Threads, Reaches};
 
-// The words that the program lends.
-const TALLY_WORDS: usize = 3600;
-
-const NETWORK_WORDS: usize = 2048;
-
 // The session, whether bytes of a line that is too long were passed over, and a number of bytes: used, or left unused at the start of the window.
 struct Progress {
     session: Session,
@@ -138,8 +133,8 @@ fn close_input(session: Session, late: bool, rest: &[u8], out: &mut [u8], to: i3
 
 // Reads a schedule to its end and writes its printout.
 pub fn run(from: i32, to: i32) {
-    let mut tally = [0u64; TALLY_WORDS];
-    let mut network = [0u64; NETWORK_WORDS];
+    let mut tally = [0u64; printout::TALLY_LENT];
+    let mut network = [0u64; printout::NETWORK_LENT];
     let mut window = io::large_buffer();
     let mut out = io::large_buffer();
     let answered = answer_input(from, to, &mut tally, &mut network, &mut window, &mut out);

@@ -13,11 +13,6 @@ use types::Setup;
 ghost use Prim.Native.Nat.{_≤_, _<_};
 ghost use lib.ListN.{length};
 
-// As many as simulate lends.
-const TALLY_WORDS: usize = 3600;
-
-const NETWORK_WORDS: usize = 2048;
-
 // The bytes that come at once.
 const PIECE_BYTES: usize = 100;
 
@@ -218,14 +213,14 @@ fn line_by_line(whole: bool, input: &[u8], tally: &mut [u64], network: &mut [u64
 }
 
 fn tell_pieces(input: &[u8]) {
-    let mut tally = [0u64; TALLY_WORDS];
-    let mut network = [0u64; NETWORK_WORDS];
+    let mut tally = [0u64; printout::TALLY_LENT];
+    let mut network = [0u64; printout::NETWORK_LENT];
     in_pieces(input, &mut tally, &mut network);
 }
 
 fn tell_lines(whole: bool, input: &[u8]) {
-    let mut tally = [0u64; TALLY_WORDS];
-    let mut network = [0u64; NETWORK_WORDS];
+    let mut tally = [0u64; printout::TALLY_LENT];
+    let mut network = [0u64; printout::NETWORK_LENT];
     line_by_line(whole, input, &mut tally, &mut network);
 }
 

@@ -24,6 +24,7 @@ static uint64_t network[MESSAGES * FEVER_NETWORK_MESSAGE_WORDS];
 static uint64_t reading[FEVER_READING_WORDS];
 
 #define COUNT(words) (sizeof(words) / sizeof((words)[0]))
+#define LENT(words) (words), COUNT(words)
 
 static char printed[1024];
 static int wrong;
@@ -72,21 +73,25 @@ static void write_again(const char *line)
     }
 }
 
+/* Reads a line, which has a form. */
+static void read_line(const char *line)
+{
+    demand(fever_read_line((const uint8_t *)line, strlen(line), LENT(reading)) == 0, "the line is read");
+}
+
 /* Reads a line and does what it says. */
 static void answer(const char *line)
 {
     uint64_t before = run[FEVER_RUN_TIME];
     uint64_t check;
     uint64_t ticks;
-    demand(fever_read_line((const uint8_t *)line, strlen(line), reading, COUNT(reading)) == 0, "the line is read");
+    read_line(line);
     write_again(line);
     if (reading[FEVER_READING_FORM] == FEVER_OPEN) {
-        check = fever_open(reading + FEVER_READING_SETUP, FEVER_SETUP_WORDS, run, COUNT(run), tally, COUNT(tally), network,
-                           COUNT(network));
+        check = fever_open(reading + FEVER_READING_SETUP, FEVER_SETUP_WORDS, LENT(run), LENT(tally), LENT(network));
     } else {
-        check = fever_apply(run, COUNT(run), reading[FEVER_READING_FORM], reading[FEVER_READING_KIND],
-                            reading[FEVER_READING_VIEW], reading[FEVER_READING_PROCESSOR], tally, COUNT(tally), network,
-                            COUNT(network));
+        check = fever_apply(LENT(run), reading[FEVER_READING_FORM], reading[FEVER_READING_KIND], reading[FEVER_READING_VIEW],
+                            reading[FEVER_READING_PROCESSOR], LENT(tally), LENT(network));
     }
     ticks = run[FEVER_RUN_TIME] - before;
     if (check == 0) {
@@ -104,25 +109,78 @@ static void refuse(void)
     uint64_t words[FEVER_RUN_WORDS];
     uint64_t unopened[FEVER_RUN_WORDS] = {0};
     memcpy(words, run, sizeof(run));
-    demand(fever_apply(run, COUNT(run), FEVER_SETTLE, 0, 0, 0, tally, COUNT(tally), network, COUNT(network)) != 0,
-           "settling twice is refused");
-    demand(fever_apply(run, COUNT(run) - 1, FEVER_TICK, 0, 1, 0, tally, COUNT(tally), network, COUNT(network)) == 1,
-           "136 words are too few");
+    demand(fever_apply(LENT(run), FEVER_SETTLE, 0, 0, 0, LENT(tally), LENT(network)) != 0, "settling twice is refused");
+    demand(fever_apply(run, COUNT(run) - 1, FEVER_TICK, 0, 1, 0, LENT(tally), LENT(network)) == 1, "136 words are too few");
     demand(memcmp(words, run, sizeof(run)) == 0, "a refused event leaves the run");
-    demand(fever_apply(unopened, COUNT(unopened), FEVER_TICK, 0, 1, 0, tally, COUNT(tally), network, COUNT(network)) == 9,
-           "no run is open");
-    demand(fever_read_line((const uint8_t *)"(tick 0)", 8, reading, COUNT(reading)) == 1, "0 ticks are no form");
+    demand(fever_apply(LENT(unopened), FEVER_TICK, 0, 1, 0, LENT(tally), LENT(network)) == 9, "no run is open");
+    demand(fever_read_line((const uint8_t *)"(tick 0)", 8, LENT(reading)) == 1, "0 ticks are no form");
+}
+
+/* The schedule's events in one call: answered as one by one, and what they leave is the same. A word behind them stays. */
+static void apply_all(void)
+{
+    static const uint64_t answers[] = {FEVER_DELIVER, 0, 0, 7,  FEVER_DELIVER, 0,  0, 10, FEVER_TICK, 0, 3, 10,
+                                       FEVER_SETTLE,  0, 0, 10, FEVER_TICK,    16, 2, 10, 77};
+    uint64_t other_run[COUNT(run)];
+    uint64_t other_tally[COUNT(tally)];
+    uint64_t other_network[COUNT(network)];
+    uint64_t events[COUNT(answers)];
+    size_t line;
+    events[COUNT(events) - 1] = 77;
+    for (line = 1; line < COUNT(schedule); line++) {
+        read_line(schedule[line]);
+        memcpy(events + (line - 1) * FEVER_EVENT_WORDS, reading, FEVER_EVENT_WORDS * sizeof(reading[0]));
+    }
+    read_line(schedule[0]);
+    demand(fever_open(reading + FEVER_READING_SETUP, FEVER_SETUP_WORDS, LENT(other_run), LENT(other_tally),
+                      LENT(other_network)) == 0,
+           "the same opening");
+    demand(fever_apply_all(LENT(other_run), LENT(other_tally), LENT(other_network), LENT(events)) == 0, "applied together");
+    demand(memcmp(events, answers, sizeof(answers)) == 0, "answers as one by one");
+    demand(memcmp(other_run, run, sizeof(run)) == 0 && memcmp(other_tally, tally, sizeof(tally)) == 0 &&
+               memcmp(other_network, network, sizeof(network)) == 0,
+           "words as one by one");
+}
+
+/* Whether an answer is that to an event of this form which a check refused: no tick, and the messages as they are. */
+static int refused(const uint64_t *answer, uint64_t form, uint64_t check)
+{
+    return answer[FEVER_ANSWER_FORM] == form && answer[FEVER_ANSWER_CHECK] == check && answer[FEVER_ANSWER_TICKS] == 0 &&
+           answer[FEVER_ANSWER_HELD] == run[FEVER_RUN_HELD];
+}
+
+/* Events refused together leave every word of the run; calls refused whole, those of the events too. */
+static void refuse_all(void)
+{
+    uint64_t words[FEVER_RUN_WORDS];
+    uint64_t events[2 * FEVER_EVENT_WORDS] = {FEVER_SETTLE, 0, 0, 0};
+    uint64_t kept[COUNT(events)];
+    events[FEVER_EVENT_WORDS + FEVER_EVENT_FORM] = FEVER_OPEN;
+    events[FEVER_EVENT_WORDS + FEVER_EVENT_KIND] = FEVER_QC;
+    events[FEVER_EVENT_WORDS + FEVER_EVENT_VIEW] = 8;
+    events[FEVER_EVENT_WORDS + FEVER_EVENT_PROCESSOR] = 9;
+    memcpy(words, run, sizeof(run));
+    memcpy(kept, events, sizeof(events));
+    demand(fever_apply_all(run, COUNT(run) - 1, LENT(tally), LENT(network), LENT(events)) == 1, "136 words are too few for all");
+    run[FEVER_RUN_SETTLED] = 2;
+    demand(fever_apply_all(LENT(run), LENT(tally), LENT(network), LENT(events)) == 9, "a settled word of no run");
+    run[FEVER_RUN_SETTLED] = words[FEVER_RUN_SETTLED];
+    demand(memcmp(kept, events, sizeof(events)) == 0, "a refused call leaves the events");
+    demand(fever_apply_all(LENT(run), LENT(tally), LENT(network), LENT(events)) == 0, "refused events are answered");
+    demand(refused(events, FEVER_SETTLE, 15), "settling twice is refused among others");
+    demand(refused(events + FEVER_EVENT_WORDS, FEVER_OPEN, 1), "an opening is no event");
+    demand(memcmp(words, run, sizeof(run)) == 0, "refused events leave the run");
 }
 
 /* One processor: the quorum certificate for view 2 takes it to view 3, which is initial. */
 static void step(void)
 {
     uint64_t processor[FEVER_PROCESSOR_WORDS] = {0, 2, 0, 7};
-    demand(fever_step(4, 2, 4, VIEWS, processor, COUNT(processor), FEVER_INPUT_QC, 2) == 0, "the step is done");
+    demand(fever_step(4, 2, 4, VIEWS, LENT(processor), FEVER_INPUT_QC, 2) == 0, "the step is done");
     demand(processor[FEVER_PROCESSOR_CLOCK] == 12 && processor[FEVER_PROCESSOR_VIEW] == 3 &&
                processor[FEVER_PROCESSOR_SENDS] == FEVER_SENDS_VIEW_AND_VOTE,
            "clock 12, view 3, a view message and a vote");
-    demand(fever_step(4, 2, 4, VIEWS, processor, COUNT(processor), FEVER_INPUT_QC, VIEWS - 1) == 17, "no view is left");
+    demand(fever_step(4, 2, 4, VIEWS, LENT(processor), FEVER_INPUT_QC, VIEWS - 1) == 17, "no view is left");
 }
 
 int main(void)
@@ -137,6 +195,8 @@ int main(void)
               run[FEVER_RUN_CLOCKS + processor]);
     }
     refuse();
+    apply_all();
+    refuse_all();
     step();
     demand(strcmp(printed, expected) == 0, "this is what document 01 prints");
     fputs(printed, stdout);

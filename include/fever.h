@@ -10,8 +10,9 @@
  *
  * Open, apply, step and read answer a check's number where they refuse, the two that write answer 0 for check 1, the only one that
  * they make, and a call that refuses has changed nothing that was lent. A run of ticks that is stopped answers the check that ended
- * it, and the ticks before are done. The contract of each function is in crates/fever/specs/Contracts.antt, the layouts are in
- * Layout.antt, and what is promised of calls in a row and of what they answer is in Promises.antt.
+ * it, and the ticks before are done. Events applied together are answered each in its own words, refused or not; that call itself
+ * refuses only where the words lent are those of no run. The contract of each function is in crates/fever/specs/Contracts.antt, the
+ * layouts are in Layout.antt, and what is promised of calls in a row and of what they answer is in Promises.antt.
  *
  * The checks: 1 no such form, or too few elements lent; 2 to 8 refuse an opening; 9 to 18 an event; one processor uses 9, 10, 11 and
  * 17. The README lists them.
@@ -96,6 +97,33 @@ uint64_t fever_open(const uint64_t *setup, size_t setup_len, uint64_t *run, size
  */
 uint64_t fever_apply(uint64_t *run, size_t run_len, uint64_t form, uint64_t kind, uint64_t view, uint64_t processor,
                      uint64_t *tally, size_t tally_len, uint64_t *network, size_t network_len);
+
+/* ---- events applied together: four words each */
+
+#define FEVER_EVENT_WORDS 4
+#define FEVER_EVENT_FORM 0
+#define FEVER_EVENT_KIND 1
+#define FEVER_EVENT_VIEW 2
+#define FEVER_EVENT_PROCESSOR 3
+
+/* its answer, which takes their place */
+#define FEVER_ANSWER_FORM 0  /* the event's form, as it stood */
+#define FEVER_ANSWER_CHECK 1 /* 0 where the event was done, else the check that refused it or ended its ticks */
+#define FEVER_ANSWER_TICKS 2 /* the ticks done, 0 for anything but ticks */
+#define FEVER_ANSWER_HELD 3  /* the messages in the network after it */
+
+/*
+ * Applies events one after the other, refused ones among them, and puts the answer to each in the place of its four words. Run,
+ * tally and network are left as by a call of `fever_apply` for each event, and an answer is the check that such a call answers, the
+ * time that it gains and run[FEVER_RUN_HELD] after it; four words that are no event answer check 1, 0 ticks and the messages held.
+ * Up to three words behind the last whole event stay as they are. Whether the run is sound is looked at in full once a call, so
+ * events together cost less than one by one.
+ *
+ * Answers 0; or 1 where the run has fewer than 137 words, 9 where the settled word is above 1, and nothing that was lent has
+ * changed, the words of the events included.
+ */
+uint64_t fever_apply_all(uint64_t *run, size_t run_len, uint64_t *tally, size_t tally_len, uint64_t *network, size_t network_len,
+                         uint64_t *events, size_t events_len);
 
 /* ---- one processor */
 

@@ -1,14 +1,15 @@
 //! The Fever pacemaker and its simulator, proved in Rattle and linked from `libfever.a`.
 //!
-//! A run is opened from a [`Setup`] and moved by one [`Event`] after the other; tally and network are lent by the caller. [`step`]
-//! moves one [`Processor`] alone. Lines of a schedule are read and written by [`read_line`], [`write_event`] and [`write_setup`].
+//! A run is opened from a [`Setup`] and moved by one [`Event`] after the other, alone or many in a call; tally and network are lent
+//! by the caller. [`step`] moves one [`Processor`] alone. Lines of a schedule are read and written by [`read_line`], [`write_event`]
+//! and [`write_setup`].
 //!
-//! [`open`], [`apply`] and [`step`] name the first check whose sentence holds where they refuse, [`read_line`] and the two that
-//! write answer `None`; a call that refuses has changed nothing. A run of ticks that is stopped names the check that ended it and
-//! the ticks done.
+//! [`open`], [`apply`], [`apply_all`] and [`step`] name the first check whose sentence holds where they refuse, [`read_line`] and
+//! the two that write answer `None`; what is refused has changed nothing. A run of ticks that is stopped names the check that ended
+//! it and the ticks done.
 //!
 //! ```
-//! use fever::{apply, open, Answer, Event, Plan, Run, Setup};
+//! use fever::{apply, apply_all, open, Answer, Event, Plan, Run, Setup};
 //!
 //! let plan = Plan { n: 4, delta: 2, gamma: 4, views: 6 };
 //! let (mut run, mut tally, mut network) = (Run::unopened(), [0; 24], [0; 64]);
@@ -17,6 +18,11 @@
 //! let ticked = apply(&mut run, Event::Tick(3), &mut tally, &mut network);
 //! assert_eq!(ticked, Answer::Done { ticks: 3, held: 8 });
 //! assert_eq!((run.time(), run.clock(0), run.view(0)), (3, 3, 0));
+//! let events = [Event::Settle, Event::Tick(3), Event::Settle];
+//! let answers = apply_all(&mut run, &events, &mut tally, &mut network);
+//! assert_eq!(answers[0], Answer::Done { ticks: 0, held: 8 });
+//! assert_eq!(answers[1], Answer::Stopped { ticks: 2, held: 8, check: 16 });
+//! assert_eq!(answers[2], Answer::Refused(15));
 //! ```
 //!
 //! The functions of [`raw`] are those of the archive, over plain words.
@@ -36,4 +42,4 @@ mod tests;
 pub use events::{Event, Kind, Message};
 pub use lines::{read_line, write_event, write_setup, Line};
 pub use processors::{step, Input, Processor, Sends, Stepped};
-pub use runs::{apply, open, Answer, Plan, Run, Setup};
+pub use runs::{apply, apply_all, open, Answer, Plan, Run, Setup};

@@ -5,6 +5,8 @@
 pub const RUN_WORDS: usize = 137;
 /// The words of a setup.
 pub const SETUP_WORDS: usize = 69;
+/// The words of an event in a list, and of the answer that takes their place.
+pub const EVENT_WORDS: usize = 4;
 /// The words of one processor's record.
 pub const PROCESSOR_WORDS: usize = 4;
 /// The words that a line is read into.
@@ -37,6 +39,16 @@ mod archive {
             tally_len: usize,
             network: *mut u64,
             network_len: usize,
+        ) -> u64;
+        pub fn fever_apply_all(
+            run: *mut u64,
+            run_len: usize,
+            tally: *mut u64,
+            tally_len: usize,
+            network: *mut u64,
+            network_len: usize,
+            events: *mut u64,
+            events_len: usize,
         ) -> u64;
         pub fn fever_step(
             n: u64,
@@ -113,6 +125,29 @@ pub fn apply(
             tally.len(),
             network.as_mut_ptr(),
             network.len(),
+        )
+    }
+}
+
+/// `fever_apply_all`: 0, and the four words of each event are its answer's: form, check, ticks done, messages held. Else no word has
+/// changed: 1 where the run has too few, 9 where its settled word is above 1.
+pub fn apply_all(
+    run: &mut [u64],
+    tally: &mut [u64],
+    network: &mut [u64],
+    events: &mut [u64],
+) -> u64 {
+    // SAFETY: as in `open`.
+    unsafe {
+        archive::fever_apply_all(
+            run.as_mut_ptr(),
+            run.len(),
+            tally.as_mut_ptr(),
+            tally.len(),
+            network.as_mut_ptr(),
+            network.len(),
+            events.as_mut_ptr(),
+            events.len(),
         )
     }
 }

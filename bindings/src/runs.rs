@@ -161,6 +161,17 @@ pub enum Answer {
     Refused(u64),
 }
 
+impl Answer {
+    /// The answer to an event that [`raw::apply_all`] has put in the place of its words: form, check, ticks done, messages held.
+    pub fn from_words([_, check, ticks, held]: [u64; raw::EVENT_WORDS]) -> Answer {
+        match (check, ticks) {
+            (0, _) => Answer::Done { ticks, held },
+            (_, 0) => Answer::Refused(check),
+            _ => Answer::Stopped { ticks, held, check },
+        }
+    }
+}
+
 /// Opens a setup in place of the run at hand, which is not judged: done, or refused by 2 to 8.
 pub fn open(setup: &Setup, run: &mut Run, tally: &mut [u64], network: &mut [u64]) -> Answer {
     match raw::open(&setup.words(), &mut run.0, tally, network) {
@@ -177,10 +188,24 @@ pub fn apply(run: &mut Run, event: Event, tally: &mut [u64], network: &mut [u64]
     let before = run.time();
     let [form, kind, view, processor] = event.numbers();
     let check = raw::apply(&mut run.0, form, kind, view, processor, tally, network);
-    let (ticks, held) = (run.time() - before, run.held());
-    match (check, ticks) {
-        (0, _) => Answer::Done { ticks, held },
-        (_, 0) => Answer::Refused(check),
-        _ => Answer::Stopped { ticks, held, check },
+    Answer::from_words([form, check, run.time() - before, run.held()])
+}
+
+/// Applies events one after the other, whatever the run and its buffers hold, and answers as [`apply`] does for each. Whether the run
+/// is sound is looked at in full once for all of them, which costs less than one by one; [`raw::apply_all`] answers in the words lent.
+pub fn apply_all(
+    run: &mut Run,
+    events: &[Event],
+    tally: &mut [u64],
+    network: &mut [u64],
+) -> Vec<Answer> {
+    let mut words: Vec<_> = events.iter().map(|event| event.numbers()).collect();
+    match raw::apply_all(&mut run.0, tally, network, words.as_flattened_mut()) {
+        0 => words.into_iter().map(Answer::from_words).collect(),
+        // The settled word is of no run: every event is refused, and which check comes first is each one's own.
+        _ => {
+            let alone = |&event| apply(run, event, tally, network);
+            events.iter().map(alone).collect()
+        }
     }
 }

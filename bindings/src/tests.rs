@@ -2,6 +2,8 @@
 
 use crate::*;
 
+mod together;
+
 /// The buffers that the simulate program lends.
 const TALLY_WORDS: usize = 3600;
 const NETWORK_WORDS: usize = 2048;
@@ -36,6 +38,15 @@ impl Simulator {
 
     fn apply(&mut self, event: Event) -> Answer {
         apply(&mut self.run, event, &mut self.tally, &mut self.network)
+    }
+
+    fn apply_all(&mut self, events: &[Event]) -> Vec<Answer> {
+        apply_all(&mut self.run, events, &mut self.tally, &mut self.network)
+    }
+
+    fn apply_words(&mut self, events: &mut [u64]) -> u64 {
+        let run = self.run.words_mut();
+        raw::apply_all(run, &mut self.tally, &mut self.network, events)
     }
 
     fn opened(setup: &Setup) -> Simulator {

@@ -10,7 +10,7 @@ use fever::raw;
 use reference::Run;
 use std::fmt::Write;
 
-/// A run with its lent words.
+/// All that a call may alter: a run with its lent words, and events.
 #[derive(Clone, PartialEq, Eq, Debug)]
 pub struct State {
     /// The run's words.
@@ -19,6 +19,9 @@ pub struct State {
     pub tally: Lent<u64>,
     /// The network.
     pub network: Lent<u64>,
+    /// Events to be applied together, four words each; no other call is lent
+    /// them.
+    pub events: Lent<u64>,
 }
 
 /// A call that takes a run.
@@ -28,6 +31,8 @@ pub enum Call {
     Open(Vec<u64>),
     /// Applying an event.
     Apply(Numbers),
+    /// Applying the events of the state together.
+    ApplyAll,
 }
 
 impl State {
@@ -46,33 +51,36 @@ impl State {
         }
     }
 
-    /// The words that a call is lent.
-    fn lent(&mut self) -> (&mut [u64], &mut [u64], &mut [u64]) {
+    /// The words that a call is lent: run, tally, network, events.
+    fn lent(&mut self) -> [&mut [u64]; 4] {
         let Self {
             run,
             tally,
             network,
+            events,
         } = self;
-        (run.front_mut(), tally.front_mut(), network.front_mut())
+        [run, tally, network, events].map(Lent::front_mut)
     }
 
     /// Makes a call of the reference.
     pub fn refer(&mut self, call: &Call) -> u64 {
-        let (run, tally, network) = self.lent();
+        let [run, tally, network, events] = self.lent();
         match call {
             Call::Open(setup) => reference_calls::open(setup, run, tally, network),
             Call::Apply(numbers) => reference_calls::apply(run, *numbers, tally, network),
+            Call::ApplyAll => reference_calls::apply_all(run, tally, network, events),
         }
     }
 
     /// Makes a call of the library.
     pub fn prove(&mut self, call: &Call) -> u64 {
-        let (run, tally, network) = self.lent();
+        let [run, tally, network, events] = self.lent();
         match call {
             Call::Open(setup) => raw::open(setup, run, tally, network),
             &Call::Apply([form, kind, view, processor]) => {
                 raw::apply(run, form, kind, view, processor, tally, network)
             }
+            Call::ApplyAll => raw::apply_all(run, tally, network, events),
         }
     }
 
@@ -102,14 +110,20 @@ impl State {
         Ok(answer)
     }
 
+    /// What stands in it, each with its name.
+    const fn named(&self) -> [(&str, &Lent<u64>); 4] {
+        [
+            ("run", &self.run),
+            ("tally", &self.tally),
+            ("network", &self.network),
+            ("events", &self.events),
+        ]
+    }
+
     /// The first word in which two states differ.
     fn told_apart(&self, reference: &Self) -> Option<String> {
-        let buffers = [
-            ("run", &self.run, &reference.run),
-            ("tally", &self.tally, &reference.tally),
-            ("network", &self.network, &reference.network),
-        ];
-        buffers.into_iter().find_map(|(name, proved, reference)| {
+        let mut both = self.named().into_iter().zip(reference.named());
+        both.find_map(|((name, proved), (_, reference))| {
             let place = first_word(proved.all(), reference.all())?;
             Some(format!(
                 "word {place} of the {name} differs ({} are lent)\nproved: {:?}\nreference: {:?}",
@@ -123,11 +137,7 @@ impl State {
     /// The difference that a call on this state shows.
     fn shows(&self, call: &Call, told: &str) -> Difference {
         let mut text = format!("{call:?}\n");
-        for (name, lent) in [
-            ("run", &self.run),
-            ("tally", &self.tally),
-            ("network", &self.network),
-        ] {
+        for (name, lent) in self.named() {
             let (all, length) = (lent.all(), lent.front().len());
             // Writing to a string does not fail.
             let _ = writeln!(text, "{name}, {length} words lent, then others:\n{all:?}");
@@ -150,6 +160,7 @@ mod tests {
             run: lent(RUN_WORDS),
             tally: lent(24),
             network: lent(64),
+            events: lent(0),
         }
     }
 
@@ -170,6 +181,16 @@ mod tests {
         assert_eq!(state.both(&Call::Apply([5, 0, 9, 0])).ok(), Some(16));
         let run = state.decoded().expect("all words");
         assert_eq!((run.time, run.held), (2, 8));
+    }
+
+    #[test]
+    fn both_sides_apply_events_together() {
+        let mut state = unopened();
+        state.both(&opening()).expect("both open");
+        state.events = Lent::new(&[4, 0, 0, 0, 5, 0, 9, 0, 0, 0], &[0, 0]);
+        assert_eq!(state.both(&Call::ApplyAll).ok(), Some(0));
+        let answers = [4, 0, 0, 8, 5, 16, 2, 8, 0, 0, 0, 0];
+        assert_eq!(state.events.all(), answers);
     }
 
     #[test]

@@ -6,7 +6,8 @@ use std::fmt::{self, Display, Formatter};
 /// Counts of lines or calls and their answers.
 #[derive(Clone, Default, Debug)]
 pub struct Counts {
-    /// Lines, or calls of the library.
+    /// Lines, or calls of the library; of a call that applies events together
+    /// each of them.
     pub calls: u64,
     /// Events among them, accepted or refused.
     pub events: u64,
@@ -24,6 +25,22 @@ pub struct Counts {
     pub lists: u64,
     /// Lists that came under the second sentence of demand 3.
     pub due: u64,
+    /// The calls that apply events together.
+    pub together: Together,
+}
+
+/// Counts of calls that apply events together.
+#[derive(Clone, Default, Debug)]
+pub struct Together {
+    /// The calls.
+    pub calls: u64,
+    /// Per check, those that it refused whole.
+    pub refused: [u64; 19],
+    /// Those with words behind the last whole event.
+    pub behind: u64,
+    /// Those in which the time came to the limit of clocks and time: check 9
+    /// refused an event after another one was done.
+    pub outlasted: u64,
 }
 
 impl Counts {
@@ -65,6 +82,26 @@ impl Counts {
         }
     }
 
+    /// Takes in the number that a call for events together answered, and the
+    /// words that it left of the events.
+    pub fn together(&mut self, check: u64, words: &[u64]) {
+        self.together.calls += 1;
+        if check != 0 {
+            self.together.refused[check as usize] += 1;
+            return;
+        }
+        let (answers, behind) = words.as_chunks();
+        let (mut done, mut outlasted) = (false, false);
+        for &[_, check, ticks, _] in answers {
+            self.events += 1;
+            self.moved(check, ticks);
+            outlasted |= done && check == 9;
+            done |= check == 0 || ticks > 0;
+        }
+        self.together.behind += u64::from(!behind.is_empty());
+        self.together.outlasted += u64::from(outlasted);
+    }
+
     /// A run of ticks that a check ended.
     fn stop(&mut self, check: u64) {
         self.accepted += 1;
@@ -89,12 +126,9 @@ impl Counts {
         self.accepted += other.accepted;
         self.lists += other.lists;
         self.due += other.due;
-        for (times, more) in self.met.iter_mut().zip(other.met) {
-            *times += more;
-        }
-        for (times, more) in self.stopped.iter_mut().zip(other.stopped) {
-            *times += more;
-        }
+        add_by_check(&mut self.met, &other.met);
+        add_by_check(&mut self.stopped, &other.stopped);
+        self.together.add(&other.together);
     }
 
     /// The checks from 1 to 18 that were met less often.
@@ -102,11 +136,47 @@ impl Counts {
         (1..=18).filter(|&check| self.met[check] < least).collect()
     }
 
+    /// Those of them that an event can meet.
+    pub fn met_by_events_below(&self, least: u64) -> Vec<usize> {
+        let mut checks = self.met_below(least);
+        checks.retain(|check| !(2..=8).contains(check));
+        checks
+    }
+
     /// The checks that end ticks, of those that ended ticks less often.
     pub fn stopped_below(&self, least: u64) -> Vec<usize> {
         (16..=18)
             .filter(|&check| self.stopped[check] < least)
             .collect()
+    }
+}
+
+impl Together {
+    fn add(&mut self, other: &Self) {
+        self.calls += other.calls;
+        self.behind += other.behind;
+        self.outlasted += other.outlasted;
+        add_by_check(&mut self.refused, &other.refused);
+    }
+
+    /// Whether each of them was met so often.
+    pub fn met(&self, least: u64) -> bool {
+        let [by_1, by_9] = [1, 9].map(|check| self.refused[check]);
+        by_1.min(by_9).min(self.behind).min(self.outlasted) >= least
+    }
+}
+
+impl Display for Together {
+    fn fmt(&self, out: &mut Formatter) -> fmt::Result {
+        write!(
+            out,
+            "in {} calls, {} with words behind the last event, {} in which the time came to its \
+             limit; check: calls refused whole: {}",
+            self.calls,
+            self.behind,
+            self.outlasted,
+            by_check(&self.refused)
+        )
     }
 }
 
@@ -128,7 +198,17 @@ impl Display for Counts {
                 self.lists, self.due
             )?;
         }
+        if self.together.calls > 0 {
+            writeln!(out, "  {}", self.together)?;
+        }
         Ok(())
+    }
+}
+
+/// Adds other counts per check.
+fn add_by_check(times: &mut [u64; 19], more: &[u64; 19]) {
+    for (times, more) in times.iter_mut().zip(more) {
+        *times += more;
     }
 }
 
@@ -161,6 +241,23 @@ mod tests {
         assert_eq!((counts.calls, counts.accepted, counts.ticks), (6, 3, 9));
         assert_eq!((counts.met[16], counts.met[1], counts.met[18]), (2, 1, 2));
         assert_eq!(counts.met_below(1).len(), 15);
+        assert_eq!(counts.met_by_events_below(1).len(), 8);
         assert_eq!(counts.stopped_below(1), [17]);
+    }
+
+    #[test]
+    fn events_together_are_counted_one_by_one() {
+        let mut counts = Counts::default();
+        counts.together(0, &[4, 0, 0, 8, 5, 16, 2, 8, 4, 15, 0, 8]);
+        counts.together(0, &[4, 9, 0, 8, 5, 0]);
+        assert_eq!((counts.calls, counts.events, counts.accepted), (4, 4, 2));
+        assert_eq!((counts.ticks, counts.stopped[16], counts.met[9]), (2, 1, 1));
+        assert_eq!((counts.together.behind, counts.together.outlasted), (1, 0));
+        counts.together(0, &[5, 17, 1, 8, 0, 1, 0, 8, 4, 9, 0, 8]);
+        counts.together(9, &[4, 0, 0, 0]);
+        assert!(!counts.together.met(1));
+        counts.together(1, &[]);
+        assert!(counts.together.met(1));
+        assert_eq!((counts.together.calls, counts.calls), (5, 7));
     }
 }

@@ -3,7 +3,7 @@
 use crate::draws::Draws;
 
 /// A buffer of which only the front is lent.
-#[derive(Clone, PartialEq, Eq, Debug)]
+#[derive(Clone, Default, PartialEq, Eq, Debug)]
 pub struct Lent<T> {
     all: Vec<T>,
     lent: usize,

@@ -1,7 +1,9 @@
 //! The reference behind calls shaped like the library's: numbers and lent
 //! words in, a check number or a length out.
 
-use crate::words::{self, Numbers, OPENING, READ_WORDS, RUN_WORDS, SETTLED, SETUP_WORDS};
+use crate::words::{
+    self, Numbers, HELD, OPENING, READ_WORDS, RUN_WORDS, SETTLED, SETUP_WORDS, TIME,
+};
 use reference::{Answer, Input, Plan, Processor, Reading, Stepped};
 use std::panic::{catch_unwind, AssertUnwindSafe};
 
@@ -49,6 +51,29 @@ pub fn apply(run: &mut [u64], numbers: Numbers, tally: &mut [u64], network: &mut
         words::put_run(&moved, run);
     }
     check_of(&answer)
+}
+
+/// Applies events one after the other, four words each, and puts form, check,
+/// ticks done and messages held in their place; words behind the last whole
+/// event stay.
+pub fn apply_all(
+    run: &mut [u64],
+    tally: &mut [u64],
+    network: &mut [u64],
+    events: &mut [u64],
+) -> u64 {
+    if run.len() < RUN_WORDS {
+        return 1;
+    }
+    if run[SETTLED] > 1 {
+        return 9;
+    }
+    for words in events.as_chunks_mut().0 {
+        let before = run[TIME];
+        let check = apply(run, *words, tally, network);
+        *words = [words[0], check, run[TIME] - before, run[HELD]];
+    }
+    0
 }
 
 /// Moves one processor: number, clock, view, and how many messages it sends.
@@ -135,6 +160,29 @@ mod tests {
         run[SETTLED] = 2;
         assert_eq!(apply(&mut run, [5, 0, 1, 0], &mut tally, &mut network), 9);
         assert_eq!(apply(&mut run, [5, 0, 0, 0], &mut tally, &mut network), 1);
+    }
+
+    #[test]
+    fn events_together() {
+        let (mut run, mut tally, mut network) = (vec![0; RUN_WORDS], vec![0; 24], vec![0; 64]);
+        open(&setup(), &mut run, &mut tally, &mut network);
+        let events = [4, 1, 2, 3, 5, 6, 3, 7, 6, 5, 4, 3, 1, 1, 0, 0, 5, 0, 9];
+        let mut call = |run: &mut [u64]| {
+            let mut words = events;
+            let check = apply_all(run, &mut tally, &mut network, &mut words);
+            (check, words)
+        };
+        assert_eq!(call(&mut run[..136]), (1, events));
+        run[SETTLED] = 2;
+        assert_eq!(call(&mut run[..7]), (1, events));
+        assert_eq!(call(&mut run), (9, events));
+        run[SETTLED] = 0;
+        let answers = [4, 0, 0, 8, 5, 16, 2, 8, 6, 1, 0, 8, 1, 0, 0, 7, 5, 0, 9];
+        assert_eq!(call(&mut run), (0, answers));
+        assert_eq!((run[TIME], run[HELD]), (2, 7));
+        run[TIME] = 24;
+        let answers = [4, 9, 0, 7, 5, 9, 0, 7, 6, 1, 0, 7, 1, 9, 0, 7, 5, 0, 9];
+        assert_eq!(call(&mut run), (0, answers));
     }
 
     #[test]

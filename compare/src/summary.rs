@@ -6,7 +6,7 @@ use std::fmt::{self, Display, Formatter};
 /// The events that the gate's comparison has, at least.
 const LEAST_EVENTS: u64 = 200_000;
 /// How often it meets each check on each way, and how often 16, 17 and 18 each
-/// end ticks there, at least.
+/// end ticks there, at least; and all that is counted of events together.
 const LEAST_MET: u64 = 5;
 
 /// What a comparison met.
@@ -24,31 +24,45 @@ impl Summary {
     /// All parts together.
     pub fn all(&self) -> Counts {
         let mut all = self.program.clone();
-        for (_, counts) in &self.library {
-            all.add(counts);
-        }
+        all.add(&self.library(|_| true));
         all
     }
 
-    /// What is missing of a comparison that says something: enough events,
-    /// every check met on both ways and every one that ends ticks, demand 3 due
-    /// whole as often as there are rounds.
-    pub fn missing(&self) -> Option<String> {
-        let mut library = Counts::default();
-        for (_, counts) in &self.library {
-            library.add(counts);
+    /// Such parts of the library together.
+    fn library(&self, such: impl Fn(&Counts) -> bool) -> Counts {
+        let mut some = Counts::default();
+        for (_, counts) in self.library.iter().filter(|(_, counts)| such(counts)) {
+            some.add(counts);
         }
+        some
+    }
+
+    /// What is missing of a comparison that says something: enough events,
+    /// every check met on both ways and by events together, and every one that
+    /// ends ticks; all that is counted of calls for events together; demand 3
+    /// due whole as often as there are rounds.
+    pub fn missing(&self) -> Option<String> {
+        let library = self.library(|counts| counts.together.calls == 0);
+        let together = self.library(|counts| counts.together.calls > 0);
         let events = self.all().events;
         if events < LEAST_EVENTS {
             return Some(format!("only {events} events"));
         }
-        for (way, counts) in [("program", &self.program), ("library", &library)] {
-            if let Some(check) = counts.met_below(LEAST_MET).first() {
-                return Some(format!("check {check} was hardly met through the {way}"));
+        let few = together.met_by_events_below(LEAST_MET);
+        for (way, counts, few) in [
+            ("program", &self.program, self.program.met_below(LEAST_MET)),
+            ("library", &library, library.met_below(LEAST_MET)),
+            ("events together", &together, few),
+        ] {
+            if let Some(check) = few.first() {
+                return Some(format!("check {check} was hardly met, {way}"));
             }
             if let Some(check) = counts.stopped_below(LEAST_MET).first() {
                 return Some(format!("check {check} hardly ended ticks, {way}"));
             }
+        }
+        if !together.together.met(LEAST_MET) {
+            return Some(format!("events together, {}", together.together));
         }
         let (due, calls) = (self.program.due, library.due);
         (due < self.rounds || calls == 0).then(|| {
@@ -76,6 +90,7 @@ impl Display for Summary {
 #[cfg(test)]
 mod tests {
     use super::*;
+    use crate::counts::Together;
 
     #[test]
     fn too_little_is_told() {
@@ -86,7 +101,16 @@ mod tests {
         program.met[1..].fill(LEAST_MET);
         program.stopped[16..].fill(LEAST_MET);
         program.due = 1;
-        let library = vec![("calls", program.clone())];
+        let mut together = program.clone();
+        together.events = 0;
+        together.met[2..=8].fill(0);
+        together.together = Together {
+            calls: 1,
+            refused: [LEAST_MET; 19],
+            behind: LEAST_MET,
+            outlasted: LEAST_MET,
+        };
+        let library = vec![("calls", program.clone()), ("together", together)];
         program.due = 3;
         program.events = LEAST_EVENTS;
         let enough = Summary {
@@ -105,6 +129,11 @@ mod tests {
         lacks(|summary| summary.library[0].1.due = 0, "library 0");
         lacks(|summary| summary.library[0].1.met[17] = 1, "check 17");
         lacks(|summary| summary.program.stopped[18] = 0, "ended ticks");
+        lacks(|summary| summary.library[0].1.met[13] = 0, "met, library");
+        lacks(|summary| summary.library[1].1.met[13] = 0, "met, events");
+        lacks(|summary| _ = summary.library.pop(), "met, events");
+        let spoil = |summary: &mut Summary| summary.library[1].1.together.outlasted = 0;
+        lacks(spoil, "0 in which the time");
         lacks(|summary| summary.program.events = 1, "only 2 events");
     }
 }

@@ -15,6 +15,8 @@ pub const FAULTY: usize = 4;
 pub const TIME: usize = 5;
 /// Where a run keeps whether it has settled.
 pub const SETTLED: usize = 6;
+/// Where a run keeps how many messages are held.
+pub const HELD: usize = 8;
 /// Where a run keeps its first clock.
 pub const CLOCKS: usize = 9;
 /// Where a run keeps its first view.

@@ -8,6 +8,7 @@ pub mod spoil;
 pub mod states;
 pub mod steps;
 pub mod ticks;
+pub mod together;
 pub mod unsound;
 pub mod watched;
 
@@ -21,7 +22,7 @@ use crate::reference_calls::guarded;
 type Case = fn(&mut Draws, &mut Counts) -> Result<(), Difference>;
 
 /// The parts, and how many cases of each make one round.
-const PARTS: [(&str, Case, u64); 7] = [
+const PARTS: [(&str, Case, u64); 8] = [
     ("openings", openings::case, 400),
     ("sound runs", sound::case, 40),
     ("unsound runs", unsound::case, 60),
@@ -29,6 +30,7 @@ const PARTS: [(&str, Case, u64); 7] = [
     ("one processor", steps::case, 4_000),
     ("lines read", lines::reading, 1_500),
     ("lines written", lines::writing, 400),
+    ("events together", together::case, 60),
 ];
 
 /// Compares so many rounds of every part, and answers the counts of each.

@@ -56,6 +56,7 @@ fn lent_to(setup: &Setup, draws: &mut Draws) -> State {
         run: Lent::untouched(RUN_WORDS, draws),
         tally: Lent::untouched(tally + more, draws),
         network: Lent::untouched(network + beyond, draws),
+        events: Lent::default(),
     };
     match draws.below(30) {
         0 => state.tally.lend(few),

@@ -55,11 +55,7 @@ fn go_on(
             let check = opened(state, &call, counts)?;
             watched.opened(&call, check, state, counts)?;
         }
-        let event = if draws.per_mille(150) {
-            disturbance(state, draws)
-        } else {
-            states::next(state, style, draws)
-        };
+        let event = event(state, style, draws);
         let call = states::applying(event, draws);
         let before = time(state);
         let check = applied(state, &call, counts)?;
@@ -68,6 +64,15 @@ fn go_on(
         refusals = if goes_on { 0 } else { refusals + 1 };
     }
     Ok(())
+}
+
+/// The next event of a style, or at times another one.
+pub fn event(state: &State, style: &Style, draws: &mut Draws) -> Event {
+    if draws.per_mille(150) {
+        disturbance(state, draws)
+    } else {
+        states::next(state, style, draws)
+    }
 }
 
 /// An event that is not part of the play.

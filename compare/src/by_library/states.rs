@@ -6,7 +6,7 @@ use crate::calls::{Call, State};
 use crate::draws::Draws;
 use crate::lent::Lent;
 use crate::openings;
-use crate::words::{self, put_run, setup_words, RUN_WORDS};
+use crate::words::{self, put_run, setup_words, Numbers, RUN_WORDS};
 use reference::{is_sound, Event, Plan, Run, Setup};
 
 /// The most views of a run here, so that every word can be compared often.
@@ -30,6 +30,7 @@ pub fn lent_to(setup: &Setup, draws: &mut Draws) -> State {
         run: Lent::untouched(RUN_WORDS, draws),
         tally: Lent::untouched(tally as usize, draws),
         network: Lent::untouched((8 * n + beyond) as usize, draws),
+        events: Lent::default(),
     }
 }
 
@@ -42,9 +43,13 @@ pub fn opening(setup: &Setup, draws: &mut Draws) -> Call {
     Call::Open(words)
 }
 
-/// The call that applies an event. The numbers that a form does not have are
-/// not read.
+/// The call that applies an event.
 pub fn applying(event: Event, draws: &mut Draws) -> Call {
+    Call::Apply(numbers(event, draws))
+}
+
+/// The numbers of an event. Those that a form does not have are not read.
+pub fn numbers(event: Event, draws: &mut Draws) -> Numbers {
     let mut numbers = words::numbers_of(event);
     if draws.per_mille(100) {
         match event {
@@ -53,7 +58,7 @@ pub fn applying(event: Event, draws: &mut Draws) -> Call {
             _ => {}
         }
     }
-    Call::Apply(numbers)
+    numbers
 }
 
 /// An opened state after so many events in a drawn style, by the reference.

@@ -9,7 +9,7 @@ use crate::draws::Draws;
 use crate::lent::Lent;
 use crate::openings;
 use crate::wild;
-use crate::words::{numbers_of, Numbers};
+use crate::words::{numbers_of, Numbers, TICK};
 use reference::{Event, Run};
 
 /// Spoilt copies of one state.
@@ -19,8 +19,8 @@ const EVENTS: u64 = 40;
 /// The most ticks of one call: what is spoilt may still be sound, with a clock
 /// limit of up to 60,000,000, and the reference does its ticks one by one.
 const MOST_TICKS: u64 = 20_000;
-/// The most words of a network, of which check 6 speaks.
-const MOST_NETWORK_WORDS: usize = 524_288;
+/// The most words of a network, of which check 6 speaks, and one more.
+pub const LONGEST: [usize; 2] = [524_288, 524_289];
 
 /// One state and its spoilt copies.
 pub fn case(draws: &mut Draws, counts: &mut Counts) -> Result<(), Difference> {
@@ -65,16 +65,21 @@ fn shortened(call: Call, draws: &mut Draws) -> Call {
 }
 
 /// The numbers of an event that the sound state may accept, or of none.
-fn numbers(good: &State, run: &Run, draws: &mut Draws) -> Numbers {
+pub fn numbers(good: &State, run: &Run, draws: &mut Draws) -> Numbers {
     let mut numbers = numbers_of(event(good, run, draws));
     if draws.per_mille(100) {
-        let value = draws.edge();
-        numbers[draws.place(2)] = draws.one_of(&[0, 1, 2, 3, 4, 5, 6, value]);
+        alter(&mut numbers, draws);
     }
-    if numbers[0] == 5 && numbers[2] > MOST_TICKS {
+    if numbers[0] == TICK && numbers[2] > MOST_TICKS {
         numbers[2] = draws.below(MOST_TICKS);
     }
     numbers
+}
+
+/// Puts another form or kind, or such as there is none.
+pub fn alter(numbers: &mut Numbers, draws: &mut Draws) {
+    let value = draws.edge();
+    numbers[draws.place(2)] = draws.one_of(&[0, 1, 2, 3, 4, 5, 6, value]);
 }
 
 /// An event that would do something, or any.
@@ -92,18 +97,26 @@ fn event(good: &State, run: &Run, draws: &mut Draws) -> Event {
 
 /// Networks about as long as the longest that check 6 passes.
 fn longest(good: &State, draws: &mut Draws, counts: &mut Counts) -> Result<(), Difference> {
-    for length in [MOST_NETWORK_WORDS, MOST_NETWORK_WORDS + 1] {
-        let mut state = good.clone();
-        let mut words = state.network.front().to_vec();
-        words.resize(length, 0);
-        if draws.per_mille(200) {
-            words[length - 1] = 1;
-        }
-        state.network = Lent::new(&words, &[7]);
+    for length in LONGEST {
+        let mut state = lengthened(good, length, draws);
         sound::applied(&mut state, &Call::Apply([5, 0, 2, 0]), counts)?;
         let setup = openings::accepted(draws, 3);
         let call = states::opening(&setup, draws);
         sound::opened(&mut state, &call, counts)?;
     }
     Ok(())
+}
+
+/// A state with a network of so many words, the last of which at times is not
+/// 0.
+pub fn lengthened(good: &State, length: usize, draws: &mut Draws) -> State {
+    let mut words = good.network.front().to_vec();
+    words.resize(length, 0);
+    if draws.per_mille(200) {
+        words[length - 1] = 1;
+    }
+    State {
+        network: Lent::new(&words, &[7]),
+        ..good.clone()
+    }
 }

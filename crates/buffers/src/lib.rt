@@ -258,8 +258,8 @@ pub enum Stored {
     Unknown,
 }
 
-// A message by its kind, view and processor.
-fn stored_as(kind: u64, w: u64, p: u64) -> Stored
+// A message by its kind, view and processor; none where the kind is no message's.
+pub fn stored_as(kind: u64, w: u64, p: u64) -> Stored
     ensures { λ r. ⌜ r ≡ storedAs kind w p ⌝ }
 {
     match kind {

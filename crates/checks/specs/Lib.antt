@@ -1,3 +1,4 @@
 -- What the contracts cite.
 pub mod Scans
 pub mod Setups
+pub mod Runs

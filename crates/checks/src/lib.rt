@@ -1,4 +1,4 @@
-// Check 9 on whatever is handed in, and checks 2 to 8 of an opening.
+// Check 9 but for the time on whatever is handed in, and checks 2 to 8 of an opening.
 use buffers::Stored;
 use types::Head;
 use types::Message;
@@ -12,12 +12,13 @@ ghost use lib.Dec.{eqb, leb, ltb};
 ghost use lib.ListN.{length, drop};
 ghost use Rattle.base.specs.Count.{bit};
 ghost use Rattle.base.specs.Scan.{some};
-ghost use Rattle.types.specs.Quantities.{correct, startLimit};
+ghost use Rattle.types.specs.Quantities.{nMost, correct, startLimit};
 ghost use Rattle.model.specs.State.{stateOf, runFrom, capacity};
 ghost use Rattle.types.specs.Messages.{kindOf, viewIn, processorIn};
-ghost use Rattle.model.specs.Checks.{planOutside, faultyOutside, lengthsOutside, clockOutside, outsideAt, heldUnsound, messageUnsound, someNonZero, unsound, startTooHigh, supporting, aloneAt, tooFarAhead};
+ghost use Rattle.model.specs.Checks.{planOutside, faultyOutside, lengthsOutside, clockOutside, outsideAt, heldUnsound, messageUnsound, someNonZero, startTooHigh, supporting, aloneAt, tooFarAhead};
 ghost use Rattle.pacemaker.specs.Limits.{Within};
 ghost use Rattle.checks.specs.Scans.{flying, nonZeroFrom, turnWords};
+ghost use Rattle.checks.specs.Runs.{Judges};
 ghost use Rattle.checks.specs.Setups.{setupCheck};
 
 // The network has at least so many words for each processor.
@@ -95,8 +96,8 @@ fn clock_unsound(plan: Plan, faulty: u64, q: u64, clock: u64, view: u64) -> bool
 }
 
 // Whether some correct clock is outside its view.
-fn clocks_unsound(plan: Plan, faulty: u64, clocks: &[u64; 64], views: &[u64; 64]) -> bool
-    requires { ⌜ planOutside plan ≡ false ⌝ }
+fn clocks_unsound(plan: Plan, faulty: u64, clocks: &[u64], views: &[u64]) -> bool
+    requires { ⌜ (planOutside plan ≡ false) × (length (now clocks) ≡ nMost) × (length (now views) ≡ nMost) ⌝ }
     ensures { λ r. ⌜ r ≡ some (outsideAt plan faulty (now (clocks .entry)) (now (views .entry))) (plan .n) ⌝ }
 {
     let n = plan.n;
@@ -226,23 +227,20 @@ fn tail_not_zero(network: &[u64], from: usize) -> bool
     rest_not_zero(network, from + TURN_WORDS * turns, seen)
 }
 
-// Check 9, of a run whose tables are lent beside its head.
-pub fn unsound(
+// Check 9 but for the time, of a run whose tables are lent beside its head.
+pub fn unsound_for_good(
     head: Head,
     clocks: &[u64; 64],
     views: &[u64; 64],
     tally: &[u64],
     network: &[u64],
 ) -> bool
-    ensures { λ r. ⌜ r ≡ unsound (stateOf (runFrom head (now (clocks .entry)) (now (views .entry))) (now (tally .entry)) (now (network .entry))) ⌝ }
+    ensures { λ r. ⌜ Judges (stateOf (runFrom head (now (clocks .entry)) (now (views .entry))) (now (tally .entry)) (now (network .entry))) r ⌝ }
 {
     if limits_broken(head.plan, head.faulty, tally.len(), network.len()) {
         return true;
     }
     if clocks_unsound(head.plan, head.faulty, clocks, views) {
-        return true;
-    }
-    if head.plan.end_time() <= head.time {
         return true;
     }
     if buffers::capacity(network) < head.held {
@@ -251,7 +249,7 @@ pub fn unsound(
     if messages_unsound(head.plan, head.faulty, head.time, head.held, network) {
         return true;
     }
-    if settling_unsound(head.time, head.settled, head.gst) {
+    if settling_unsound(head.time, head.settled == 1, head.gst) {
         return true;
     }
     tail_not_zero(network, buffers::MESSAGE_WORDS * head.held)

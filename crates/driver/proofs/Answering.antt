@@ -1,47 +1,146 @@
--- What is replied to each kind of line. Assumes nothing.
-use mathlib.Core.Path.{_≡_, refl, sym, ap, _∙_}
-use mathlib.Core.Bool.{Bool, true, false}
-use mathlib.Core.List.{List, [], _∷_}
-use Prim.Native.Nat.{ℕ}
+-- A line or a batch of lines, answered. Assumes nothing.
+use mathlib.Core.Path.{_≡_, refl, sym, ap, _∙_, subst}
+use mathlib.Core.Logic.{_≢_}
+use mathlib.Core.Bool.{Bool, true, false, cond}
+use mathlib.Core.List.{List, [], _∷_, append-nil}
+use Prim.Native.Nat.{ℕ, _*_, _/_, _≤_, _<_}
+use native.Mathlib.Omega.{arith}
+use lib.ListN.{length, take}
+use lib.Seq.{length-take-le}
 use types.Run.{OneOf, miss}
 use denote.Enum.Declared.{tagOf}
-use Rattle.lines.proofs.Read.{the-type}
-use Rattle.base.specs.Choice.{cond-yes, cond-no}
-use Rattle.types.specs.declared.Event.{Event}
+use lib.Dec.{ltb}
+use borrow.Author.Tests.{le-ltb, ltb-false}
+use Rattle.lines.proofs.Read as ReadType
+use Rattle.lines.proofs.Next as NextType
+use Rattle.base.specs.Choice.{cond-no}
 use Rattle.types.specs.declared.Setup.{Setup}
-use Rattle.types.specs.declared.Answer.{Answer}
-use Rattle.model.specs.State.{After}
+use Rattle.types.specs.declared.Head.{Head}
+use Rattle.model.specs.State.{State, After, stateOf, runFrom}
 use Rattle.model.specs.Opening.{opening}
-use Rattle.model.specs.Events.{applied}
+use Rattle.words.specs.declared.Numbers.{Numbers}
+use Rattle.words.specs.Events.{eventWords, eventsIn, fourPut, numbersPut}
+use Rattle.words.specs.Batches.{Worded}
 use Rattle.lines.specs.declared.Read.{Read}
 use Rattle.lines.specs.declared.Read.the-variants as Read
+use Rattle.lines.specs.declared.Next.{Next}
+use Rattle.lines.specs.declared.Next.the-variants.{Line, Unfinished}
 use Rattle.lines.specs.declared.Reading.{Reading}
+use Rattle.lines.specs.Contracts.{noSetup, line}
+use Rattle.lines.specs.Printout.{answerForm, printedMost}
+use Rattle.lines.specs.Splitting.{nextLine}
 use Rattle.reader.specs.Lines.{reading}
-use Rattle.printout.specs.Printout.{Standing, Reply, standingState, leaving, refusedReply, printedAnswer, staysOpen, eventReply, openingReply, readReply, reply, lineReply}
+use Rattle.printout.specs.declared.Served.{Served}
+use Rattle.printout.specs.Printout.{Standing, leaving, Reply, staysOpen, openingReply, readReply, reply, lineReply, printedLine}
+use Rattle.printout.specs.Contracts.{placeAt, Advance, Begun, fed}
+use Rattle.driver.specs.Inner.{sessionFrom, Put, replying, Passes, dueLine, NotDue, Turns}
+use Rattle.driver.specs.Batches.{readNumbers, gathered, NoOpening, replied, Gathers, worded, wordsAnswered, printedUpTo, advanced}
+use Rattle.driver.proofs.Serving.{turn-passed}
+use Rattle.driver.proofs.Gathering.{no-setup, plain-read}
+use Rattle.driver.proofs.Batching.{batched}
 
--- a line is read as k
-pub read-as : (s : List ℕ) (x : Standing) (r : Reading) (k : Read) (a : Reply) → r ≡ reading s → r .read ≡ k → a ≡ readReply k (r .setup) x → a ≡ lineReply s x
-read-as s x r k a h q p = p ∙ ap (λ (z : Read). readReply z (r .setup) x) (sym q) ∙ ap (λ (z : Reading). reply z x) h
+-- ---- what the simulator left, and what was printed
 
--- a line that is neither an event nor an opening
-pub neither : (r : Read) (u : Setup) (x : Standing) → OneOf (0 ∷ 2 ∷ []) (tagOf the-type r) → OneOf (1 ∷ 2 ∷ []) (tagOf the-type r) → refusedReply 1 x ≡ readReply r u x
-neither (Read.Event e) u x h k = absurd (miss (1 ∷ 2 ∷ []) 0 tt k)
-neither Read.Opening u x h k = absurd (miss (0 ∷ 2 ∷ []) 1 tt h)
-neither Read.NoForm u x h k = refl
+-- of a batch
+pub batch-passes : (opened : Bool) (k : ℕ) (ws : List ℕ) (s : State) (out : List ℕ) (head : Head) (clocks views tally network ws' : List ℕ) (p : ℕ) (after : List ℕ)
+    → worded (stateOf (runFrom head clocks views) tally network) ws' ≡ wordsAnswered opened ws s → length ws' ≡ length ws
+    → Put (printedUpTo opened ws' (eventsIn ws')) out p after
+    → Passes k (advanced opened (eventsIn ws) (wordsAnswered opened ws s)) out tally network
+    (record { session = sessionFrom opened head clocks views; late = false; used = k; printed = p }) after
+batch-passes opened k ws s out head clocks views tally network ws' p after e l w = record {
+  used = refl;
+  late = refl;
+  state = ap (λ (z : Worded). leaving opened (z .state)) e;
+  put =
+      subst (λ (z : Worded). Put (printedUpTo opened (z .words) (eventsIn ws)) out p after) e
+      (subst (λ (z : ℕ). Put (printedUpTo opened ws' z) out p after) (ap (λ (z : ℕ). z / eventWords) l) w);
+}
 
--- an event in an open run
-pub event-applied : (e : Event) (x : Standing) (a : After) (r : Answer) → x .session .opened ≡ true → a ≡ applied e (standingState x)
-    → r ≡ printedAnswer e (a .state .run .held) (a .answer) → record { standing = leaving true (a .state); answer = r } ≡ eventReply e x
-unfolding eventReply
-event-applied e x a r o h q = cond-yes _ _ _ _ o (rw (q, h) refl)
-
--- and before one is
-pub event-early : (e : Event) (x : Standing) → x .session .opened ≡ false → refusedReply 9 x ≡ eventReply e x
-unfolding eventReply
-event-early e x o = cond-no _ _ _ _ o refl
-
--- an opening
-pub opening-applied : (u : Setup) (x : Standing) (a : After) (o : Bool) → a ≡ opening u (standingState x) → o ≡ staysOpen (x .session .opened) (a .answer)
-    → record { standing = leaving o (a .state); answer = a .answer } ≡ openingReply u x
+-- of an opening
+pub opening-passes : (opened : Bool) (k : ℕ) (u : Setup) (s : State) (out : List ℕ) (o : Bool) (a : After) (p : ℕ) (after : List ℕ)
+    → a ≡ opening u s → o ≡ staysOpen opened (a .answer) → Put (line (answerForm (a .answer))) out p after
+    → Passes k (replying (openingReply u (leaving opened s))) out (a .state .tally) (a .state .network)
+    (record { session = record { opened = o; run = a .state .run }; late = false; used = k; printed = p }) after
 unfolding openingReply
-opening-applied u x a o h q = rw (q, h) refl
+opening-passes opened k u s out o a p after e q w = record {
+  used = refl;
+  late = refl;
+  state = rw (q, e) refl;
+  put = subst (λ (z : After). Put (line (answerForm (z .answer))) out p after) e w;
+}
+
+-- ---- a line by itself
+
+-- what leads to the same place, with the same text
+passes-as : (k : ℕ) (f g : Advance) (out tally network : List ℕ) (r : Served) (after : List ℕ) → f ≡ g → Passes k f out tally network r after → Passes k g out tally network r after
+passes-as k f g out tally network r after e p = subst (λ (z : Advance). Passes k z out tally network r after) e p
+
+pub line-opened : (k : ℕ) (s : List ℕ) (x : Standing) (a : Reading) (out tally network : List ℕ) (r : Served) (after : List ℕ) → a ≡ reading s → a .read ≡ Read.Opening
+    → Passes k (replying (openingReply (a .setup) x)) out tally network r after → Passes k (replying (lineReply s x)) out tally network r after
+line-opened k s x a out tally network r after h q p =
+    passes-as k _ _ out tally network r after
+    (ap replying (ap (λ (z : Read). readReply z (a .setup) x) (sym q) ∙ ap (λ (z : Reading). reply z x) h)) p
+
+-- four words of one line
+one-gathered : (k : Numbers) → numbersPut (0 ∷ 0 ∷ 0 ∷ 0 ∷ []) 0 k ≡ k .form ∷ k .kind ∷ k .view ∷ k .processor ∷ []
+unfolding fourPut
+one-gathered k = refl
+
+one-replied : (r : Read) (x : Standing) → replied (r ∷ []) x ≡ replying (readReply r noSetup x)
+one-replied r x = let y : Reply = readReply r noSetup x in
+    ap (λ (t : List ℕ). record { place = placeAt (y .standing) []; text = t }) (append-nil (printedLine y))
+
+pub line-batched : (n : ℕ) (s : List ℕ) (opened : Bool) (st : State) (a : Reading) (k : Numbers) (ws out tally network : List ℕ) (r : Served) (after : List ℕ) → a ≡ reading s
+    → OneOf (0 ∷ 2 ∷ []) (tagOf ReadType.the-type (a .read)) → k ≡ readNumbers (a .read) → ws ≡ numbersPut (0 ∷ 0 ∷ 0 ∷ 0 ∷ []) 0 k
+    → Passes n (advanced opened (eventsIn ws) (wordsAnswered opened ws st)) out tally network r after → Passes n (replying (lineReply s (leaving opened st))) out tally network r after
+line-batched n s opened st a k ws out tally network r after h o q w p =
+    let x : Standing = leaving opened st in
+    let plain : NoOpening (a .read ∷ []) = plain-read (a .read) o in
+    passes-as n _ _ out tally network r after
+    (ap (λ (z : List ℕ). advanced opened (eventsIn z) (wordsAnswered opened z st))
+    (w ∙ one-gathered k ∙ ap (λ (z : Numbers). z .form ∷ z .kind ∷ z .view ∷ z .processor ∷ []) q)
+    ∙ sym (batched (a .read ∷ []) opened st plain) ∙ one-replied (a .read) x
+    ∙ ap replying (sym (no-setup (a .read) (a .setup) x plain) ∙ ap (λ (z : Reading). reply z x) h)) p
+
+-- ---- which line is next
+
+unfinished-line : (e : ℕ) → Unfinished ≡ Line e → ⊥
+unfinished-line e p = let z : _≡_ {A = ℕ} 2 0 = ap (tagOf NextType.the-type) p in omega arith
+
+pub due : (late : Bool) (s : List ℕ) (room : ℕ) (r : Next) (e : ℕ) → r ≡ dueLine late s room → r ≡ Line e → (late ≡ false) × (printedMost ≤ room) × (nextLine s ≡ Line e)
+unfolding dueLine
+due true s room r e q p = absurd (unfinished-line e (sym q ∙ p))
+due false s room r e q p = go (ltb room printedMost) refl (sym q ∙ p)
+  where
+    go : (t : Bool) → ltb room printedMost ≡ t → cond t Unfinished (nextLine s) ≡ Line e → (false ≡ false) × (printedMost ≤ room) × (nextLine s ≡ Line e)
+    go true b k = absurd (unfinished-line e k)
+    go false b k = (refl, ltb-false room printedMost b, k)
+
+pub not-due : (late : Bool) (s : List ℕ) (room : ℕ) (r : Next) → r ≡ dueLine late s room → OneOf (1 ∷ 2 ∷ 3 ∷ []) (tagOf NextType.the-type r) → NotDue late s room
+unfolding dueLine
+not-due true s room r q o e p l = refl
+not-due false s room r q o e p l =
+    let k : r ≡ Line e = q ∙ sym (cond-no (ltb room printedMost) (nextLine s) Unfinished (nextLine s) (le-ltb room printedMost l) refl) ∙ p in
+    absurd (miss (1 ∷ 2 ∷ 3 ∷ []) 0 tt (subst (λ (z : Next). OneOf (1 ∷ 2 ∷ 3 ∷ []) (tagOf NextType.the-type z)) k o))
+
+-- ---- a turn with a batch
+
+pub batch-words : (s : List ℕ) (most count used : ℕ) (batch : List ℕ) → Gathers s most count used batch → most ≤ eventsIn batch → eventsIn (take (eventWords * count) batch) ≡ count
+batch-words s most count used batch g room = omega (arith, length-take-le (eventWords * count) batch (omega (arith, g .few)), g .few)
+
+pub turn-batch : (opened late : Bool) (st : State) (s out tally network : List ℕ) (most count used : ℕ) (batch : List ℕ) (r : Served) (after : List ℕ)
+    → Gathers s most count used batch → most ≤ eventsIn batch → (0 < most → late ≡ false) → count ≢ 0
+    → Passes used (advanced opened (eventsIn (take (eventWords * count) batch)) (wordsAnswered opened (take (eventWords * count) batch) st)) out tally network r after
+    → length after ≡ length out → Turns (leaving opened st) late s out tally network r after
+turn-batch opened late st s out tally network most count used batch r after g room in-time some p same =
+    turn-passed (leaving opened st) late s out tally network r after used (advanced opened (eventsIn ws) (wordsAnswered opened ws st))
+    (omega (arith, g .each)) (g .within) refl (λ begun b. fed-batch begun (subst (λ (t : Bool). Begun t begun) (in-time (omega (arith, g .few))) b)) p same
+  where
+    ws : List ℕ
+    ws = take (eventWords * count) batch
+
+    fed-batch : (begun : List ℕ) → begun ≡ [] → fed (placeAt (leaving opened st) begun) (take used s) ≡ advanced opened (eventsIn ws) (wordsAnswered opened ws st)
+    fed-batch begun b =
+        ap (λ (z : List ℕ). fed (placeAt (leaving opened st) z) (take used s)) b ∙ g .feeds (leaving opened st) ∙ batched (g .reads) opened st (g .plain)
+        ∙ ap (λ (n : ℕ). advanced opened n (wordsAnswered opened (gathered (g .reads)) st)) (g .many ∙ sym (batch-words s most count used batch g room))
+        ∙ ap (λ (z : List ℕ). advanced opened (eventsIn ws) (wordsAnswered opened z st)) (sym (g .words))

@@ -15,9 +15,7 @@ use Rattle.printout.specs.declared.Session.{Session}
 use Rattle.printout.specs.declared.Served.{Served}
 use Rattle.printout.specs.Printout.{Standing, standingOf}
 use Rattle.printout.specs.Contracts.{Begun, Feeds, Serves}
-use Rattle.driver.specs.Contracts.{KnownReachable}
 use Rattle.driver.specs.Inner.{Turns}
-use Rattle.driver.proofs.Knowing.{known-on}
 use Rattle.driver.proofs.Serving.{rest-lent, rest-back, left-over, feeds-none, feeds-then}
 
 -- the first `used` of the bytes at hand led here
@@ -65,11 +63,6 @@ going-more x late bytes out tally network e s passed used printed tally' network
     joined begun h =
         subst (λ (b : List ℕ). Feeds x begun b out (standingOf (r .session) tally' network') (r .late) (printed + r .printed) (putMid printed (length e - printed) e f)) (sym (take-add used (r .used) bytes))
         (subst (Feeds x begun (take used bytes ++ take (r .used) (drop used bytes)) out (standingOf (r .session) tally' network') (r .late) (printed + r .printed)) (sym (rest-back printed e f (g .room))) h)
-
--- what is known of where they began is known of where they led
-pub going-known : (known : Bool) (x : Standing) (late : Bool) (bytes out tally network after : List ℕ) (s : Session) (passed : Bool) (used printed : ℕ)
-    → KnownReachable known x → Going x late bytes out tally network after s passed used printed → KnownReachable known (standingOf s tally network)
-going-known known x late bytes out tally network after s passed used printed h g = known-on known x late (take used bytes) (standingOf s tally network) h (λ begun b. g .feeds begun b .state)
 
 -- ---- why it stops
 

@@ -1,6 +1,7 @@
 -- Laws of the printout.
-pub mod Answering
-pub mod Knowing
 pub mod Serving
 pub mod Texts
+pub mod Gathering
+pub mod Batching
+pub mod Answering
 pub mod Going

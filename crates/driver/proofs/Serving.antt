@@ -11,20 +11,17 @@ use borrow.Rule.Slice.PartMut.{midOf, putMid, post-is}
 use lib.Seq.{take-at, drop-at, drop-drop, length-take-le, take-all}
 use borrow.Author.Tests.{le-leb, lt-leb}
 use Rattle.base.specs.Choice.{cond-yes, cond-no}
-use Rattle.types.specs.declared.Answer.the-variants.{Refused}
 use Rattle.lines.specs.declared.Next.{Next}
 use Rattle.lines.specs.declared.Next.the-variants.{Line, Long, Unfinished, Endless}
 use Rattle.lines.specs.declared.Reading.{Reading}
-use Rattle.lines.specs.Contracts.{line}
-use Rattle.lines.specs.Printout.{answerForm, printedMost}
+use Rattle.lines.specs.Printout.{printedMost}
 use Rattle.lines.specs.Splitting.{lineMost, beforeNewline, nextLine}
 use Rattle.lines.proofs.Splitting.{found}
-use Rattle.lines.proofs.Printing.{answer-length}
 use Rattle.printout.specs.declared.Session.{Session}
 use Rattle.printout.specs.declared.Served.{Served}
-use Rattle.printout.specs.Printout.{Standing, standingOf, Reply, reply, refusedReply, lineReply, printedLine}
+use Rattle.printout.specs.Printout.{Standing, standingOf, reply, refusedReply, lineReply}
 use Rattle.printout.specs.Contracts.{Place, placeAt, lineEnded, Advance, behind, fed, Begun, Feeds}
-use Rattle.driver.specs.Inner.{Put, Passes, Turns}
+use Rattle.driver.specs.Inner.{Put, replying, Passes, Turns}
 use Rattle.printout.proofs.Feeding.{fed-append, within, fed-within, told, fed-line}
 
 -- ---- one text behind another
@@ -96,45 +93,36 @@ fed-ended : (p : Place) (s : List ℕ) (e : ℕ) → e ≡ beforeNewline s → e
 fed-ended p s e q h = rw (add-one, q) (fed-line p s (subst (λ (k : ℕ). k < length s) q h))
 
 -- a line that is not too long is read
-pub line-read : (x : Standing) (s : List ℕ) → length s ≤ lineMost → lineEnded (placeAt x s) ≡ lineReply s x
+line-read : (x : Standing) (s : List ℕ) → length s ≤ lineMost → lineEnded (placeAt x s) ≡ lineReply s x
 line-read x s h = ap (λ (r : Reading). reply r x) (sym (cond-yes _ _ _ _ (le-leb _ _ h) refl))
 
 -- one that is too long fails check 1
-pub line-refused : (x : Standing) (s : List ℕ) → lineMost < length s → lineEnded (placeAt x s) ≡ refusedReply 1 x
+line-refused : (x : Standing) (s : List ℕ) → lineMost < length s → lineEnded (placeAt x s) ≡ refusedReply 1 x
 line-refused x s h = ap (λ (r : Reading). reply r x) (sym (cond-no _ _ _ _ (lt-leb _ _ h) refl))
 
--- where a line ended, it was answered by r
-feeds-line : (x : Standing) (begun s out : List ℕ) (e : ℕ) (r : Reply) (y : Standing) (k : ℕ) (after : List ℕ) → e ≡ beforeNewline s → e < length s
-    → lineEnded (placeAt x (begun ++ take e s)) ≡ r → y ≡ r .standing → Put (printedLine r) out k after → Feeds x begun (take (e + 1) s) out y false k after
-feeds-line x begun s out e r y k after q h l u p =
-    feeds-at x begun (take (e + 1) s) out y false k after (told (placeAt x (begun ++ take e s))) (fed-ended (placeAt x begun) s e q h)
-    (u ∙ ap (λ (z : Reply). z .standing) (sym l)) refl (subst (λ (z : Reply). Put (printedLine z) out k after) (sym l) p)
-
--- a line of which nothing was passed over
-pub feeds-read : (x : Standing) (s out : List ℕ) (n : Next) (e : ℕ) (y : Standing) (k : ℕ) (after : List ℕ) → n ≡ nextLine s → n ≡ Line e
-    → y ≡ lineReply (take e s) x .standing → Put (printedLine (lineReply (take e s) x)) out k after
-    → (begun : List ℕ) → Begun false begun → Feeds x begun (take (e + 1) s) out y false k after
-feeds-read x s out n e y k after q p u w begun b =
+-- where a line ends, of which nothing was passed over
+pub fed-read : (x : Standing) (s : List ℕ) (n : Next) (e : ℕ) → n ≡ nextLine s → n ≡ Line e → (begun : List ℕ) → Begun false begun
+    → fed (placeAt x begun) (take (e + 1) s) ≡ replying (lineReply (take e s) x)
+fed-read x s n e q p begun b =
     let f : (e ≡ beforeNewline s) × (e < length s) × (e ≤ lineMost) = found s n (Line e) q p in
     let l : length (take e s) ≤ lineMost = omega (arith, length-take-le e s (omega (arith, f .1)), f .2) in
-    subst (λ (z : List ℕ). Feeds x z (take (e + 1) s) out y false k after) (sym b)
-    (feeds-line x [] s out e (lineReply (take e s) x) y k after (f .0) (f .1) (line-read x (take e s) l) u w)
+    ap (λ (z : List ℕ). fed (placeAt x z) (take (e + 1) s)) b ∙ fed-ended (placeAt x []) s e (f .0) (f .1) ∙ ap replying (line-read x (take e s) l)
 
--- a line of which too much was passed over
-pub feeds-late : (x : Standing) (s out : List ℕ) (n : Next) (e k : ℕ) (after : List ℕ) → n ≡ nextLine s → n ≡ Line e
-    → Put (line (answerForm (Refused 1))) out k after → (begun : List ℕ) → Begun true begun → Feeds x begun (take (e + 1) s) out x false k after
-feeds-late x s out n e k after q p w begun b =
+-- of which too much was passed over
+pub fed-late : (x : Standing) (s : List ℕ) (n : Next) (e : ℕ) → n ≡ nextLine s → n ≡ Line e → (begun : List ℕ) → Begun true begun
+    → fed (placeAt x begun) (take (e + 1) s) ≡ replying (refusedReply 1 x)
+fed-late x s n e q p begun b =
     let f : (e ≡ beforeNewline s) × (e < length s) × (e ≤ lineMost) = found s n (Line e) q p in
     let l : lineMost < length (begun ++ take e s) = omega (arith, length-append begun (take e s), b) in
-    feeds-line x begun s out e (refusedReply 1 x) x k after (f .0) (f .1) (line-refused x (begun ++ take e s) l) refl w
+    fed-ended (placeAt x begun) s e (f .0) (f .1) ∙ ap replying (line-refused x (begun ++ take e s) l)
 
--- a line that is too long by itself
-pub feeds-long : (x : Standing) (s out : List ℕ) (n : Next) (e k : ℕ) (after : List ℕ) (late : Bool) → n ≡ nextLine s → n ≡ Long e
-    → Put (line (answerForm (Refused 1))) out k after → (begun : List ℕ) → Begun late begun → Feeds x begun (take (e + 1) s) out x false k after
-feeds-long x s out n e k after late q p w begun b =
+-- that is too long by itself
+pub fed-long : (x : Standing) (s : List ℕ) (n : Next) (e : ℕ) → n ≡ nextLine s → n ≡ Long e → (begun : List ℕ)
+    → fed (placeAt x begun) (take (e + 1) s) ≡ replying (refusedReply 1 x)
+fed-long x s n e q p begun =
     let f : (e ≡ beforeNewline s) × (e < length s) × (lineMost < e) = found s n (Long e) q p in
     let l : lineMost < length (begun ++ take e s) = omega (arith, length-append begun (take e s), length-take-le e s (omega (arith, f .1)), f .2) in
-    feeds-line x begun s out e (refusedReply 1 x) x k after (f .0) (f .1) (line-refused x (begun ++ take e s) l) refl w
+    fed-ended (placeAt x begun) s e (f .0) (f .1) ∙ ap replying (line-refused x (begun ++ take e s) l)
 
 -- bytes of a line that is too long and goes on
 pub feeds-endless : (x : Standing) (s out : List ℕ) (n : Next) (late : Bool) → n ≡ nextLine s → n ≡ Endless
@@ -158,46 +146,42 @@ turn-none x late bytes out tally network s e h = record {
   stops = λ z. h;
 }
 
--- a line was used
-pub turn-passed : (x : Standing) (late : Bool) (bytes out tally network : List ℕ) (r : Served) (after : List ℕ) (e : ℕ) (y : Standing) (words : List ℕ)
-    → e < length bytes → Passes e y words out tally network r after → length words ≤ printedMost → printedMost ≤ length out
-    → ((begun : List ℕ) → Begun late begun → Feeds x begun (take (e + 1) bytes) out y false (r .printed) after)
-    → Turns x late bytes out tally network r after
-turn-passed x late bytes out tally network r after e y words h p short room f = record {
+-- lines were used
+pub turn-passed : (x : Standing) (late : Bool) (bytes out tally network : List ℕ) (r : Served) (after : List ℕ) (used : ℕ) (f : Advance)
+    → 0 < used → used ≤ length bytes → Begun false (f .place .begun) → ((begun : List ℕ) → Begun late begun → fed (placeAt x begun) (take used bytes) ≡ f)
+    → Passes used f out tally network r after → length after ≡ length out → Turns x late bytes out tally network r after
+turn-passed x late bytes out tally network r after used f some inside fresh e p same = record {
   within = omega (arith, p .used);
-  room = omega (arith, p .put .bytes);
+  room = put-inside (f .text) out (r .printed) after (p .put) same;
   feeds = λ begun b.
       subst (λ (k : ℕ). Feeds x begun (take k bytes) out (standingOf (r .session) tally network) (r .late) (r .printed) after) (sym (p .used))
-      (subst (λ (t : Bool). Feeds x begun (take (e + 1) bytes) out (standingOf (r .session) tally network) t (r .printed) after) (sym (p .late))
-      (subst (λ (z : Standing). Feeds x begun (take (e + 1) bytes) out z false (r .printed) after) (sym (p .state)) (f begun b)));
+      (subst (λ (t : Bool). Feeds x begun (take used bytes) out (standingOf (r .session) tally network) t (r .printed) after) (sym (p .late))
+      (feeds-at x begun (take used bytes) out (standingOf (r .session) tally network) false (r .printed) after f (e begun b) (p .state) fresh (p .put)));
   stops = λ z. absurd (omega (arith, p .used));
 }
 
 -- a line of which too much was passed over, or that is too long by itself, was refused
 pub turn-late : (x : Standing) (late : Bool) (bytes out tally network : List ℕ) (n : Next) (e : ℕ) (r : Served) (after : List ℕ) → late ≡ true → n ≡ nextLine bytes → n ≡ Line e
-    → Passes e x (line (answerForm (Refused 1))) out tally network r after → printedMost ≤ length out → Turns x late bytes out tally network r after
-turn-late x late bytes out tally network n e r after l q p h room =
-    turn-passed x late bytes out tally network r after e x (line (answerForm (Refused 1))) (found bytes n (Line e) q p .1) h (answer-length (Refused 1)) room
-    (λ begun b. feeds-late x bytes out n e (r .printed) after q p (h .put) begun (subst (λ (t : Bool). Begun t begun) l b))
+    → Passes (e + 1) (replying (refusedReply 1 x)) out tally network r after → length after ≡ length out → Turns x late bytes out tally network r after
+turn-late x late bytes out tally network n e r after l q p h same =
+    turn-passed x late bytes out tally network r after (e + 1) (replying (refusedReply 1 x)) (omega arith) (omega (arith, found bytes n (Line e) q p .1)) refl
+    (λ begun b. fed-late x bytes n e q p begun (subst (λ (t : Bool). Begun t begun) l b)) h same
 
 pub turn-long : (x : Standing) (late : Bool) (bytes out tally network : List ℕ) (n : Next) (e : ℕ) (r : Served) (after : List ℕ) → n ≡ nextLine bytes → n ≡ Long e
-    → Passes e x (line (answerForm (Refused 1))) out tally network r after → printedMost ≤ length out → Turns x late bytes out tally network r after
-turn-long x late bytes out tally network n e r after q p h room =
-    turn-passed x late bytes out tally network r after e x (line (answerForm (Refused 1))) (found bytes n (Long e) q p .1) h (answer-length (Refused 1)) room
-    (λ begun b. feeds-long x bytes out n e (r .printed) after late q p (h .put) begun b)
+    → Passes (e + 1) (replying (refusedReply 1 x)) out tally network r after → length after ≡ length out → Turns x late bytes out tally network r after
+turn-long x late bytes out tally network n e r after q p h same =
+    turn-passed x late bytes out tally network r after (e + 1) (replying (refusedReply 1 x)) (omega arith) (omega (arith, found bytes n (Long e) q p .1)) refl
+    (λ begun b. fed-long x bytes n e q p begun) h same
 
 -- a line was answered
 pub turn-line : (x : Standing) (late : Bool) (bytes out tally network : List ℕ) (n : Next) (e : ℕ) (r : Served) (after : List ℕ) → late ≡ false → n ≡ nextLine bytes → n ≡ Line e
-    → Passes (length (take e bytes)) (lineReply (take e bytes) x .standing) (printedLine (lineReply (take e bytes) x)) out tally network r after → printedMost ≤ length out
-    → Turns x late bytes out tally network r after
-turn-line x late bytes out tally network n e r after l q p h room =
-    let f : (e ≡ beforeNewline bytes) × (e < length bytes) × (e ≤ lineMost) = found bytes n (Line e) q p in
-    let k : length (take e bytes) ≡ e = length-take-le e bytes (omega (arith, f .1)) in
-    let y : Standing = lineReply (take e bytes) x .standing in
-    let w : List ℕ = printedLine (lineReply (take e bytes) x) in
-    let g : Passes e y w out tally network r after = subst (λ (i : ℕ). Passes i y w out tally network r after) k h in
-    turn-passed x late bytes out tally network r after e y w (f .1) g (answer-length (lineReply (take e bytes) x .answer)) room
-    (λ begun b. feeds-read x bytes out n e y (r .printed) after q p refl (g .put) begun (subst (λ (t : Bool). Begun t begun) l b))
+    → Passes (length (take e bytes) + 1) (replying (lineReply (take e bytes) x)) out tally network r after → length after ≡ length out → Turns x late bytes out tally network r after
+turn-line x late bytes out tally network n e r after l q p h same =
+    let i : e < length bytes = found bytes n (Line e) q p .1 in
+    let k : length (take e bytes) ≡ e = length-take-le e bytes (omega arith) in
+    let f : Advance = replying (lineReply (take e bytes) x) in
+    turn-passed x late bytes out tally network r after (e + 1) f (omega arith) (omega arith) refl
+    (λ begun b. fed-read x bytes n e q p begun (subst (λ (t : Bool). Begun t begun) l b)) (subst (λ (z : ℕ). Passes (z + 1) f out tally network r after) k h) same
 
 -- bytes of a line that is too long and goes on were passed over
 pub turn-endless : (s : Session) (late : Bool) (bytes out tally network : List ℕ) (n : Next) → n ≡ nextLine bytes → n ≡ Endless

@@ -23,9 +23,9 @@ use Rattle.lines.specs.Splitting.{remainder}
 use Rattle.lines.proofs.Printing.{answer-length, processor-length}
 use Rattle.printout.specs.declared.Session.{Session}
 use Rattle.printout.specs.declared.Served.{Served}
-use Rattle.printout.specs.Printout.{Standing, standingOf, Reply, lineReply, printedLine, processorLines, closing, printedFrom}
+use Rattle.printout.specs.Printout.{Standing, standingOf, lineReply, printedLine, processorLines, closing, printedFrom}
 use Rattle.printout.specs.Contracts.{Prints, AnswersLine, Begun, closingMost, Closes}
-use Rattle.driver.specs.Inner.{Put, Passes}
+use Rattle.driver.specs.Inner.{Put, replying, Passes}
 use Rattle.driver.proofs.Serving.{put-none, put-inside, left-over, put-part}
 
 -- ---- what the writer wrote, where it has room
@@ -72,45 +72,58 @@ pub put-prints : (most : ℕ) (words out : List ℕ) (k : ℕ) (after : List ℕ
 put-prints most words out k after h p =
     (cond-no _ _ _ _ (le-ltb _ _ h) (ap Bytes (p .bytes)), cond-no _ _ _ _ (le-ltb _ _ h) (p .text ∙ ap (λ (i : ℕ). words ++ drop i out) (p .bytes)))
 
--- ---- the processors
+-- ---- lines one behind the other, each into the bytes that the last ones left
 
--- those below p are printed
-pub record Told (run : Run) (out : List ℕ) (p at : ℕ) (after : List ℕ) : Type 0 where
-  pub put : Put (processorLines run p) out at after
+-- text p is that of the first p lines
+pub record Told (text : ℕ → List ℕ) (out : List ℕ) (p at : ℕ) (after : List ℕ) : Type 0 where
+  pub put : Put (text p) out at after
   pub few : at ≤ p * printedMost
   pub same : length after ≡ length out
 
-pub told-none : (run : Run) (out : List ℕ) → Told run out 0 0 out
-told-none run out = record { put = put-none out; few = omega arith; same = refl }
+-- of so many lines each has room
+module _ {text : ℕ → List ℕ} {out : List ℕ} {p at : ℕ} {e : List ℕ} (t : Told text out p at e) {most : ℕ} (l : p < most) (h : most * printedMost ≤ length out) where
+  pub told-inside : at ≤ length e
+  told-inside = omega (arith, t .few, t .same)
 
-pub told-inside : (run : Run) (out : List ℕ) (p at : ℕ) (e : List ℕ) → tableClocks * printedMost ≤ length out → Told run out p at e → p < tableClocks → at ≤ length e
-told-inside run out p at e h t l = omega (arith, t .few, t .same)
+  pub told-room : printedMost ≤ length (midOf at (length e - at) e)
+  told-room = omega (arith, left-over at e, t .few, t .same)
+
+  -- one line more
+  module _ {piece : List ℕ} {m : ℕ} {f : List ℕ} (w : Put piece (midOf at (length e - at) e) m f) (short : length piece ≤ printedMost) where
+    pub told-fits : at + m ≤ length out
+    told-fits = omega (arith, t .few, w .bytes)
+
+    pub told-more : text (p + 1) ≡ text p ++ piece → length f ≡ length (midOf at (length e - at) e) → Told text out (p + 1) (at + m) (putMid at (length e - at) e f)
+    told-more further q =
+        record {
+          put = rw further (put-part (t .put) told-inside w);
+          few = omega (arith, t .few, w .bytes);
+          same = same-len-mid at (length e - at) e f q ∙ t .same;
+        }
+
+pub told-none : {text : ℕ → List ℕ} (out : List ℕ) → text 0 ≡ [] → Told text out 0 0 out
+told-none out e = record { put = rw e (put-none out); few = omega arith; same = refl }
+
+pub told-all : (text : ℕ → List ℕ) (out : List ℕ) (most p at : ℕ) (e : List ℕ) → (p ≤ most) × Told text out p at e → most ≤ p → Put (text most) out at e
+told-all text out most p at e t h = let q : p ≡ most = omega (arith, t .0) in subst (λ (k : ℕ). Put (text k) out at e) q (t .1 .put)
+
+-- ---- the processors
 
 -- a processor's line, or none
-pub one-most : (t : Bool) (p view clock m : ℕ) (out after : List ℕ) → Put (cond t (line (processorForm p view clock)) []) out m after → m ≤ printedMost
-one-most true p view clock m out after w = omega (arith, w .bytes, processor-length p view clock)
-one-most false p view clock m out after w = omega (arith, w .bytes)
+abbrev processorText : Run → ℕ → List ℕ
+processorText run p = cond (isCorrect run p) (line (processorForm p (viewOf run p) (clockOf run p))) []
 
-pub told-room : (run : Run) (out : List ℕ) (p at : ℕ) (e : List ℕ) → tableClocks * printedMost ≤ length out → Told run out p at e → p < tableClocks
-    → printedMost ≤ length (midOf at (length e - at) e)
-told-room run out p at e h t l = omega (arith, left-over at e, t .few, t .same)
+one-most : (t : Bool) (p view clock : ℕ) → length (cond t (line (processorForm p view clock)) []) ≤ printedMost
+one-most true p view clock = processor-length p view clock
+one-most false p view clock = omega arith
 
-pub told-fits : (run : Run) (out : List ℕ) (p at : ℕ) (e : List ℕ) (m : ℕ) (f : List ℕ) → Told run out p at e → p < tableClocks
-    → Put (cond (isCorrect run p) (line (processorForm p (viewOf run p) (clockOf run p))) []) (midOf at (length e - at) e) m f → at + m ≤ tableClocks * printedMost
-told-fits run out p at e m f t l w = omega (arith, t .few, one-most (isCorrect run p) p (viewOf run p) (clockOf run p) m (midOf at (length e - at) e) f w)
+module _ {run : Run} {out : List ℕ} {p at : ℕ} {e : List ℕ} (t : Told (processorLines run) out p at e) {most : ℕ} (l : p < most) (h : most * printedMost ≤ length out)
+    {m : ℕ} {f : List ℕ} (w : Put (processorText run p) (midOf at (length e - at) e) m f) where
+  pub processor-fits : at + m ≤ length out
+  processor-fits = told-fits t l h w (one-most (isCorrect run p) p (viewOf run p) (clockOf run p))
 
-pub told-more : (run : Run) (out : List ℕ) (p at : ℕ) (e : List ℕ) (m : ℕ) (f : List ℕ) → tableClocks * printedMost ≤ length out → Told run out p at e → p < tableClocks
-    → Put (cond (isCorrect run p) (line (processorForm p (viewOf run p) (clockOf run p))) []) (midOf at (length e - at) e) m f
-    → length f ≡ length (midOf at (length e - at) e) → Told run out (p + 1) (at + m) (putMid at (length e - at) e f)
-told-more run out p at e m f h t l w q =
-    record {
-      put = rw add-one (put-part (t .put) (told-inside run out p at e h t l) w);
-      few = omega (arith, t .few, one-most (isCorrect run p) p (viewOf run p) (clockOf run p) m (midOf at (length e - at) e) f w);
-      same = same-len-mid at (length e - at) e f q ∙ t .same;
-    }
-
-pub told-all : (run : Run) (out : List ℕ) (p at : ℕ) (e : List ℕ) → (p ≤ tableClocks) × Told run out p at e → tableClocks ≤ p → Put (processorLines run tableClocks) out at e
-told-all run out p at e t h = let q : p ≡ tableClocks = omega (arith, t .0) in subst (λ (k : ℕ). Put (processorLines run k) out at e) q (t .1 .put)
+  pub processor-told : length f ≡ length (midOf at (length e - at) e) → Told (processorLines run) out (p + 1) (at + m) (putMid at (length e - at) e f)
+  processor-told q = told-more t l h w (one-most (isCorrect run p) p (viewOf run p) (clockOf run p)) (ap (processorLines run) (add-one p)) q
 
 -- ---- the end
 
@@ -131,16 +144,10 @@ pub line-few : (s : List ℕ) (x : Standing) (out : List ℕ) → length out < p
 line-few s x out h = (cond-yes _ _ _ _ (lt-ltb _ _ h) refl, too-few printedMost (printedLine (lineReply s x)) out h)
 
 pub line-answered : (s : List ℕ) (x : Standing) (out tally network : List ℕ) (r : Served) (after : List ℕ) → printedMost ≤ length out
-    → Passes (length s) (lineReply s x .standing) (printedLine (lineReply s x)) out tally network r after
+    → Passes (length s + 1) (replying (lineReply s x)) out tally network r after
     → AnswersLine s x out (standingOf (r .session) tally network) (Bytes (r .printed)) after
 line-answered s x out tally network r after h p =
     (cond-no _ _ _ _ (le-ltb _ _ h) (p .state), put-prints printedMost (printedLine (lineReply s x)) out (r .printed) after h (p .put))
-
-pub line-passed : (s : List ℕ) (x : Standing) (out : List ℕ) (a : Reply) (k : ℕ) (after : List ℕ) → a ≡ lineReply s x → Put (printedLine a) out k after
-    → Passes (length s) (lineReply s x .standing) (printedLine (lineReply s x)) out (a .standing .tally) (a .standing .network)
-    (record { session = a .standing .session; late = false; used = length s + 1; printed = k }) after
-line-passed s x out a k after e p =
-    record { used = refl; late = refl; state = ap (λ (z : Reply). z .standing) e; put = subst (λ (z : Reply). Put (printedLine z) out k after) e p }
 
 -- ---- all of the end
 

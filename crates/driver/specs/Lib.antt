@@ -1,3 +1,3 @@
 -- What the driver's clauses cite.
-pub mod Contracts
 pub mod Inner
+pub mod Batches

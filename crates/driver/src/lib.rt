@@ -1,4 +1,5 @@
 // The simulate program but for its reading and writing of files: lines in, printed answers out.
+mod batches;
 mod printing;
 mod replies;
 mod turns;
@@ -6,12 +7,11 @@ mod turns;
 use lines::Written;
 use printout::Served;
 use printout::Session;
-use types::Answer;
 use types::Head;
+use words::Numbers;
 ghost use mathlib.Core.Path.{_≡_};
 ghost use Rattle.printout.specs.Printout.{standingOf};
 ghost use Rattle.printout.specs.Contracts.{AnswersLine, Serves, Closes};
-ghost use Rattle.driver.specs.Contracts.{KnownReachable};
 ghost use Rattle.driver.specs.Inner.{sessionFrom};
 
 // The bytes that the longest answer has.
@@ -26,11 +26,16 @@ pub struct Replied {
     pub written: Written,
 }
 
-// What a line left, the run's tables being lent: whether a run is open, the run's head, and the answer to print.
-pub(crate) struct Answered {
-    pub(crate) opened: bool,
-    pub(crate) head: Head,
-    pub(crate) answer: Answer,
+// The next line, in numbers: how many bytes it has with its newline, or 0 where no batch may have it.
+pub(crate) struct Noted {
+    pub(crate) used: usize,
+    pub(crate) numbers: Numbers,
+}
+
+// Lines that stand in a batch: how many, and the bytes that they have.
+pub(crate) struct Gathered {
+    pub(crate) count: usize,
+    pub(crate) used: usize,
 }
 
 // What bytes of an input left, the run's tables being lent: as `Served`.
@@ -72,10 +77,9 @@ pub fn answer_line(
     let run = session.run;
     let mut clocks = run.clocks;
     let mut views = run.views;
-    let turn = turns::answer_whole(
+    let turn = replies::answer_whole(
         session.opened,
         types::head_of(run),
-        false,
         line,
         &mut clocks,
         &mut views,
@@ -90,30 +94,28 @@ pub fn answer_line(
     }
 }
 
-// The lines that end within the bytes at hand are answered, as many as have room for their answers. A caller that knows an open run to come from an
-// accepted opening says so, and no event's check 9 is made.
-pub fn serve_lines(
+// The lines that end within the bytes at hand are answered, as many as have room for their answers.
+pub fn answer_lines(
     session: Session,
-    known: bool,
     late: bool,
     bytes: &[u8],
     tally: &mut [u64],
     network: &mut [u64],
     out: &mut [u8],
 ) -> Served
-    requires { ⌜ KnownReachable known (standingOf session (now tally) (now network)) ⌝ }
     ensures { λ r. ⌜ Serves (standingOf session (now (tally .entry)) (now (network .entry))) late (now (bytes .entry)) (now (out .entry))
         (now (tally .exit)) (now (network .exit)) r (now (out .exit)) ⌝ }
 {
     let run = session.run;
     let mut clocks = run.clocks;
     let mut views = run.views;
+    let mut batch = [0u64; batches::BATCH_WORDS];
     let turn = turns::answer_turns(
         session.opened,
         types::head_of(run),
-        known,
         late,
         bytes,
+        &mut batch,
         &mut clocks,
         &mut views,
         tally,
@@ -127,21 +129,6 @@ pub fn serve_lines(
         used: turn.used,
         printed: turn.printed,
     }
-}
-
-// The same of any session, whatever it holds.
-pub fn answer_lines(
-    session: Session,
-    late: bool,
-    bytes: &[u8],
-    tally: &mut [u64],
-    network: &mut [u64],
-    out: &mut [u8],
-) -> Served
-    ensures { λ r. ⌜ Serves (standingOf session (now (tally .entry)) (now (network .entry))) late (now (bytes .entry)) (now (out .entry))
-        (now (tally .exit)) (now (network .exit)) r (now (out .exit)) ⌝ }
-{
-    serve_lines(session, false, late, bytes, tally, network, out)
 }
 
 // At the end of the input: `rest` are the bytes at hand since the last newline.

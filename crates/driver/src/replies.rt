@@ -1,54 +1,45 @@
-// What is answered to an event, to an opening, and to a line that is neither.
-use crate::Answered;
+// What is answered to the lines of a batch, to an opening, and to a line by itself. The run's tables are lent beside its head.
+use crate::Turned;
+use crate::batches;
+use crate::printing;
 use lines::Read;
 use types::Answer;
-use types::Event;
 use types::Head;
 use types::Setup;
 ghost use mathlib.Core.Path.{_≡_};
-ghost use Rattle.printout.specs.Printout.{endsTicks, ticksPrinted, printedAnswer, staysOpen, eventReply, openingReply, lineReply};
-ghost use Rattle.driver.specs.Contracts.{KnownReachable};
-ghost use Rattle.driver.specs.Inner.{standingFrom, answering};
+ghost use Prim.Native.Nat.{_+_, _*_, _≤_};
+ghost use lib.ListN.{length};
+ghost use Rattle.model.specs.State.{stateOf, runFrom};
+ghost use Rattle.words.specs.Events.{eventsIn};
+ghost use Rattle.lines.specs.Printout.{printedMost};
+ghost use Rattle.printout.specs.Printout.{staysOpen, openingReply, lineReply};
+ghost use Rattle.driver.specs.Inner.{standingFrom, servedAs, replying, Passes};
+ghost use Rattle.driver.specs.Batches.{wordsAnswered, advanced};
 
-// Whether the check ends ticks.
-fn ends_ticks(check: u64) -> bool
-    ensures { λ r. ⌜ r ≡ endsTicks check ⌝ }
+// The lines of a batch.
+pub(crate) fn answer_batch(
+    opened: bool,
+    head: Head,
+    used: usize,
+    batch: &mut [u64],
+    clocks: &mut [u64; 64],
+    views: &mut [u64; 64],
+    tally: &mut [u64],
+    network: &mut [u64],
+    out: &mut [u8],
+) -> Turned
+    requires { ⌜ eventsIn (now batch) * printedMost ≤ length (now out) ⌝ }
+    ensures { λ r. ⌜ Passes used (advanced opened (eventsIn (now (batch .entry))) (wordsAnswered opened (now (batch .entry))
+        (stateOf (runFrom head (now (clocks .entry)) (now (views .entry))) (now (tally .entry)) (now (network .entry))))) (now (out .entry))
+        (now (tally .exit)) (now (network .exit)) (servedAs r (now (clocks .exit)) (now (views .exit))) (now (out .exit)) ⌝ }
 {
-    if check == 16 {
-        return true;
-    }
-    if check == 17 {
-        return true;
-    }
-    check == 18
-}
-
-// The printed answer to ticks.
-fn print_ticks(held: usize, answer: Answer) -> Answer
-    ensures { λ r. ⌜ r ≡ ticksPrinted held answer ⌝ }
-{
-    match answer {
-        Answer::Done(_, _) => answer,
-        Answer::Stopped(_, _, _) => answer,
-        Answer::Refused(check) => {
-            if ends_ticks(check) {
-                return Answer::Stopped(0, held, check);
-            }
-            answer
-        }
-    }
-}
-
-// The printed answer to an event.
-fn print_event(event: Event, held: usize, answer: Answer) -> Answer
-    ensures { λ r. ⌜ r ≡ printedAnswer event held answer ⌝ }
-{
-    match event {
-        Event::Deliver(_) => answer,
-        Event::Sign(_) => answer,
-        Event::Show(_) => answer,
-        Event::Settle => answer,
-        Event::Tick(_) => print_ticks(held, answer),
+    let next = batches::apply_batch(opened, head, clocks, views, tally, network, batch);
+    Turned {
+        opened: opened,
+        head: next,
+        late: false,
+        used: used,
+        printed: batches::print_batch(opened, batch, out),
     }
 }
 
@@ -66,89 +57,79 @@ fn stays_open(opened: bool, answer: Answer) -> bool
     }
 }
 
-// An event.
-fn answer_event(
-    opened: bool,
-    head: Head,
-    known: bool,
-    event: Event,
-    clocks: &mut [u64; 64],
-    views: &mut [u64; 64],
-    tally: &mut [u64],
-    network: &mut [u64],
-) -> Answered
-    requires { ⌜ KnownReachable known (standingFrom opened head (now clocks) (now views) (now tally) (now network)) ⌝ }
-    ensures { λ r. ⌜ answering r (now (clocks .exit)) (now (views .exit)) (now (tally .exit)) (now (network .exit))
-        ≡ eventReply event (standingFrom opened head (now (clocks .entry)) (now (views .entry)) (now (tally .entry)) (now (network .entry))) ⌝ }
-{
-    if opened {
-        let outcome = simulator::apply_lent(head, known, event, clocks, views, tally, network);
-        let next = outcome.head;
-        let answer = outcome.answer;
-        let held = next.held;
-        return Answered {
-            opened: true,
-            head: next,
-            answer: print_event(event, held, answer),
-        };
-    }
-    Answered {
-        opened: opened,
-        head: head,
-        answer: Answer::Refused(9),
-    }
-}
-
 // An opening.
 fn answer_opening(
     opened: bool,
     head: Head,
+    used: usize,
     setup: Setup,
     clocks: &mut [u64; 64],
     views: &mut [u64; 64],
     tally: &mut [u64],
     network: &mut [u64],
-) -> Answered
-    ensures { λ r. ⌜ answering r (now (clocks .exit)) (now (views .exit)) (now (tally .exit)) (now (network .exit))
-        ≡ openingReply setup (standingFrom opened head (now (clocks .entry)) (now (views .entry)) (now (tally .entry)) (now (network .entry))) ⌝ }
+    out: &mut [u8],
+) -> Turned
+    requires { ⌜ printedMost ≤ length (now out) ⌝ }
+    ensures { λ r. ⌜ Passes used
+        (replying (openingReply setup (standingFrom opened head (now (clocks .entry)) (now (views .entry)) (now (tally .entry)) (now (network .entry))))) (now (out .entry))
+        (now (tally .exit)) (now (network .exit)) (servedAs r (now (clocks .exit)) (now (views .exit))) (now (out .exit)) ⌝ }
 {
     let outcome = simulator::open_lent(head, setup, clocks, views, tally, network);
     let next = outcome.head;
     let answer = outcome.answer;
-    Answered {
+    Turned {
         opened: stays_open(opened, answer),
         head: next,
-        answer: answer,
+        late: false,
+        used: used,
+        printed: printing::print_answer(answer, out),
     }
 }
 
-// What a line is read as: an event goes on, and so does an opening; anything else is check 1.
-pub(crate) fn answer_reading(
+// A whole line: an opening, or a batch of one.
+pub(crate) fn answer_whole(
     opened: bool,
     head: Head,
-    known: bool,
     line: &[u8],
     clocks: &mut [u64; 64],
     views: &mut [u64; 64],
     tally: &mut [u64],
     network: &mut [u64],
-) -> Answered
-    requires { ⌜ KnownReachable known (standingFrom opened head (now clocks) (now views) (now tally) (now network)) ⌝ }
-    ensures { λ r. ⌜ answering r (now (clocks .exit)) (now (views .exit)) (now (tally .exit)) (now (network .exit))
-        ≡ lineReply (now (line .entry)) (standingFrom opened head (now (clocks .entry)) (now (views .entry)) (now (tally .entry)) (now (network .entry))) ⌝ }
+    out: &mut [u8],
+) -> Turned
+    requires { ⌜ printedMost ≤ length (now out) ⌝ }
+    ensures { λ r. ⌜ Passes (length (now (line .entry)) + 1)
+        (replying (lineReply (now (line .entry)) (standingFrom opened head (now (clocks .entry)) (now (views .entry)) (now (tally .entry)) (now (network .entry))))) (now (out .entry))
+        (now (tally .exit)) (now (network .exit)) (servedAs r (now (clocks .exit)) (now (views .exit))) (now (out .exit)) ⌝ }
 {
+    let used = line.len() + 1;
     let reading = reader::read_line(line);
     let read = reading.read;
     if let Read::Opening = read {
         let setup = reading.setup;
-        return answer_opening(opened, head, setup, clocks, views, tally, network);
+        return answer_opening(
+            opened,
+            head,
+            used,
+            setup,
+            clocks,
+            views,
+            tally,
+            network,
+            out,
+        );
     }
-    let Read::Event(event) = read else {
-        return Answered {
-            opened: opened,
-            head: head,
-            answer: Answer::Refused(1),
-        };
-    };
-    answer_event(opened, head, known, event, clocks, views, tally, network)
+    let mut batch = [0u64; words::EVENT_WORDS];
+    words::put_numbers(&mut batch, 0, batches::numbers_read(read));
+    answer_batch(
+        opened,
+        head,
+        used,
+        &mut batch,
+        clocks,
+        views,
+        tally,
+        network,
+        out,
+    )
 }

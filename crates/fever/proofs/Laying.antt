@@ -10,8 +10,9 @@ use Rattle.types.specs.Quantities.{tableClocks}
 use Rattle.lines.specs.declared.Reading.{Reading}
 use Rattle.writer.specs.Stamps.{stamp, Room, Stamped}
 use Rattle.writer.proofs.Stamping.{room-second, written-then}
-use Rattle.fever.specs.declared.Numbers.{Numbers}
-use Rattle.fever.specs.Layout.{clocksWord, runLength, settledAs, runNumbers, runWords, readingLength, readNumbers, readingWords}
+use Rattle.words.specs.declared.Numbers.{Numbers}
+use Rattle.types.specs.Runs.{settledAs}
+use Rattle.fever.specs.Layout.{clocksWord, runLength, runNumbers, runOver, readingLength, readNumbers, readingWords}
 
 -- words from the first on
 pub laid : (d e w : List ℕ) (b n : ℕ) → length w ≡ n → Stamped d 0 w b e → e ≡ w ++ drop n d
@@ -37,7 +38,7 @@ numbersWith r s = r .plan .n ∷ r .plan .delta ∷ r .plan .gamma ∷ r .plan .
 
 pub run-laid : (r : Run) (s : ℕ) (clocks views d e f g : List ℕ) (a b c : ℕ) → clocks ≡ r .clocks → views ≡ r .views
     → length clocks ≡ tableClocks → length views ≡ tableClocks → runLength ≤ length d → s ≡ settledAs (r .settled)
-    → Stamped d 0 (numbersWith r s) a e → Stamped e a clocks b f → Stamped f b views c g → g ≡ runWords r ++ drop runLength d
+    → Stamped d 0 (numbersWith r s) a e → Stamped e a clocks b f → Stamped f b views c g → g ≡ runOver d r
 run-laid r s clocks views d e f g a b c i j k v fits q x y z =
     tables-laid (numbersWith r s) clocks views d refl k v fits e f g a b c x y z
     ∙ ap (λ (n : ℕ). numbersWith r n ++ (clocks ++ views) ++ drop runLength d) q

@@ -7,16 +7,11 @@ use Prim.Native.Nat.{ℕ, _<_, _≤_}
 use native.Mathlib.Omega.{arith}
 use lib.ListN.{length, drop, length-append}
 use borrow.Author.Tests.{lt-ltb, le-ltb, eq-eqb, ne-eqb}
-use types.Run.{OneOf, miss}
-use denote.Enum.Declared.{tagOf}
-use Rattle.lines.proofs.Read.{the-type}
 use Rattle.base.specs.Choice.{cond-yes, cond-no}
 use Rattle.base.specs.Tests.{eq?, by-cond}
 use Rattle.types.specs.declared.Event.{Event}
 use Rattle.types.specs.declared.Setup.{Setup}
 use Rattle.types.specs.Messages.{lacksForm}
-use Rattle.lines.specs.declared.Read.{Read}
-use Rattle.lines.specs.declared.Read.the-variants as Read
 use Rattle.lines.specs.declared.Reading.{Reading}
 use Rattle.lines.specs.declared.Written.{Written}
 use Rattle.lines.specs.declared.Written.the-variants.{Bytes, Refused}
@@ -96,17 +91,9 @@ written : (lacks : Bool) (form d : List ℕ) (x : Written) (r : ℕ) (e : List �
     → StandsFor r x → WritesLine lacks form d r e
 written lacks form d x r e w q = record { answer = q lacks form d (w .0) ∙ w .0; text = w .1 }
 
-pub no-event-written : (y z : Read) (d : List ℕ) → z ≡ y → OneOf (1 ∷ 2 ∷ []) (tagOf the-type z) → WritesEvent y d 0 d
-no-event-written y z d q k = subst (λ (x : Read). WritesEvent x d 0 d) q (go z k)
-  where
-    go : (x : Read) → OneOf (1 ∷ 2 ∷ []) (tagOf the-type x) → WritesEvent x d 0 d
-    go (Read.Event e) h = absurd (miss (1 ∷ 2 ∷ []) 0 tt h)
-    go Read.Opening h = unwritten [] d
-    go Read.NoForm h = unwritten [] d
-
-pub event-written : (y : Read) (v : Event) (d : List ℕ) (x : Written) (r : ℕ) (e : List ℕ) → y ≡ Read.Event v → Writes (lacksForm v) (eventForm v) d x e
+pub event-written : (y v : Event) (d : List ℕ) (x : Written) (r : ℕ) (e : List ℕ) → v ≡ y → Writes (lacksForm v) (eventForm v) d x e
     → StandsFor r x → WritesEvent y d r e
-event-written y v d x r e h w q = rw h (written (lacksForm v) (eventForm v) d x r e w q)
+event-written y v d x r e h w q = subst (λ (u : Event). WritesEvent u d r e) h (written (lacksForm v) (eventForm v) d x r e w q)
 
 pub no-setup-written : (ws d : List ℕ) → length ws < setupLength → WritesSetup ws d 0 d
 no-setup-written ws d l = rw (lt-ltb (length ws) setupLength l) (unwritten (setupForm (setupIn ws)) d)

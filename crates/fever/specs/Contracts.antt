@@ -1,7 +1,7 @@
 -- What the exported functions answer and leave in the lent words and bytes, for every argument, by the definitions of the crates below. Where a
 -- call is refused nothing that was lent has changed.
 use mathlib.Core.Path.{_≡_}
-use mathlib.Core.Bool.{Bool, true, cond, _||_}
+use mathlib.Core.Bool.{Bool, cond, _||_}
 use mathlib.Core.List.{List, [], _∷_, _++_}
 use Prim.Native.Nat.{ℕ}
 use lib.Dec.{eqb, ltb}
@@ -18,15 +18,15 @@ use Rattle.model.specs.State.{State, After, stateOf, checkOf, accepted}
 use Rattle.model.specs.Opening.{opening}
 use Rattle.model.specs.Events.{applied}
 use Rattle.model.specs.Processors.{Moved, refusing, stepped}
-use Rattle.lines.specs.declared.Read.{Read}
-use Rattle.lines.specs.declared.Read.the-variants as Read
 use Rattle.lines.specs.declared.Reading.{Reading}
 use Rattle.lines.specs.declared.Written.{Written}
 use Rattle.lines.specs.declared.Written.the-variants.{Bytes, Refused}
 use Rattle.lines.specs.Forms.{eventForm, setupForm, lacksSetupForm}
 use Rattle.lines.specs.Contracts.{readCheck, writtenAs, writtenIn}
 use Rattle.reader.specs.Lines.{reading}
-use Rattle.fever.specs.Layout.{setupLength, setupIn, runLength, runIn, runWords, neitherSettled, recordLength, recordIn, eventIn, readingLength, readingWords}
+use Rattle.words.specs.Events.{eventOf}
+use Rattle.words.specs.Batches.{Worded, wordsApplied}
+use Rattle.fever.specs.Layout.{setupLength, setupIn, runLength, runIn, runOver, neitherSettled, recordLength, recordIn, readingLength, readingWords}
 
 -- ---- opening and applying
 
@@ -52,7 +52,7 @@ called r x = record { answer = r; lent = x }
 
 -- the run's words after a call that answered a and left the run r: those of r where it was accepted, and what stood behind them
 abbrev pub runLeft : List ℕ → Answer → Run → List ℕ
-runLeft ws a r = cond (accepted a) (runWords r ++ drop runLength ws) ws
+runLeft ws a r = cond (accepted a) (runOver ws r) ws
 
 -- what the definitions leave, in words: the check that refused the call or ended the ticks, or 0. That ticks were done shows in the run's time,
 -- which has gained as many (`TicksTold`): so a stopped call is told from a refused one.
@@ -67,22 +67,39 @@ openingWords setup x =
 abbrev pub OpensWords : List ℕ → Lent → ℕ → Lent → Type 0
 OpensWords setup before r after = called r after ≡ openingWords setup before
 
--- an event, on a run of 137 words: check 1 is of the event alone; a settled word above 1 is of no run, which is check 9
-unfoldable pub applyingEvent : Event → Lent → Called
-applyingEvent e x =
-    cond (lacksForm e) (called 1 x) (cond (neitherSettled (x .run)) (called 9 x) (told (x .run) (applied e (lentState x))))
-
-abbrev pub applyingRead : Read → Lent → Called
-applyingRead (Read.Event e) x = applyingEvent e x
-applyingRead Read.Opening x = called 1 x
-applyingRead Read.NoForm x = called 1 x
-
--- `fever_apply`: the model's step by the event that the four numbers are
-unfoldable pub applyingWords : Read → Lent → Called
-applyingWords e x = cond (ltb (length (x .run)) runLength) (called 1 x) (applyingRead e x)
+-- `fever_apply`: the model's step by the event that the four numbers are; they are 0 ticks where they are none. Check 1 is of how many words the run
+-- has and of the event alone; a settled word above 1 is of no run, which is check 9.
+unfoldable pub applyingWords : Event → Lent → Called
+applyingWords e x =
+    cond (ltb (length (x .run)) runLength || lacksForm e) (called 1 x)
+    (cond (neitherSettled (x .run)) (called 9 x) (told (x .run) (applied e (lentState x))))
 
 abbrev pub AppliesWords : ℕ → ℕ → ℕ → ℕ → Lent → ℕ → Lent → Type 0
-AppliesWords form kind view processor before r after = called r after ≡ applyingWords (eventIn form kind view processor) before
+AppliesWords form kind view processor before r after = called r after ≡ applyingWords (eventOf form kind view processor) before
+
+-- ---- many events in one call
+
+-- what it answered, and the words as it left them: the run's, the tally's and the network's, and those of the events
+pub record CalledAll : Type 0 where
+  pub answer : ℕ
+  pub lent : Lent
+  pub events : List ℕ
+
+abbrev pub calledAll : ℕ → Lent → List ℕ → CalledAll
+calledAll r x events = record { answer = r; lent = x; events = events }
+
+abbrev pub toldAll : List ℕ → Worded → CalledAll
+toldAll ws y = calledAll 0 (lentOf (runOver ws (y .state .run)) (y .state .tally) (y .state .network)) (y .words)
+
+-- `fever_apply_all`: the model's step by each event in turn, whose four words become its answer. Words that are of no run refuse all of them:
+-- by 1 where they are too few, by 9 for the settled word.
+unfoldable pub applyingAll : List ℕ → Lent → CalledAll
+applyingAll events x =
+    cond (ltb (length (x .run)) runLength) (calledAll 1 x events)
+    (cond (neitherSettled (x .run)) (calledAll 9 x events) (toldAll (x .run) (wordsApplied events (lentState x))))
+
+abbrev pub AppliesEvents : List ℕ → Lent → ℕ → Lent → List ℕ → Type 0
+AppliesEvents events before r after left = calledAll r after left ≡ applyingAll events before
 
 -- ---- one processor
 
@@ -139,11 +156,9 @@ pub record WritesLine (lacks : Bool) (form before : List ℕ) (r : ℕ) (after :
   pub answer : writtenBy r ≡ writtenAs lacks form before
   pub text : after ≡ writtenIn lacks form before
 
--- `fever_write_event`: the line of the event that four numbers are
-abbrev pub WritesEvent : Read → List ℕ → ℕ → List ℕ → Type 0
-WritesEvent (Read.Event e) before r after = WritesLine (lacksForm e) (eventForm e) before r after
-WritesEvent Read.Opening before r after = WritesLine true [] before r after
-WritesEvent Read.NoForm before r after = WritesLine true [] before r after
+-- `fever_write_event`: the line of the event that four numbers are; 0 ticks, which have none, where they are no event
+abbrev pub WritesEvent : Event → List ℕ → ℕ → List ℕ → Type 0
+WritesEvent e before r after = WritesLine (lacksForm e) (eventForm e) before r after
 
 -- `fever_write_setup`: the line of the setup in the first 69 words
 abbrev pub WritesSetup : List ℕ → List ℕ → ℕ → List ℕ → Type 0

@@ -9,14 +9,15 @@ use Rattle.types.specs.declared.Event.the-variants.{Deliver, Sign, Show, Settle
 use Rattle.types.specs.declared.Message.the-variants.{View, Vote, Vc, Qc}
 use Rattle.model.specs.Lists.{sinceSettling, ticksDone, ticksSince}
 use Rattle.model.specs.Rows.{definitions, standard, table, zeroes, setupOf, fieldsOf, Row, agreeing, number, words}
-use Rattle.lines.specs.declared.Read.the-variants as Read
 use Rattle.lines.specs.Contracts.{eventReading, openingReading, noForm, writtenCheck}
 use Rattle.liveness.specs.Promises.{settlingBound}
 use Rattle.liveness.specs.Live as live
-use Rattle.fever.specs.declared.Numbers.{Numbers}
-use Rattle.fever.specs.Layout.{setupIn, setupWords, runIn, timeWord, heldWord, eventIn, eventAs, fourNumbers, eventNumbers}
-use Rattle.fever.specs.Contracts.{Lent, lentOf, lentState, Called, openingWords, applyingEvent, applyingWords, moveOf, recordLeft, messagesTold, readingLeft, writtenBy}
-use Rattle.fever.specs.Promises.{eventsOf}
+use Rattle.words.specs.declared.Numbers.{Numbers}
+use Rattle.words.specs.Events.{eventOf, eventAs, fourNumbers, eventNumbers}
+use Rattle.words.specs.Batches.{wordsApplied}
+use Rattle.fever.specs.Layout.{setupIn, setupWords, runIn, timeWord, heldWord}
+use Rattle.fever.specs.Contracts.{Lent, lentOf, lentState, Called, openingWords, applyingWords, CalledAll, applyingAll, moveOf, recordLeft, messagesTold, readingLeft, writtenBy}
+use Rattle.fever.specs.Promises.{one, eventsOf}
 
 -- ---- calls
 
@@ -56,32 +57,84 @@ openedWords = openingWords (opensAt 0 zeroes) enough .lent
 abbrev pub oddly : Lent
 oddly = lentOf (take 6 (openedWords .run) ++ (2 ∷ []) ++ drop 7 (openedWords .run)) (openedWords .tally) (openedWords .network)
 
+-- document 01's printed schedule, after its opening
+abbrev pub printed : List Numbers
+printed = map eventNumbers (Deliver (View 0 0) ∷ Deliver (View 0 1) ∷ Tick 3 ∷ Settle ∷ Tick 3 ∷ [])
+
 pub callRows : List Row
 callRows =
     -- document 01's printed schedule
     (
-      telling (openingWords (opensAt 0 zeroes) enough) (map eventNumbers (Deliver (View 0 0) ∷ Deliver (View 0 1) ∷ Tick 3 ∷ Settle ∷ Tick 3 ∷ [])),
+      telling (openingWords (opensAt 0 zeroes) enough) printed,
       (0 ∷ 0 ∷ 8 ∷ []) ∷ (0 ∷ 0 ∷ 7 ∷ []) ∷ (0 ∷ 0 ∷ 10 ∷ []) ∷ (0 ∷ 3 ∷ 10 ∷ []) ∷ (0 ∷ 3 ∷ 10 ∷ []) ∷ (16 ∷ 5 ∷ 10 ∷ []) ∷ [],
     )
     -- the run's words after an opening, settling and two ticks: the clock of the faulty one is 0, what stands behind the 137 words stays
-    ∷ words (applyingWords (Read.Event (Tick 2)) (applyingWords (Read.Event Settle) (openingWords (opensAt 8 (1 ∷ 2 ∷ 3 ∷ 9 ∷ [])) enough .lent) .lent) .lent .run)
+    ∷ words (applyingWords ((Tick 2)) (applyingWords Settle (openingWords (opensAt 8 (1 ∷ 2 ∷ 3 ∷ 9 ∷ [])) enough .lent) .lent) .lent .run)
     (4 ∷ 2 ∷ 4 ∷ 6 ∷ 8 ∷ 2 ∷ 1 ∷ 0 ∷ 6 ∷ [] ++ table (3 ∷ 4 ∷ 5 ∷ []) ++ table [] ++ (7 ∷ 7 ∷ []))
     -- refused calls: a start clock too high; a word too few; no run; numbers that are no event, no such message, 0 ticks; a settled word that is of no run
     ∷ leaves enough 7 (openingWords (opensAt 0 (12 ∷ 12 ∷ 12 ∷ 12 ∷ [])) enough)
     ∷ leaves enough 1 (openingWords (take 68 (opensAt 0 zeroes)) enough)
     ∷ leaves (sevens 136 24 64) 1 (openingWords (opensAt 0 zeroes) (sevens 136 24 64))
-    ∷ leaves (sevens 136 24 64) 1 (applyingWords (Read.Event Settle) (sevens 136 24 64))
-    ∷ leaves enough 9 (applyingWords (Read.Event Settle) enough)
+    ∷ leaves (sevens 136 24 64) 1 (applyingWords Settle (sevens 136 24 64))
+    ∷ leaves enough 9 (applyingWords (Settle) enough)
     ∷ leaves openedWords 1 (applyingWords (eventAs (fourNumbers 6 1 0 0)) openedWords)
     ∷ leaves openedWords 1 (applyingWords (eventAs (fourNumbers 1 5 0 0)) openedWords)
     ∷ leaves openedWords 13 (applyingWords (eventAs (fourNumbers 1 4 0 0)) openedWords)
-    ∷ leaves oddly 1 (applyingWords (Read.Event (Tick 0)) oddly)
-    ∷ leaves oddly 9 (applyingWords (Read.Event (Tick 1)) oddly)
+    ∷ leaves oddly 1 (applyingWords ((Tick 0)) oddly)
+    ∷ leaves oddly 9 (applyingWords ((Tick 1)) oddly)
     ∷ []
 
 pub call-rows-hold : agreeing 0 callRows ≡ length callRows
-unfolding callRows openingWords applyingWords applyingEvent setupIn runIn eventIn definitions
+unfolding callRows openingWords applyingWords setupIn runIn eventOf definitions
 call-rows-hold = refl
+
+-- ---- many events in one call
+
+abbrev pub inRow : Numbers → List ℕ
+inRow k = k .form ∷ k .kind ∷ k .view ∷ k .processor ∷ []
+
+abbrev pub inWords : List Numbers → List ℕ
+inWords [] = []
+inWords (k ∷ ks) = inRow k ++ inWords ks
+
+-- what calls in turn leave
+abbrev pub leftInTurn : Lent → List Numbers → Lent
+leftInTurn x [] = x
+leftInTurn x (k ∷ ks) = leftInTurn (applyingWords (eventAs k) x .lent) ks
+
+-- a call that answers r and leaves y and the events' words
+abbrev pub allLeaves : ℕ → Lent → List ℕ → CalledAll → Row
+allLeaves r y events c =
+    ((c .answer ∷ []) ∷ c .lent .run ∷ c .lent .tally ∷ c .lent .network ∷ c .events ∷ [], (r ∷ []) ∷ y .run ∷ y .tally ∷ y .network ∷ events ∷ [])
+
+-- time 23 of VΓ = 24, and no clock near its next view
+abbrev pub nearEnd : Lent
+nearEnd =
+    let x = openingWords (opensAt 0 (5 ∷ 5 ∷ 5 ∷ 5 ∷ [])) enough .lent in
+    lentOf (take timeWord (x .run) ++ (23 ∷ []) ++ drop (timeWord + 1) (x .run)) (x .tally) (x .network)
+
+-- two ticks, settling, and numbers that are no event
+abbrev pub lastEvents : List Numbers
+lastEvents = eventNumbers (Tick 2) ∷ eventNumbers Settle ∷ fourNumbers 6 1 0 0 ∷ []
+
+pub allRows : List Row
+allRows =
+    -- the printed schedule, and three words behind it: what the calls leave; of each event its form, its check, its ticks and the messages held
+    allLeaves 0 (leftInTurn openedWords printed)
+    (1 ∷ 0 ∷ 0 ∷ 7 ∷ 1 ∷ 0 ∷ 0 ∷ 10 ∷ 5 ∷ 0 ∷ 3 ∷ 10 ∷ 4 ∷ 0 ∷ 0 ∷ 10 ∷ 5 ∷ 16 ∷ 2 ∷ 10 ∷ 5 ∷ 5 ∷ 5 ∷ [])
+    (applyingAll (inWords printed ++ (5 ∷ 5 ∷ 5 ∷ [])) openedWords)
+    -- two ticks go past VΓ: from then on check 9 refuses every event that has a form
+    ∷ allLeaves 0 (leftInTurn nearEnd lastEvents) (5 ∷ 0 ∷ 2 ∷ 8 ∷ 4 ∷ 9 ∷ 0 ∷ 8 ∷ 6 ∷ 1 ∷ 0 ∷ 8 ∷ []) (applyingAll (inWords lastEvents) nearEnd)
+    -- no event
+    ∷ allLeaves 0 openedWords (1 ∷ 1 ∷ 0 ∷ []) (applyingAll (1 ∷ 1 ∷ 0 ∷ []) openedWords)
+    -- refused as a whole: a word too few, a settled word that is of no run
+    ∷ allLeaves 1 (sevens 136 24 64) (inWords printed) (applyingAll (inWords printed) (sevens 136 24 64))
+    ∷ allLeaves 9 oddly (inWords printed) (applyingAll (inWords printed) oddly)
+    ∷ []
+
+pub all-rows-hold : agreeing 0 allRows ≡ length allRows
+unfolding allRows openingWords applyingWords applyingAll wordsApplied setupIn runIn eventOf definitions
+all-rows-hold = refl
 
 -- The settling half of the library's demand 3 speaks of something: the run past the bound of `liveness`, as calls, none of which is refused.
 
@@ -92,12 +145,12 @@ abbrev pub liveCalls : List Numbers
 liveCalls = map eventNumbers live.events
 
 pub live-accepted : map (λ (l : List ℕ). getD l 0 0) (telling liveOpening liveCalls) ≡ replicate (length live.events + 1) 0
-unfolding live.setup live.events openingWords applyingWords applyingEvent setupIn runIn eventIn definitions
+unfolding live.setup live.events openingWords applyingWords setupIn runIn eventOf definitions
 live-accepted = refl
 
 -- one tick more since settling than the bound
-pub live-past : ticksSince (sinceSettling (lentState (liveOpening .lent)) (eventsOf (take 62 liveCalls))) ≡ settlingBound (setupIn (setupWords live.setup)) + 1
-unfolding live.setup live.events openingWords setupIn runIn eventIn eventsOf sinceSettling ticksDone definitions
+pub live-past : ticksSince (sinceSettling (lentState (liveOpening .lent)) (eventsOf (take 62 (map one liveCalls)))) ≡ settlingBound (setupIn (setupWords live.setup)) + 1
+unfolding live.setup live.events openingWords setupIn runIn eventOf eventsOf sinceSettling ticksDone definitions
 live-past = refl
 
 -- ---- one processor
@@ -130,9 +183,6 @@ unfolding stepRows moveOf definitions
 step-rows-hold = refl
 
 -- ---- numbers of events and lines
-
-abbrev pub inRow : Numbers → List ℕ
-inRow k = k .form ∷ k .kind ∷ k .view ∷ k .processor ∷ []
 
 pub numberRows : List Row
 numberRows = (

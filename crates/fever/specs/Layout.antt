@@ -1,26 +1,22 @@
--- How a run, a setup, one processor's record, an event and what a line is read as stand in the words that a caller of the library lends.
-use mathlib.Core.Bool.{Bool, cond}
+-- How a run, a setup, one processor's record and what a line is read as stand in the words that a caller of the library lends; an event's numbers are
+-- those of `words`.
+use mathlib.Core.Bool.{Bool}
 use mathlib.Core.List.{List, [], _∷_, _++_}
 use Prim.Native.Nat.{ℕ}
 use lib.Dec.{eqb, ltb}
 use lib.ListN.{getD, take, drop}
 use Rattle.types.specs.declared.Plan.{Plan}
-use Rattle.types.specs.declared.Message.{Message}
-use Rattle.types.specs.declared.Event.{Event}
-use Rattle.types.specs.declared.Event.the-variants.{Deliver, Sign, Show, Settle, Tick}
 use Rattle.types.specs.declared.Setup.{Setup}
 use Rattle.types.specs.declared.Run.{Run}
 use Rattle.types.specs.declared.Processor.{Processor}
 use Rattle.types.specs.Quantities.{tableClocks}
-use Rattle.types.specs.Messages.{kindOf, viewIn, processorIn}
+use Rattle.types.specs.Runs.{settledAs}
 use Rattle.model.specs.State.{runOf}
-use Rattle.buffers.specs.declared.Stored.{Stored}
-use Rattle.buffers.specs.declared.Stored.the-variants.{Holds, Unknown}
-use Rattle.buffers.specs.Kinds.{storedAs}
 use Rattle.lines.specs.declared.Read.{Read}
 use Rattle.lines.specs.declared.Read.the-variants as Read
 use Rattle.lines.specs.declared.Reading.{Reading}
-use Rattle.fever.specs.declared.Numbers.{Numbers}
+use Rattle.words.specs.declared.Numbers.{Numbers}
+use Rattle.words.specs.Events.{fourNumbers, eventNumbers}
 
 -- ---- a plan: n, Δ, Γ, V, the first four words of a run and of a setup
 
@@ -80,15 +76,16 @@ runIn ws =
 abbrev pub neitherSettled : List ℕ → Bool
 neitherSettled ws = ltb 1 (getD ws settledWord 0)
 
-abbrev pub settledAs : Bool → ℕ
-settledAs settled = cond settled 1 0
-
 abbrev pub runNumbers : Run → List ℕ
 runNumbers r =
     r .plan .n ∷ r .plan .delta ∷ r .plan .gamma ∷ r .plan .views ∷ r .faulty ∷ r .time ∷ settledAs (r .settled) ∷ r .gst ∷ r .held ∷ []
 
 abbrev pub runWords : Run → List ℕ
 runWords r = runNumbers r ++ (r .clocks ++ r .views)
+
+-- a run in the place of the one that stands there, what is behind its words staying
+abbrev pub runOver : List ℕ → Run → List ℕ
+runOver ws r = runWords r ++ drop runLength ws
 
 -- ---- one processor's record: number, clock, view; a fourth word takes what it sends
 
@@ -97,41 +94,6 @@ recordLength = 4
 
 abbrev pub recordIn : List ℕ → Processor
 recordIn ws = record { number = getD ws 0 0; clock = getD ws 1 0; view = getD ws 2 0 }
-
--- ---- an event: form (1 deliver, 2 sign, 3 show, 4 settle, 5 tick), kind, view (of a tick: how many), processor
-
--- the message of a form that carries one
-abbrev pub carried : ℕ → Message → Read
-carried form m =
-    cond (eqb form 1) (Read.Event (Deliver m)) (cond (eqb form 2) (Read.Event (Sign m)) (cond (eqb form 3) (Read.Event (Show m)) Read.NoForm))
-
--- a kind outside 1 to 4 is of no message
-abbrev pub carriedAs : ℕ → Stored → Read
-carriedAs form (Holds m) = carried form m
-carriedAs form Unknown = Read.NoForm
-
--- what four numbers are read as: an event, or none; of settle the other three are not read, of tick kind and processor are not
-unfoldable pub eventIn : ℕ → ℕ → ℕ → ℕ → Read
-eventIn form kind view processor =
-    cond (eqb form 4) (Read.Event Settle) (cond (eqb form 5) (Read.Event (Tick view)) (carriedAs form (storedAs kind view processor)))
-
--- the same with the four numbers as one
-abbrev pub eventAs : Numbers → Read
-eventAs k = eventIn (k .form) (k .kind) (k .view) (k .processor)
-
-abbrev pub fourNumbers : ℕ → ℕ → ℕ → ℕ → Numbers
-fourNumbers form kind view processor = record { form = form; kind = kind; view = view; processor = processor }
-
-abbrev pub messageNumbers : ℕ → Message → Numbers
-messageNumbers form m = fourNumbers form (kindOf m) (viewIn m) (processorIn m)
-
--- and the numbers of an event, 0 where its form has none
-abbrev pub eventNumbers : Event → Numbers
-eventNumbers (Deliver m) = messageNumbers 1 m
-eventNumbers (Sign m) = messageNumbers 2 m
-eventNumbers (Show m) = messageNumbers 3 m
-eventNumbers Settle = fourNumbers 4 0 0 0
-eventNumbers (Tick m) = fourNumbers 5 0 m 0
 
 -- ---- what a line is read as: the numbers of its event, or form 6 for an opening; then its setup, 0 everywhere beside an event
 

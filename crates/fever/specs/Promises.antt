@@ -1,10 +1,10 @@
 -- What is promised of the library: demand 3 of the words that its calls leave first, then that the layouts lose nothing, then what the words and
 -- answers tell. proofs/Promises.antt has a proof of each, under its name in small letters with hyphens (`demand-three-of-library`).
 use mathlib.Core.Path.{_≡_}
-use mathlib.Core.Bool.{Bool, true}
+use mathlib.Core.Bool.{Bool, true, false}
 use mathlib.Core.Logic.{_⊎_, _≢_}
-use mathlib.Core.List.{List, [], _∷_, _++_}
-use Prim.Native.Nat.{ℕ, zero, suc, _+_, _<_}
+use mathlib.Core.List.{List, [], _∷_, _++_, map}
+use Prim.Native.Nat.{ℕ, zero, suc, _+_, _-_, _*_, _≤_, _<_}
 use lib.Dec.{T, eqb}
 use lib.ListN.{length, getD, take, drop}
 use Rattle.types.specs.declared.Event.{Event}
@@ -17,22 +17,36 @@ use Rattle.model.specs.Opening.{opening}
 use Rattle.model.specs.Events.{applied}
 use Rattle.model.specs.Lists.{after, Since, sinceSettling, hasSettled, ticksSince}
 use Rattle.simulator.specs.Demands.{Demanded}
-use Rattle.lines.specs.declared.Read.{Read}
-use Rattle.lines.specs.declared.Read.the-variants as Read
 use Rattle.lines.specs.declared.Reading.{Reading}
 use Rattle.lines.specs.Contracts.{eventReading, line, writtenAs, writtenCheck}
-use Rattle.fever.specs.declared.Numbers.{Numbers}
-use Rattle.fever.specs.Layout.{setupIn, setupWords, settledWord, timeWord, gstWord, heldWord, runIn, runWords, eventIn, eventAs, eventNumbers, readingWords}
-use Rattle.fever.specs.Contracts.{Lent, lentState, Called, called, told, openingWords, OpensWords, applyingWords, AppliesWords, WritesLine}
+use Rattle.words.specs.declared.Numbers.{Numbers}
+use Rattle.words.specs.Events.{eventWords, eventOf, eventAs, fourNumbers, eventNumbers}
+use Rattle.fever.specs.Layout.{setupIn, setupWords, runLength, settledWord, timeWord, gstWord, heldWord, runIn, runWords, runOver, neitherSettled, readingWords}
+use Rattle.fever.specs.Contracts.{Lent, lentState, Called, called, told, openingWords, OpensWords, applyingWords, AppliesWords, calledAll, applyingAll, AppliesEvents, WritesLine}
 
--- ---- demand 3 of the library: calls of `fever_apply` after a `fever_open` that answered 0, each lent the words that the last one left
+-- ---- demand 3 of the library: calls of `fever_apply` and `fever_apply_all` after a `fever_open` that answered 0, each lent the words that the last
+-- one left
 
--- that `fever_apply` with the four numbers k and the words x lent answered and left c: its contract
-abbrev pub Answers : Numbers → Lent → Called → Type 0
-Answers k x c = AppliesWords (k .form) (k .kind) (k .view) (k .processor) x (c .answer) (c .lent)
+-- the events of words, four numbers each; up to three words behind them are none
+unfoldable pub numbersOf : List ℕ → List Numbers
+numbersOf [] = []
+numbersOf (a ∷ []) = []
+numbersOf (a ∷ b ∷ []) = []
+numbersOf (a ∷ b ∷ c ∷ []) = []
+numbersOf (a ∷ b ∷ c ∷ d ∷ ws) = fourNumbers a b c d ∷ numbersOf ws
+
+-- one event to `fever_apply`, or the words of many to `fever_apply_all`
+pub data Call : Type 0 where
+  one : Numbers → Call
+  many : List ℕ → Call
+
+-- that the call with the words x lent answered and left c: its function's contract
+abbrev pub Answers : Call → Lent → Called → Type 0
+Answers (one k) x c = AppliesWords (k .form) (k .kind) (k .view) (k .processor) x (c .answer) (c .lent)
+Answers (many events) x c = (left : List ℕ) × AppliesEvents events x (c .answer) (c .lent) left
 
 -- the calls ks in turn, with x lent to the first: cs is what each answered and left
-abbrev pub InTurn : Lent → List Numbers → List Called → Type 0
+abbrev pub InTurn : Lent → List Call → List Called → Type 0
 InTurn x [] [] = Unit {0}
 InTurn x [] (c ∷ cs) = ⊥
 InTurn x (k ∷ ks) [] = ⊥
@@ -44,21 +58,20 @@ lentAfter x cs zero = x
 lentAfter x [] (suc i) = x
 lentAfter x (c ∷ cs) (suc i) = lentAfter (c .lent) cs i
 
--- the events of the calls: one whose numbers are no event has none, and did nothing (`NoEventNothing`)
-abbrev pub eventThen : Read → List Event → List Event
-eventThen (Read.Event e) es = e ∷ es
-eventThen Read.Opening es = es
-eventThen Read.NoForm es = es
+-- the events of the calls: numbers that are no event are 0 ticks, which did nothing (`NoEventNothing`)
+abbrev pub numbersIn : Call → List Numbers
+numbersIn (one k) = k ∷ []
+numbersIn (many events) = numbersOf events
 
-unfoldable pub eventsOf : List Numbers → List Event
+unfoldable pub eventsOf : List Call → List Event
 eventsOf [] = []
-eventsOf (k ∷ ks) = eventThen (eventAs k) (eventsOf ks)
+eventsOf (k ∷ ks) = map eventAs (numbersIn k) ++ eventsOf ks
 
 -- Whatever words the setup has and whatever words are lent: if `fever_open` answers 0 and leaves `opened`, then P holds after every number of calls,
 -- of those calls and of the words that they left.
-abbrev pub AfterCalls : (List ℕ → Lent → Lent → List Numbers → Lent → Type 0) → Type 0
+abbrev pub AfterCalls : (List ℕ → Lent → Lent → List Call → Lent → Type 0) → Type 0
 AfterCalls P =
-    (setup : List ℕ) (before opened : Lent) → OpensWords setup before 0 opened → (ks : List Numbers) (cs : List Called) → InTurn opened ks cs
+    (setup : List ℕ) (before opened : Lent) → OpensWords setup before 0 opened → (ks : List Call) (cs : List Called) → InTurn opened ks cs
     → (i : ℕ) → P setup before opened (take i ks) (lentAfter opened cs i)
 
 -- Demand 3's sentences, of the setup that the setup's words are and of the run, tally and network that the words left are.
@@ -68,10 +81,22 @@ DemandThreeOfLibrary =
 
 -- No further call answers 9.
 abbrev pub NeverNine : Type 0
-NeverNine = AfterCalls (λ setup before opened ks last. (k : Numbers) (c : Called) → Answers k last c → c .answer ≢ 9)
+NeverNine = AfterCalls (λ setup before opened ks last. (k : Call) (c : Called) → Answers k last c → c .answer ≢ 9)
+
+-- Nor does any event of many.
+abbrev pub NoneNine : List ℕ → Type 0
+NoneNine [] = Unit {0}
+NoneNine (a ∷ []) = Unit {0}
+NoneNine (a ∷ b ∷ []) = Unit {0}
+NoneNine (a ∷ b ∷ c ∷ []) = Unit {0}
+NoneNine (form ∷ check ∷ ticks ∷ held ∷ ws) = (check ≢ 9) × NoneNine ws
+
+abbrev pub NeverNineOfMany : Type 0
+NeverNineOfMany =
+    AfterCalls (λ setup before opened ks last. (events : List ℕ) (r : ℕ) (after' : Lent) (left : List ℕ) → AppliesEvents events last r after' left → NoneNine left)
 
 -- The words are those of the definitions' list, and the run has as many as were lent to the opening.
-pub record LeftBy (setup : List ℕ) (before : Lent) (ks : List Numbers) (last : Lent) : Type 0 where
+pub record LeftBy (setup : List ℕ) (before : Lent) (ks : List Call) (last : Lent) : Type 0 where
   pub opens : T (accepted (opening (setupIn setup) (lentState before) .answer))
   pub state : lentState last ≡ after (opening (setupIn setup) (lentState before) .state) (eventsOf ks)
   pub run-words : length (last .run) ≡ length (before .run)
@@ -89,33 +114,55 @@ SettlingTold = AfterCalls (λ setup before opened ks last. SettledTold (sinceSet
 
 -- Every list of calls can be made, on any words.
 abbrev pub EveryCallAnswered : Type 0
-EveryCallAnswered = (x : Lent) (ks : List Numbers) → (cs : List Called) × InTurn x ks cs
+EveryCallAnswered = (x : Lent) (ks : List Call) → (cs : List Called) × InTurn x ks cs
 
 -- Four numbers that are no event, or an event without a form (0 ticks among them), answer 1 and change nothing.
-abbrev pub noEvent : Read → Bool
-noEvent (Read.Event e) = lacksForm e
-noEvent Read.Opening = true
-noEvent Read.NoForm = true
-
 abbrev pub NoEventNothing : Type 0
-NoEventNothing = (k : Numbers) (x : Lent) (c : Called) → T (noEvent (eventAs k)) → Answers k x c → c ≡ called 1 x
+NoEventNothing = (k : Numbers) (x : Lent) (c : Called) → T (lacksForm (eventAs k)) → Answers (one k) x c → c ≡ called 1 x
+
+-- ---- many events in one call are as many calls in turn
+
+-- the events' words after the calls ks in turn, which answered and left cs, x being lent to the first: of each its form, its answer, the time gained
+-- and the messages held
+abbrev pub answersOf : Lent → List Numbers → List Called → List ℕ
+answersOf x [] cs = []
+answersOf x (k ∷ ks) [] = []
+answersOf x (k ∷ ks) (c ∷ cs) =
+    k .form ∷ c .answer ∷ (getD (c .lent .run) timeWord 0 - getD (x .run) timeWord 0) ∷ getD (c .lent .run) heldWord 0 ∷ answersOf (c .lent) ks cs
+
+pub record LeftInTurn (x : Lent) (events : List ℕ) (cs : List Called) (r : ℕ) (after : Lent) (left : List ℕ) : Type 0 where
+  pub answer : r ≡ 0
+  pub lent : after ≡ lentAfter x cs (length (numbersOf events))
+  pub words : left ≡ answersOf x (numbersOf events) cs ++ drop (eventWords * length (numbersOf events)) events
+
+-- Whatever else is lent, and whatever the events: if the run has all of its words and a settled word of 0 or 1, `fever_apply_all` leaves what calls of
+-- `fever_apply` leave, and tells of each event what its call tells.
+abbrev pub ManyInTurn : Type 0
+ManyInTurn =
+    (x : Lent) (events : List ℕ) → runLength ≤ length (x .run) → neitherSettled (x .run) ≡ false
+    → (r : ℕ) (after : Lent) (left : List ℕ) → AppliesEvents events x r after left
+    → (cs : List Called) → InTurn x (map one (numbersOf events)) cs → LeftInTurn x events cs r after left
 
 -- ---- the layouts lose nothing: what was laid out, whatever stands behind it, is read back
 
 abbrev pub RunBack : Type 0
 RunBack = (r : Run) (more : List ℕ) → length (r .clocks) ≡ tableClocks → length (r .views) ≡ tableClocks → runIn (runWords r ++ more) ≡ r
 
+-- and the words that a run is read from are those of the run
+abbrev pub RunWordsBack : Type 0
+RunWordsBack = (ws : List ℕ) → runLength ≤ length ws → neitherSettled ws ≡ false → runOver ws (runIn ws) ≡ ws
+
 abbrev pub SetupBack : Type 0
 SetupBack = (u : Setup) (more : List ℕ) → length (u .clocks) ≡ tableClocks → setupIn (setupWords u ++ more) ≡ u
 
 abbrev pub EventBack : Type 0
-EventBack = (e : Event) → eventAs (eventNumbers e) ≡ Read.Event e
+EventBack = (e : Event) → eventAs (eventNumbers e) ≡ e
 
 -- so the first four words that a line was read into are an event's numbers, and those from word 4 on an opening's setup
 abbrev pub ReadEventBack : Type 0
 ReadEventBack =
     (e : Event) (more : List ℕ) → let ws = readingWords (eventReading e) ++ more in
-    eventIn (getD ws 0 0) (getD ws 1 0) (getD ws 2 0) (getD ws 3 0) ≡ Read.Event e
+    eventOf (getD ws 0 0) (getD ws 1 0) (getD ws 2 0) (getD ws 3 0) ≡ e
 
 abbrev pub ReadSetupBack : Type 0
 ReadSetupBack = (x : Reading) (more : List ℕ) → length (x .setup .clocks) ≡ tableClocks → setupIn (drop 4 (readingWords x ++ more)) ≡ x .setup
@@ -129,8 +176,12 @@ RefusedOpeningKeeps = (setup : List ℕ) (x : Lent) → openingWords setup x .an
 -- an event that answers anything but 0 and leaves the time as it was has changed nothing: no ticks were stopped
 abbrev pub RefusedKeeps : Type 0
 RefusedKeeps =
-    (e : Read) (x : Lent) → applyingWords e x .answer ≢ 0 → getD (applyingWords e x .lent .run) timeWord 0 ≡ getD (x .run) timeWord 0
+    (e : Event) (x : Lent) → applyingWords e x .answer ≢ 0 → getD (applyingWords e x .lent .run) timeWord 0 ≡ getD (x .run) timeWord 0
     → applyingWords e x .lent ≡ x
+
+-- many events of which the call answers anything but 0 have changed nothing, their own words included
+abbrev pub RefusedAllKeeps : Type 0
+RefusedAllKeeps = (events : List ℕ) (x : Lent) → applyingAll events x .answer ≢ 0 → applyingAll events x ≡ calledAll (applyingAll events x .answer) x events
 
 -- the ticks that an accepted event did are the time gained, and the messages held stand in their word
 pub record TicksAre (x : Lent) (a : After) : Type 0 where

@@ -1,23 +1,16 @@
 // The library for C and Rust: the simulator, one processor's pacemaker, and lines, over numbers and lent words and bytes. Every function takes every
 // argument; a refused call has changed nothing that was lent.
-mod events;
+mod layout;
 mod steps;
-mod words;
 
 use lines::Read;
 use lines::Written;
 use types::Plan;
+use words::Numbers;
 ghost use mathlib.Core.List.{[], _∷_};
-ghost use Rattle.fever.specs.Layout.{planIn, eventIn};
-ghost use Rattle.fever.specs.Contracts.{lentOf, OpensWords, AppliesWords, moveOf, StepsWords, ReadsWords, StandsFor, WritesEvent, WritesSetup};
-
-// An event, or a line that is read, in numbers. Form: 1 deliver, 2 sign, 3 show, 4 settle, 5 tick; 6 an opening, 0 none of them.
-pub(crate) struct Numbers {
-    pub(crate) form: u64,
-    pub(crate) kind: u64,
-    pub(crate) view: u64,
-    pub(crate) processor: u64,
-}
+ghost use Rattle.words.specs.Events.{eventOf};
+ghost use Rattle.fever.specs.Layout.{planIn};
+ghost use Rattle.fever.specs.Contracts.{lentOf, OpensWords, AppliesWords, AppliesEvents, moveOf, StepsWords, ReadsWords, StandsFor, WritesEvent, WritesSetup};
 
 // A setup is opened.
 #[no_mangle]
@@ -30,18 +23,18 @@ pub extern "C" fn fever_open(
     ensures { λ r. ⌜ OpensWords (now (setup .entry)) (lentOf (now (run .entry)) (now (tally .entry)) (now (network .entry))) r
         (lentOf (now (run .exit)) (now (tally .exit)) (now (network .exit))) ⌝ }
 {
-    if setup.len() < words::SETUP_WORDS {
+    if setup.len() < layout::SETUP_WORDS {
         return 1;
     }
-    if run.len() < words::RUN_WORDS {
+    if run.len() < layout::RUN_WORDS {
         return 1;
     }
-    let start = words::setup_in(setup);
-    let head = words::head_in(run);
-    let mut clocks = words::table_in(run, words::CLOCKS);
-    let mut views = words::table_in(run, words::VIEWS);
+    let start = layout::setup_in(setup);
+    let head = layout::head_in(run);
+    let mut clocks = layout::table_in(run, layout::CLOCKS);
+    let mut views = layout::table_in(run, layout::VIEWS);
     let outcome = simulator::open_lent(head, start, &mut clocks, &mut views, tally, network);
-    words::put_outcome(run, outcome, &clocks, &views)
+    layout::put_outcome(run, outcome, &clocks, &views)
 }
 
 // An event is applied.
@@ -58,13 +51,47 @@ pub extern "C" fn fever_apply(
     ensures { λ r. ⌜ AppliesWords form kind view processor (lentOf (now (run .entry)) (now (tally .entry)) (now (network .entry))) r
         (lentOf (now (run .exit)) (now (tally .exit)) (now (network .exit))) ⌝ }
 {
-    if run.len() < words::RUN_WORDS {
+    if run.len() < layout::RUN_WORDS {
         return 1;
     }
-    let Read::Event(event) = events::event_in(form, kind, view, processor) else {
+    if words::event_of(form, kind, view, processor).lacks_form() {
         return 1;
+    }
+    if 1 < run[layout::SETTLED] {
+        return 9;
+    }
+    let numbers = Numbers {
+        form: form,
+        kind: kind,
+        view: view,
+        processor: processor,
     };
-    steps::apply_event(run, event, tally, network)
+    steps::apply_event(run, numbers, tally, network)
+}
+
+// Events are applied one after the other, and each one's words become its answer.
+#[no_mangle]
+pub extern "C" fn fever_apply_all(
+    run: &mut [u64],
+    tally: &mut [u64],
+    network: &mut [u64],
+    events: &mut [u64],
+) -> u64
+    ensures { λ r. ⌜ AppliesEvents (now (events .entry)) (lentOf (now (run .entry)) (now (tally .entry)) (now (network .entry))) r
+        (lentOf (now (run .exit)) (now (tally .exit)) (now (network .exit))) (now (events .exit)) ⌝ }
+{
+    if run.len() < layout::RUN_WORDS {
+        return 1;
+    }
+    if 1 < run[layout::SETTLED] {
+        return 9;
+    }
+    let head = layout::head_in(run);
+    let mut clocks = layout::table_in(run, layout::CLOCKS);
+    let mut views = layout::table_in(run, layout::VIEWS);
+    let left = simulator::apply_events(head, &mut clocks, &mut views, tally, network, events);
+    layout::put_run(run, left, &clocks, &views);
+    0
 }
 
 // One processor takes an input.
@@ -94,14 +121,14 @@ pub extern "C" fn fever_step(
 pub extern "C" fn fever_read_line(line: &[u8], words: &mut [u64]) -> u64
     ensures { λ r. ⌜ ReadsWords (now (line .entry)) (now (words .entry)) r (now (words .exit)) ⌝ }
 {
-    if words.len() < words::READING_WORDS {
+    if words.len() < layout::READING_WORDS {
         return 1;
     }
     let reading = reader::read_line(line);
     let read = reading.read;
     match read {
-        Read::Event(_) => words::put_reading(words, reading),
-        Read::Opening => words::put_reading(words, reading),
+        Read::Event(_) => layout::put_reading(words, reading),
+        Read::Opening => layout::put_reading(words, reading),
         Read::NoForm => 1,
     }
 }
@@ -125,11 +152,9 @@ pub extern "C" fn fever_write_event(
     processor: u64,
     out: &mut [u8],
 ) -> u64
-    ensures { λ r. ⌜ WritesEvent (eventIn form kind view processor) (now (out .entry)) r (now (out .exit)) ⌝ }
+    ensures { λ r. ⌜ WritesEvent (eventOf form kind view processor) (now (out .entry)) r (now (out .exit)) ⌝ }
 {
-    let Read::Event(event) = events::event_in(form, kind, view, processor) else {
-        return 0;
-    };
+    let event = words::event_of(form, kind, view, processor);
     count_bytes(writer::write_event(event, out))
 }
 
@@ -138,8 +163,8 @@ pub extern "C" fn fever_write_event(
 pub extern "C" fn fever_write_setup(setup: &[u64], out: &mut [u8]) -> u64
     ensures { λ r. ⌜ WritesSetup (now (setup .entry)) (now (out .entry)) r (now (out .exit)) ⌝ }
 {
-    if setup.len() < words::SETUP_WORDS {
+    if setup.len() < layout::SETUP_WORDS {
         return 0;
     }
-    count_bytes(writer::write_setup(words::setup_in(setup), out))
+    count_bytes(writer::write_setup(layout::setup_in(setup), out))
 }

@@ -1,51 +1,47 @@
 // One event, and one processor's input, on lent words.
-use crate::words;
+use crate::layout;
 use pacemaker::Outcome;
-use types::Event;
 use types::Input;
 use types::Plan;
 use types::Processor;
 use types::Sends;
 use types::Stepped;
+use words::Numbers;
 ghost use mathlib.Core.Path.{_≡_};
 ghost use Prim.Native.Nat.{ℕ, _≤_};
-ghost use lib.ListN.{length};
+ghost use lib.ListN.{length, getD};
 ghost use Rattle.model.specs.Processors.{Gives, messagesOf, stepped};
-ghost use Rattle.fever.specs.Layout.{runLength, recordLength, recordIn};
-ghost use Rattle.fever.specs.Contracts.{lentOf, called, applyingEvent, moveOf, StepsWords};
+ghost use Rattle.model.specs.Events.{applied};
+ghost use Rattle.words.specs.Events.{eventAs};
+ghost use Rattle.fever.specs.Layout.{runLength, settledWord, recordLength, recordIn};
+ghost use Rattle.fever.specs.Contracts.{lentOf, lentState, called, told, moveOf, StepsWords};
 
 const RECORD_WORDS: usize = 4;
 
-// An event is applied to a run that has all of its words.
+// The event of four numbers is applied to a run that has all of its words and a settled word. Answers its check; its run is written if it was accepted.
 pub(crate) fn apply_event(
     run: &mut [u64],
-    event: Event,
+    numbers: Numbers,
     tally: &mut [u64],
     network: &mut [u64],
 ) -> u64
-    requires { ⌜ runLength ≤ length (now run) ⌝ }
+    requires { ⌜ (runLength ≤ length (now run)) × (getD (now run) settledWord 0 ≤ 1) ⌝ }
     ensures { λ r. ⌜ called r (lentOf (now (run .exit)) (now (tally .exit)) (now (network .exit))) ≡
-        applyingEvent event (lentOf (now (run .entry)) (now (tally .entry)) (now (network .entry))) ⌝ }
+        told (now (run .entry)) (applied (eventAs numbers) (lentState (lentOf (now (run .entry)) (now (tally .entry)) (now (network .entry))))) ⌝ }
 {
-    if event.lacks_form() {
-        return 1;
+    let head = layout::head_in(run);
+    let mut clocks = layout::table_in(run, layout::CLOCKS);
+    let mut views = layout::table_in(run, layout::VIEWS);
+    let mut event = [numbers.form, numbers.kind, numbers.view, numbers.processor];
+    let left = simulator::apply_events(head, &mut clocks, &mut views, tally, network, &mut event);
+    let check = event[1];
+    if 0 < check {
+        if event[2] == 0 {
+            return check;
+        }
     }
-    if 1 < run[words::SETTLED] {
-        return 9;
-    }
-    let head = words::head_in(run);
-    let mut clocks = words::table_in(run, words::CLOCKS);
-    let mut views = words::table_in(run, words::VIEWS);
-    let outcome = simulator::apply_lent(
-        head,
-        false,
-        event,
-        &mut clocks,
-        &mut views,
-        tally,
-        network,
-    );
-    words::put_outcome(run, outcome, &clocks, &views)
+    layout::put_run(run, left, &clocks, &views);
+    check
 }
 
 // How many messages a processor sends.
@@ -94,7 +90,7 @@ fn take_input(plan: Plan, words: &mut [u64], input: Input) -> u64
     match answer {
         Stepped::Sent(sends) => {
             let values = [next.number, next.clock, next.view, count_sent(sends)];
-            words::put_words(words, 0, &values);
+            layout::put_words(words, 0, &values);
             0
         }
         Stepped::Refused(check) => check,

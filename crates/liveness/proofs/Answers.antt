@@ -1,7 +1,9 @@
--- What the answers to ticks say, and that a refused call changes nothing, of any run and buffers. Assumes nothing.
-use mathlib.Core.Path.{_≡_, refl, subst}
+-- What the answers to ticks say, that an answer is told by its numbers, and that a refused call changes nothing, of any run and buffers.
+-- Assumes nothing.
+use mathlib.Core.Path.{_≡_, refl, sym, _∙_, subst}
 use mathlib.Core.Bool.{true, false}
 use mathlib.Core.Logic.{_≢_}
+use Prim.Native.Nat.{ℕ}
 use native.Mathlib.Omega.{arith}
 use lib.Dec.{T, eqb, eqb→eq}
 use Rattle.base.specs.Tests.{eq→eqb, by-cond}
@@ -9,11 +11,12 @@ use Rattle.types.specs.declared.Event.{Event}
 use Rattle.types.specs.declared.Event.the-variants.{Deliver, Sign, Show, Settle, Tick}
 use Rattle.types.specs.declared.Answer.{Answer}
 use Rattle.types.specs.declared.Answer.the-variants.{Done, Stopped, Refused}
-use Rattle.model.specs.State.{State, After, accepted, refused, done}
+use Rattle.types.specs.Messages.{lacksForm}
+use Rattle.model.specs.State.{State, After, checkOf, ticksOf, accepted, refused, done}
 use Rattle.model.specs.Opening.{opened, openingChecks, opening}
 use Rattle.model.specs.Events.{tickOnce, Ticks, ticks, ticksAnswer, tickRun, checks, effect, applied}
-use Rattle.liveness.specs.Promises.{TickAnswer, TicksAnswered, RefusedStays, RefusedOpeningStays}
-use Rattle.liveness.proofs.Judging.{by-judged, by-judged-each}
+use Rattle.liveness.specs.Promises.{TickAnswer, TicksAnswered, answerFrom, AnswersTold, RefusedStays, RefusedOpeningStays}
+use Rattle.liveness.proofs.Judging.{by-judged, by-judged-each, by-applied, by-applied-each}
 use Rattle.liveness.proofs.History.{TickCount, ticks-counted}
 
 pub no-yes : {A : Type 0} → true ≡ false → A
@@ -46,6 +49,44 @@ ticks-answered m s positive is-sound = by-judged-each (λ (a : After). TickAnswe
         (λ u. (k .all-done (eqb→eq (x .check) 0 u), refl, k .gained))
         (λ u. stopped (λ e. t (eq→eqb (x .count) 0 e)) (λ e. u (eq→eqb (x .check) 0 e))))
 
+-- ---- the numbers of an answer
+
+abbrev Told : After → Type 0
+Told a = answerFrom (checkOf (a .answer)) (ticksOf (a .answer)) (a .state .run .held) ≡ a .answer
+
+refusal-told : (s : State) (r : ℕ) → r ≢ 0 → Told (refused s r)
+refusal-told s r some' = by-cond (λ (y : Answer). y ≡ Refused r) (eqb r 0) (Done 0 (s .run .held)) (Refused r)
+    (λ t. absurd (some' (eqb→eq r 0 t))) (λ t. refl)
+
+ticks-told : (m : ℕ) (s : State) → m ≢ 0 → Told (tickRun m s)
+unfolding tickRun
+ticks-told m s some' = by-cond (λ (y : Answer). answerFrom (checkOf y) (ticksOf y) held ≡ y) (eqb (x .count) 0) (Refused (x .check)) _
+    (λ t. refusal-told (x .state) (x .check) (λ (z : x .check ≡ 0). some' (sym (ticks-counted m s .all-done z) ∙ eqb→eq (x .count) 0 t)))
+    (λ t. by-cond (λ (y : Answer). answerFrom (checkOf y) (ticksOf y) held ≡ y) (eqb (x .check) 0) (Done (x .count) held) (Stopped (x .count) held (x .check))
+    (λ u. refl)
+    (λ u. by-cond (λ (y : Answer). y ≡ Stopped (x .count) held (x .check)) (eqb (x .check) 0) (Done (x .count) held) _ (λ v. absurd (u v))
+    (λ v. by-cond (λ (y : Answer). y ≡ Stopped (x .count) held (x .check)) (eqb (x .count) 0) (Refused (x .check)) (Stopped (x .count) held (x .check))
+    (λ k. absurd (t k)) (λ k. refl))))
+  where
+    x : Ticks
+    x = ticks m s
+
+    held : ℕ
+    held = x .state .run .held
+
+effect-told : (e : Event) (s : State) → (T (lacksForm e) → ⊥) → Told (effect e s)
+unfolding effect
+effect-told (Deliver m) s f = refl
+effect-told (Sign m) s f = refl
+effect-told (Show m) s f = refl
+effect-told Settle s f = refl
+effect-told (Tick m) s f = ticks-told m s (λ (z : m ≡ 0). f (eq→eqb m 0 z))
+
+pub answers-told : AnswersTold
+answers-told e s = by-applied-each Told e s (λ t. refl) (λ t. refl) (λ r l. refusal-told s r (omega arith)) (λ c. effect-told e s (c .form))
+
+-- ---- refused calls
+
 idle : (x : Ticks) → accepted (ticksAnswer x) ≡ false → x .count ≡ 0
 idle x = by-cond (λ (a : Answer). accepted a ≡ false → x .count ≡ 0) (eqb (x .count) 0) (Refused (x .check)) _
     (λ t e. eqb→eq (x .count) 0 t)
@@ -62,9 +103,7 @@ refused-effect Settle s i = no-yes i
 refused-effect (Tick m) s i = ticks-counted m s .none-done (idle (ticks m s) i)
 
 pub refused-stays : RefusedStays
-unfolding applied
-refused-stays e s = by-judged (λ (a : After). accepted (a .answer) ≡ false → a .state ≡ s) (refused s) (checks e s) (effect e s) (λ r i. refl)
-    (λ c. refused-effect e s)
+refused-stays e s = by-applied (λ (a : After). accepted (a .answer) ≡ false → a .state ≡ s) e s (λ r i. refl) (λ c. refused-effect e s)
 
 pub refused-opening-stays : RefusedOpeningStays
 unfolding opening

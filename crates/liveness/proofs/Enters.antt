@@ -1,41 +1,35 @@
 -- A processor that enters a view does so as in the protocol. Assumes nothing.
 use mathlib.Core.Path.{_≡_, refl, sym, ap, _∙_, subst}
 use mathlib.Core.Bool.{Bool, _&&_, _||_}
-use mathlib.Core.Logic.{_⊎_, inl, inr, _≢_, ⊎-elim}
+use mathlib.Core.Logic.{_⊎_, inl, inr, ⊎-elim}
 use mathlib.Core.List.{List, _++_}
-use Prim.Native.Nat.{ℕ, _+_, _≤_, _<_, max}
+use Prim.Native.Nat.{ℕ, _≤_, _<_, max}
 use native.Mathlib.Omega.{arith}
-use native.Mathlib.Nat.{mul-le-mul-right}
 use lib.Dec.{T, eqb, ltb, eqb→eq, ltb→lt, lt→ltb}
 use lib.ListN.{length, getD, set, length-set}
 use lib.Seq.{getD-set-same, getD-set-other}
 use Rattle.base.specs.Members.{elem-left, elem-right, elem-cases}
-use Rattle.base.specs.Tests.{T-left, T-right, T-and, or-left, or-right, or-cases, le?, eq?, eq→eqb, by-cond}
+use Rattle.base.specs.Tests.{T-left, T-right, T-and, or-left, or-right, or-cases, le?, eq→eqb, by-cond}
 use Rattle.base.specs.Sets.{member}
 use Rattle.protocol.specs.Params as proto
 use Rattle.protocol.specs.Params.{Params}
 use Rattle.protocol.specs.State.{Processors, Tally, onward}
 use Rattle.protocol.specs.Moves.{Reason, Enter}
-use Rattle.protocol.specs.EnterKeeps.{ready-up}
 use Rattle.types.specs.declared.Plan.{Plan}
 use Rattle.types.specs.declared.Message.{Message}
 use Rattle.types.specs.declared.Run.{Run}
-use Rattle.types.specs.Quantities.{lead, nextInitial, clockTime, endTime}
-use Rattle.model.specs.State.{clockOf, viewOf, isCorrect, enteredWord, heardWord, marksWord, markBit, slot, added}
+use Rattle.types.specs.Quantities.{lead, clockTime}
+use Rattle.model.specs.State.{clockOf, isCorrect, enteredWord, heardWord, marksWord, markBit, slot, added}
 use Rattle.model.specs.Moves.{toCorrect, entryClock, entryMessages, certificate}
 use Rattle.liveness.proofs.TallyLaws.{heard-low, length-added, added-other, added-member, added-below}
 use Rattle.liveness.proofs.Flight.{Sent, In, stamped, sentAs}
 use Rattle.liveness.proofs.Sending.{signature, signature-is, certificate-is, apart, meant, signature-meant, in-stamped, stamped-in, elem-correct, correct-elem, At, entry-sends, entry-sent}
-use Rattle.liveness.proofs.Link.{Planned, params, correct-below, gamma-positive, to-starts, from-starts, flight, Books, Ready, Below}
+use Rattle.liveness.proofs.Link.{Planned, params, correct-below, to-starts, from-starts, flight, Books}
 
 pub entry-max : (plan : Plan) (clock w : ℕ) → entryClock plan clock w ≡ max clock (clockTime plan w)
 entry-max plan clock w = by-cond (λ (x : ℕ). x ≡ max clock (clockTime plan w)) (ltb clock (clockTime plan w)) (clockTime plan w) clock
     (λ t. let l : clock < clockTime plan w = ltb→lt _ _ t in omega arith)
     (λ t. ⊎-elim (λ (l : clockTime plan w ≤ clock). omega arith) (λ (l : clock < clockTime plan w). absurd (t (lt→ltb _ _ l))) (le? (clockTime plan w) clock))
-
--- a view below the limit has its time before the end
-pub time-below : (plan : Plan) (faulty w : ℕ) → Planned plan faulty → w < plan .views → clockTime plan w < endTime plan
-time-below plan faulty w ok l = omega (arith, mul-le-mul-right (plan .gamma) l, gamma-positive plan faulty ok)
 
 module _ (r : Run) (t : List ℕ) (ok : Planned (r .plan) (r .faulty)) {P : Processors} {L : Tally} (books : Books (r .plan) (r .clocks) (r .views) t P L)
     (p w : ℕ) (c : T (isCorrect r p)) (w-low : w < r .plan .views) where
@@ -75,13 +69,6 @@ module _ (r : Run) (t : List ℕ) (ok : Planned (r .plan) (r .faulty)) {P : Proc
     formed = λ d u l. books .formed d u l ∙ ap (λ (x : ℕ). member x (markBit d)) (sym (added-other t w enteredWord p u marksWord (omega arith)));
     sets-below = λ u j l h. added-below t w enteredWord p (omega arith) row-long (r .plan .n) u j (omega arith) p-low (books .sets-below u j l h);
   }
-
-  pub enter-below : Below (r .plan) (r .faulty) (r .clocks) → Below (r .plan) (r .faulty) clocks-to
-  enter-below b q cq = ⊎-elim
-      (λ (e : q ≡ p). rw (e, getD-set-same (r .clocks) p (entryClock (r .plan) (clockOf r p) w) 0 (omega (arith, p-low, books .clocks-long)))
-      (omega (arith, entry-max (r .plan) (clockOf r p) w, b p c, time-below (r .plan) (r .faulty) w ok w-low)))
-      (λ ne. rw (getD-set-other (r .clocks) p q (entryClock (r .plan) (clockOf r p) w) 0 ne) (b q cq))
-      (eq? q p)
 
   -- ys is what is left of the messages in flight, xs, without a certificate for p that leads no further
   module _ (now : ℕ) (xs ys : List Sent) (kept : (m : Message) (s : ℕ) → In m s ys → In m s xs)
@@ -129,12 +116,3 @@ module _ (r : Run) (t : List ℕ) (ok : Planned (r .plan) (r .faulty)) {P : Proc
           (λ y. let a = sent-is (certificate d u q) s y in absurd (apart (a .0) d w u p q (sym (a .1))))
           (elem-cases (sentAs (certificate d u q) s) ys (stamped now sent-to) x);
     }
-
-    -- no clock is left standing at an initial view that is not entered
-    pub enter-ready : ((q : ℕ) → T (isCorrect r q) → q ≢ p → clockOf r q < clockTime (r .plan) (nextInitial (r .plan) (viewOf r q)))
-        → ((clockOf r p < clockTime (r .plan) (nextInitial (r .plan) (viewOf r p))) ⊎ (clockOf r p ≡ clockTime (r .plan) w))
-        → Ready (r .plan) (r .faulty) clocks-to views-to
-    unfolding proto.next proto.row
-    enter-ready others here = ready-up entered
-        (λ q i ne. rw (books .clock q, books .view q) (others q i ne))
-        (⊎-elim (λ a. inl (rw (books .clock p, books .view p) a)) (λ a. inr (rw (books .clock p) a)) here)

@@ -1,16 +1,14 @@
 -- Each event that does not settle the network is a run of the protocol. Assumes nothing.
-use mathlib.Core.Path.{_≡_, refl, sym, _∙_, subst, pathJ, ap}
+use mathlib.Core.Path.{_≡_, refl, sym, _∙_, pathJ, ap}
 use mathlib.Core.Bool.{Bool, true, false, cond}
 use mathlib.Core.Logic.{_⊎_, inl, inr, ⊎-elim}
-use mathlib.Core.List.{List, _∷_}
+use mathlib.Core.List.{List}
 use Prim.Native.Nat.{ℕ, zero, suc, _+_, _-_, _≤_, _<_}
 use native.Mathlib.Omega.{arith}
 use lib.Dec.{T, leb→le}
 use lib.ListN.{length}
-use Rattle.base.specs.Members.{elem-right, elem-without, elem-with}
 use Rattle.base.specs.Tests.{not-not, by-cond}
 use Rattle.base.specs.Count.{count, count-ext}
-use Rattle.base.specs.ScanLaws.{first-at}
 use Rattle.base.specs.Sets.{member, size}
 use Rattle.base.specs.SetLaws.{size-count}
 use Rattle.protocol.specs.Params as proto
@@ -24,17 +22,17 @@ use Rattle.types.specs.declared.Event.the-variants.{Deliver, Sign, Show, Settle
 use Rattle.types.specs.Quantities.{lead, initial}
 use Rattle.model.specs.State.{State, removed, After, isCorrect, enteredWord, word, checkOf, refused}
 use Rattle.model.specs.Moves.{Change, still, needed, certificate, hearing, handling, made}
-use Rattle.model.specs.Checks.{isAt, placeOf, notHeld, exists, reachesEnd, overfull}
-use Rattle.model.specs.Events.{without, delivering, signing, tickChecks, tickOnce, continued, ticks, tickRun, checks, effect, applied}
-use Rattle.liveness.proofs.Flight.{Sent, In, sentAs, Found, found-at}
+use Rattle.model.specs.Checks.{placeOf, notHeld, exists, reachesEnd, overfull}
+use Rattle.model.specs.Events.{without, delivering, signing, tickChecks, tickOnce, continued, ticks, tickRun, effect, applied}
+use Rattle.liveness.proofs.Flight.{Sent, In, sentAs, Found, found-in, rest, rest-in, in-rest}
 use Rattle.liveness.proofs.Sending.{signature}
-use Rattle.liveness.proofs.Link.{Planned, params, flight, Wire, rest, wire-removed, length-without}
+use Rattle.liveness.proofs.Link.{Planned, params, flight, Wire, wire-removed, length-without, wire-found}
 use Rattle.liveness.proofs.Enters.{entered}
 use Rattle.liveness.proofs.Hears.{needed-enough}
 use Rattle.liveness.proofs.Tracks.{Tracked, Leads, stays, leads-on}
 use Rattle.liveness.proofs.Reaches.{hear-leads, still-leads, view-certificate-leads, quorum-certificate-leads}
 use Rattle.liveness.proofs.Ticks.{tick-leads}
-use Rattle.liveness.proofs.Judging.{place-inside, Passes, by-judged, named-within}
+use Rattle.liveness.proofs.Judging.{Passed, by-judged, by-applied, named-within}
 
 module _ (s : State) (ok : Planned (s .run .plan) (s .run .faulty)) (x : Tracked (s .run .plan) (s .run .faulty) ok s) where
   abbrev plan : Plan
@@ -55,27 +53,21 @@ module _ (s : State) (ok : Planned (s .run .plan) (s .run .faulty)) (x : Tracked
   -- ---- deliver
 
   module _ (m : Message) (is-held : T (notHeld s m) → ⊥) where
-    inside : placeOf s m < s .run .held
-    inside = place-inside s m is-held
-
     found : Found (x .messages) m (placeOf s m)
-    found = found-at (x .messages) (x .wire .spare) m (placeOf s m) (omega (arith, inside, x .wire .number))
-        (subst (λ (l : List ℕ). T (isAt l m (placeOf s m))) (x .wire .words) (first-at (isAt (s .network) m) (s .run .held) inside))
+    found = wire-found s (x .wire) m is-held
 
     abbrev left : List Sent
-    left = rest (x .wire) found
+    left = rest found
 
     kept-left : (m' : Message) (t : ℕ) → In m' t left → In m' t (x .messages)
-    kept-left m' t i = subst (In m' t) (sym (found .split)) (elem-with (sentAs m' t) (found .ahead) (found .behind) (sentAs m (found .time)) i)
+    kept-left m' t i = rest-in found (sentAs m' t) i
 
     gone-one : (m' : Message) (t : ℕ) → In m' t (x .messages) → In m' t left ⊎ (m' ≡ m)
-    gone-one m' t i = ⊎-elim (λ y. inl y) (λ e. inr (ap (λ (y : Sent). y .message) e))
-        (elem-without (sentAs m' t) (found .ahead) (found .behind) (sentAs m (found .time)) (subst (In m' t) (found .split) i))
+    gone-one m' t i = ⊎-elim (λ y. inl y) (λ e. inr (ap (λ (y : Sent). y .message) e)) (in-rest found (sentAs m' t) i)
 
     -- it was in flight
     was-there : In m (found .time) (x .messages)
-    was-there = subst (In m (found .time)) (sym (found .split))
-        (elem-right (sentAs m (found .time)) (found .ahead) (sentAs m (found .time) ∷ found .behind) (inl refl))
+    was-there = found-in found
 
     -- the run without it, and its network
     abbrev after-it : ℕ
@@ -104,24 +96,24 @@ module _ (s : State) (ok : Planned (s .run .plan) (s .run .faulty)) (x : Tracked
   backed-exists : (q : Bool) (w p t : ℕ) → In (certificate q w p) t (x .messages) → Exists π (x .processors) (x .tally) q w × T (isCorrect (s .run) p)
   backed-exists q w p t i = let b = x .holds .flight .backed q w p t i in (inl (x .holds .tally .formed-led q w (b .0), b .0), b .1)
 
-  deliver-leads : (m : Message) → Passes (checks (Deliver m) s) → To (made (without s m) (delivering s m))
-  unfolding checks without delivering handling reachesEnd
-  deliver-leads (View w p) c = signature-leads false w p (c .1 .1 .1 .0) (named-within plan p w (c .1 .0)) (c .1 .1 .1 .1 .1 .0)
-  deliver-leads (Vote w p) c = signature-leads true w p (c .1 .1 .1 .0) (named-within plan p w (c .1 .0)) (c .1 .1 .1 .1 .1 .0)
+  deliver-leads : (m : Message) → Passed (Deliver m) s → To (made (without s m) (delivering s m))
+  unfolding without delivering handling reachesEnd
+  deliver-leads (View w p) c = signature-leads false w p (c .input .1 .1 .0) (named-within plan p w (c .input .0)) (c .outcome .1 .0)
+  deliver-leads (Vote w p) c = signature-leads true w p (c .input .1 .1 .0) (named-within plan p w (c .input .0)) (c .outcome .1 .0)
   deliver-leads (Vc w p) c =
       let m : Message = Vc w p in
-      let is-held : T (notHeld s m) → ⊥ = c .1 .1 .1 .0 in
+      let is-held : T (notHeld s m) → ⊥ = c .input .1 .1 .0 in
       let b = backed-exists false w p (found m is-held .time) (was-there m is-held) in
       view-certificate-leads s ok x (after-it m is-held) (network-after m is-held) (left m is-held) (wire-after m is-held) (length-after m is-held)
       (kept-left m is-held)
-      w p (b .1) (not-not (initial plan w) (c .1 .1 .0)) (b .0) (gone-one m is-held) (c .1 .1 .1 .1 .0) (c .1 .1 .1 .1 .1 .0)
+      w p (b .1) (not-not (initial plan w) (c .input .1 .0)) (b .0) (gone-one m is-held) (c .outcome .0) (c .outcome .1 .0)
   deliver-leads (Qc w p) c =
       let m : Message = Qc w p in
-      let is-held : T (notHeld s m) → ⊥ = c .1 .1 .1 .0 in
+      let is-held : T (notHeld s m) → ⊥ = c .input .1 .1 .0 in
       let b = backed-exists true w p (found m is-held .time) (was-there m is-held) in
       quorum-certificate-leads s ok x (after-it m is-held) (network-after m is-held) (left m is-held) (wire-after m is-held) (length-after m is-held)
       (kept-left m is-held)
-      w p (b .1) (b .0) (gone-one m is-held) (c .1 .1 .1 .1 .0) (c .1 .1 .1 .1 .1 .0)
+      w p (b .1) (b .0) (gone-one m is-held) (c .outcome .0) (c .outcome .1 .0)
 
   -- ---- sign
 
@@ -134,12 +126,12 @@ module _ (s : State) (ok : Planned (s .run .plan) (s .run .faulty)) (x : Tracked
       (λ l. hear-leads s ok x (s .run .held) (s .network) (x .messages) (x .wire) refl (λ m t i. i) q w p (n .1) (n .0) (λ m t i. inl i) (inl faulty-p) l)
       (λ l. still-leads s ok x (s .run .held) (s .network) (x .messages) (x .wire) refl (λ m t i. i) (λ m t i. inl i))
 
-  sign-leads : (m : Message) → Passes (checks (Sign m) s) → To (made s (signing s m))
-  unfolding checks signing handling
-  sign-leads (View w p) c = heard-or-not false w p (named-within plan p w (c .1 .1 .0)) (c .1 .1 .1 .1 .0) (c .1 .1 .1 .1 .1 .1 .0)
-  sign-leads (Vote w p) c = heard-or-not true w p (named-within plan p w (c .1 .1 .0)) (c .1 .1 .1 .1 .0) (c .1 .1 .1 .1 .1 .1 .0)
-  sign-leads (Vc w p) c = absurd (c .0 tt)
-  sign-leads (Qc w p) c = absurd (c .0 tt)
+  sign-leads : (m : Message) → Passed (Sign m) s → To (made s (signing s m))
+  unfolding signing handling
+  sign-leads (View w p) c = heard-or-not false w p (named-within plan p w (c .input .0)) (c .input .1 .1 .0) (c .outcome .1 .0)
+  sign-leads (Vote w p) c = heard-or-not true w p (named-within plan p w (c .input .0)) (c .input .1 .1 .0) (c .outcome .1 .0)
+  sign-leads (Vc w p) c = absurd (c .form tt)
+  sign-leads (Qc w p) c = absurd (c .form tt)
 
   -- ---- show
 
@@ -155,23 +147,22 @@ module _ (s : State) (ok : Planned (s .run .plan) (s .run .faulty)) (x : Tracked
       counted = size-count (plan .n) (word (s .tally) w enteredWord) (x .books .sets-below w enteredWord low (omega arith))
           ∙ count-ext (plan .n) (member (word (s .tally) w enteredWord)) (x .processors .entered w) (λ p l. sym (x .books .entered w p low))
 
-  show-leads : (m : Message) → Passes (checks (Show m) s) → To (made s (handling (s .run) (s .tally) m))
-  unfolding checks
-  show-leads (View w p) c = absurd (c .0 tt)
-  show-leads (Vote w p) c = absurd (c .0 tt)
+  show-leads : (m : Message) → Passed (Show m) s → To (made s (handling (s .run) (s .tally) m))
+  show-leads (View w p) c = absurd (c .form tt)
+  show-leads (Vote w p) c = absurd (c .form tt)
   show-leads (Vc w p) c =
-      let n = named-within plan p w (c .1 .1 .0) in
+      let n = named-within plan p w (c .input .0) in
       view-certificate-leads s ok x (s .run .held) (s .network) (x .messages) (x .wire) refl (λ m t i. i) w p
-      (not-not (isCorrect (s .run) p) (c .1 .1 .1 .1 .0))
-      (not-not (initial plan w) (c .1 .1 .1 .0)) (exists-so false w (n .1) (not-not (exists false (s .run) (s .tally) w) (c .1 .1 .1 .1 .1 .0)))
+      (not-not (isCorrect (s .run) p) (c .input .1 .1 .0))
+      (not-not (initial plan w) (c .input .1 .0)) (exists-so false w (n .1) (not-not (exists false (s .run) (s .tally) w) (c .input .1 .1 .1 .0)))
       (λ m t i. inl i)
-      (c .1 .1 .1 .1 .1 .1 .0) (c .1 .1 .1 .1 .1 .1 .1 .0)
+      (c .outcome .0) (c .outcome .1 .0)
   show-leads (Qc w p) c =
-      let n = named-within plan p w (c .1 .1 .0) in
+      let n = named-within plan p w (c .input .0) in
       quorum-certificate-leads s ok x (s .run .held) (s .network) (x .messages) (x .wire) refl (λ m t i. i) w p
-      (not-not (isCorrect (s .run) p) (c .1 .1 .1 .1 .0))
-      (exists-so true w (n .1) (not-not (exists true (s .run) (s .tally) w) (c .1 .1 .1 .1 .1 .0))) (λ m t i. inl i)
-      (c .1 .1 .1 .1 .1 .1 .0) (c .1 .1 .1 .1 .1 .1 .1 .0)
+      (not-not (isCorrect (s .run) p) (c .input .1 .1 .0))
+      (exists-so true w (n .1) (not-not (exists true (s .run) (s .tally) w) (c .input .1 .1 .1 .0))) (λ m t i. inl i)
+      (c .outcome .0) (c .outcome .1 .0)
 
   once-leads : To (tickOnce s .state)
   unfolding tickOnce
@@ -214,7 +205,7 @@ Moving (Tick m) = Unit {0}
 
 -- an event whose checks all pass
 effect-leads : (s : State) (ok : Planned (s .run .plan) (s .run .faulty)) (x : Tracked (s .run .plan) (s .run .faulty) ok s) (e : Event) → Moving e
-    → Passes (checks e s) → Leads (s .run .plan) (s .run .faulty) ok s x (effect e s .state)
+    → Passed e s → Leads (s .run .plan) (s .run .faulty) ok s x (effect e s .state)
 unfolding effect tickRun
 effect-leads s ok x (Deliver m) v c = deliver-leads s ok x m c
 effect-leads s ok x (Sign m) v c = sign-leads s ok x m c
@@ -224,7 +215,6 @@ effect-leads s ok x (Tick m) v c = ticks-lead (s .run .plan) (s .run .faulty) ok
 
 pub event-leads : (plan : Plan) (faulty : ℕ) (ok : Planned plan faulty) (e : Event) → Moving e → (s : State) (x : Tracked plan faulty ok s)
     → Leads plan faulty ok s x (applied e s .state)
-unfolding applied
 event-leads plan faulty ok e v = at-own-plan (λ plan' faulty' ok' s x. Leads plan' faulty' ok' s x (applied e s .state))
-    (λ s ok' x. by-judged (λ (a : After). Leads (s .run .plan) (s .run .faulty) ok' s x (a .state)) (refused s) (checks e s) (effect e s) (λ r. same s ok' x)
-    (effect-leads s ok' x e v)) plan faulty ok
+    (λ s ok' x. by-applied (λ (a : After). Leads (s .run .plan) (s .run .faulty) ok' s x (a .state)) e s (λ r. same s ok' x) (effect-leads s ok' x e v))
+    plan faulty ok

@@ -1,14 +1,14 @@
 -- The network's words as a list of messages in flight, and what posting and removing do to the list. Assumes nothing.
-use mathlib.Core.Path.{_≡_, refl, sym, ap, _∙_}
+use mathlib.Core.Path.{_≡_, refl, sym, ap, _∙_, subst}
 use mathlib.Core.Bool.{_&&_}
-use mathlib.Core.Logic.{inl, inr}
+use mathlib.Core.Logic.{_⊎_, inl, inr}
 use mathlib.Core.List.{List, [], _∷_, _++_, append-assoc}
-use Prim.Native.Nat.{ℕ, zero, suc, _+_, _-_, _*_, _≤_, _<_}
+use Prim.Native.Nat.{ℕ, zero, suc, _+_, _*_, _≤_, _<_}
 use native.Mathlib.Omega.{arith}
 use lib.Dec.{T, eqb, eqb→eq}
 use lib.ListN.{length, take, drop, replicate, length-append, length-replicate, length-drop}
 use lib.Seq.{slice, take-at, drop-at, drop-drop, length-take-le, length-slice}
-use Rattle.base.specs.Members.{Elem}
+use Rattle.base.specs.Members.{Elem, elem-right, elem-without, elem-with}
 use Rattle.base.specs.Tests.{T-left, T-right}
 use Rattle.types.specs.declared.Message.{Message}
 use Rattle.types.specs.declared.Message.the-variants.{View, Vote, Vc, Qc}
@@ -111,32 +111,32 @@ removed-laid a b x z =
 abbrev pub In : Message → ℕ → List Sent → Type 0
 In m s xs = Elem (sentAs m s) xs
 
-four-on : (i : ℕ) → messageWords * suc i ≡ suc (suc (suc (suc (messageWords * i))))
+pub four-on : (i : ℕ) → messageWords * suc i ≡ suc (suc (suc (suc (messageWords * i))))
 four-on i = omega arith
 
--- the words at a place are those of a message in flight
-pub record Read (xs : List Sent) (z i : ℕ) : Type 0 where
-  pub sent : Sent
-  pub within : In (sent .message) (sent .time) xs
-  pub kind : kindAt (laid xs z) i ≡ kindOf (sent .message)
-  pub view : viewAt (laid xs z) i ≡ viewIn (sent .message)
-  pub processor : processorAt (laid xs z) i ≡ processorIn (sent .message)
-  pub time : sentAt (laid xs z) i ≡ sent .time
+-- the words at place i are those of x
+pub record Shows (ws : List ℕ) (i : ℕ) (x : Sent) : Type 0 where
+  pub kind : kindAt ws i ≡ kindOf (x .message)
+  pub view : viewAt ws i ≡ viewIn (x .message)
+  pub processor : processorAt ws i ≡ processorIn (x .message)
+  pub time : sentAt ws i ≡ x .time
 
-pub read-at : (xs : List Sent) (z i : ℕ) → i < length xs → Read xs z i
-read-at [] z i l = absurd (omega arith)
-read-at (x ∷ xs) z zero l = record { sent = x; within = inl refl; kind = refl; view = refl; processor = refl; time = refl }
-read-at (x ∷ xs) z (suc i) l = go (read-at xs z i (omega arith))
-  where
-    go : Read xs z i → Read (x ∷ xs) z (suc i)
-    go r = record {
-      sent = r .sent;
-      within = inr (r .within);
-      kind = rw (four-on i) (r .kind);
-      view = let e : messageWords * suc i + 1 ≡ suc (suc (suc (suc (messageWords * i + 1)))) = omega arith in rw e (r .view);
-      processor = let e : messageWords * suc i + 2 ≡ suc (suc (suc (suc (messageWords * i + 2)))) = omega arith in rw e (r .processor);
-      time = let e : messageWords * suc i + 3 ≡ suc (suc (suc (suc (messageWords * i + 3)))) = omega arith in rw e (r .time);
-    }
+-- with the words of one more message ahead
+pub shows-on : (ws : List ℕ) (k w p t i : ℕ) (x : Sent) → Shows ws i x → Shows (k ∷ w ∷ p ∷ t ∷ ws) (suc i) x
+shows-on ws k w p t i x s = record {
+  kind = rw (four-on i) (s .kind);
+  view = let e : messageWords * suc i + 1 ≡ suc (suc (suc (suc (messageWords * i + 1)))) = omega arith in rw e (s .view);
+  processor = let e : messageWords * suc i + 2 ≡ suc (suc (suc (suc (messageWords * i + 2)))) = omega arith in rw e (s .processor);
+  time = let e : messageWords * suc i + 3 ≡ suc (suc (suc (suc (messageWords * i + 3)))) = omega arith in rw e (s .time);
+}
+
+-- those at each place are a message's in flight
+pub shown-at : (xs : List Sent) (z i : ℕ) → i < length xs → (x : Sent) × Elem x xs × Shows (laid xs z) i x
+shown-at [] z i l = absurd (omega arith)
+shown-at (x ∷ xs) z zero l = (x, inl refl, record { kind = refl; view = refl; processor = refl; time = refl })
+shown-at (x ∷ xs) z (suc i) l =
+    let r = shown-at xs z i (omega arith) in
+    (r .0, inr (r .1), shows-on (laid xs z) (kindOf (x .message)) (viewIn (x .message)) (processorIn (x .message)) (x .time) i (r .0) (r .2))
 
 -- a message in flight stands at some place
 pub stands-at : (m : Message) (s : ℕ) (xs : List Sent) (z : ℕ) → In m s xs → (i : ℕ) × (i < length xs) × (sentAt (laid xs z) i ≡ s)
@@ -200,6 +200,21 @@ found-at (x ∷ xs) z m (suc i) l t = go (found-at xs z m i (omega arith) t')
 
     go : Found xs m i → Found (x ∷ xs) m (suc i)
     go f = record { ahead = x ∷ f .ahead; behind = f .behind; time = f .time; split = ap (λ (l : List Sent). x ∷ l) (f .split); place = ap suc (f .place) }
+
+module _ {xs : List Sent} {m : Message} {i : ℕ} (found : Found xs m i) where
+  pub found-in : In m (found .time) xs
+  found-in = subst (In m (found .time)) (sym (found .split))
+      (elem-right (sentAs m (found .time)) (found .ahead) (sentAs m (found .time) ∷ found .behind) (inl refl))
+
+  -- the others, which stay when it goes
+  abbrev pub rest : List Sent
+  rest = found .ahead ++ found .behind
+
+  pub rest-in : (x : Sent) → Elem x rest → Elem x xs
+  rest-in x e = subst (Elem x) (sym (found .split)) (elem-with x (found .ahead) (found .behind) (sentAs m (found .time)) e)
+
+  pub in-rest : (x : Sent) → Elem x xs → Elem x rest ⊎ (x ≡ sentAs m (found .time))
+  in-rest x e = elem-without x (found .ahead) (found .behind) (sentAs m (found .time)) (subst (Elem x) (found .split) e)
 
 -- ---- of any words
 

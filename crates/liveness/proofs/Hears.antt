@@ -3,7 +3,7 @@ use mathlib.Core.Path.{_≡_, refl, sym, ap, _∙_, subst}
 use mathlib.Core.Bool.{Bool, true, false, not, _&&_, _||_, cond}
 use mathlib.Core.Logic.{_⊎_, inl, inr, ⊎-elim}
 use mathlib.Core.List.{List, [], _++_}
-use Prim.Native.Nat.{ℕ, _+_, _-_, _≤_, _<_}
+use Prim.Native.Nat.{ℕ, _≤_, _<_}
 use native.Mathlib.Omega.{arith}
 use lib.Dec.{T, eqb, leb, eqb→eq, leb→le, le→leb, T-not, not-T}
 use lib.ListN.{length}
@@ -22,9 +22,10 @@ use Rattle.types.specs.declared.Run.{Run}
 use Rattle.types.specs.Quantities.{lead}
 use Rattle.model.specs.State.{viewOf, isCorrect, enteredWord, heardWord, marksWord, markBit, slot, word, added}
 use Rattle.model.specs.Moves.{toCorrect, needed, forms, ripe, certificate, toEach}
-use Rattle.liveness.proofs.TallyLaws.{heard-low, length-added, added-same, added-other, added-member, added-below}
+use Rattle.liveness.proofs.TallyLaws.{heard-low, length-added, length-heard, added-same, added-other, added-member, added-below}
 use Rattle.liveness.proofs.Flight.{Sent, In, stamped, sentAs}
 use Rattle.liveness.proofs.Sending.{signature, signature-is, certificate-is, apart, meant, certificate-meant, in-stamped, stamped-in, elem-correct, correct-elem, each-gets, each-got}
+use Rattle.liveness.proofs.Judging.{or-none}
 use Rattle.liveness.proofs.Link.{Planned, params, correct-below, lead-is, flight, Books}
 
 -- a stage is told by its word and by its mark
@@ -47,11 +48,6 @@ needed-enough plan faulty ok true x l = omega arith
 enough-needed : (plan : Plan) (faulty : ℕ) (ok : Planned plan faulty) (q : Bool) (x : ℕ) → Enough (params plan faulty ok) q x → needed q plan ≤ x
 enough-needed plan faulty ok false x l = omega arith
 enough-needed plan faulty ok true x l = omega arith
-
-or-none : (a b : Bool) → (T b → ⊥) → (a || b) ≡ a
-or-none true b f = refl
-or-none false true f = absurd (f tt)
-or-none false false f = refl
 
 -- messages of a certificate that may have been formed
 pub in-chosen : (m : Message) (s now : ℕ) (b : Bool) (ms : List Message) → In m s (stamped now (cond b ms [])) → T b × In m s (stamped now ms)
@@ -94,8 +90,7 @@ module _ (q : Bool) (r : Run) (t : List ℕ) (ok : Planned (r .plan) (r .faulty)
   word-long = omega (arith, books .rows, heard-low q)
 
   pub length-to : length tally-to ≡ length t
-  length-to = by-cond (λ (l : List ℕ). length l ≡ length t) formed-here (added with-signer w marksWord (markBit q)) with-signer
-      (λ f. length-added with-signer w marksWord (markBit q) ∙ length-added t w (heardWord q) p) (λ f. length-added t w (heardWord q) p)
+  length-to = length-heard t q w p formed-here
 
   -- the words but the marks are those with the signer
   word-to : (u j : ℕ) → j < marksWord → word tally-to u j ≡ word with-signer u j

@@ -12,10 +12,10 @@ use Rattle.types.specs.declared.Answer.{Answer}
 use Rattle.types.specs.declared.Answer.the-variants.{Done, Stopped, Refused}
 use Rattle.model.specs.State.{State, After, checkOf, ticksOf, refused}
 use Rattle.model.specs.Moves.{made}
-use Rattle.model.specs.Events.{without, nowSettled, tickChecks, tickOnce, Ticks, continued, ticks, ticksAnswer, tickRun, checks, effect, applied}
+use Rattle.model.specs.Events.{without, nowSettled, tickChecks, tickOnce, Ticks, continued, ticks, ticksAnswer, tickRun, effect, applied}
 use Rattle.model.specs.Lists.{after, ticksDone}
 use Rattle.liveness.specs.Promises.{ListLaw, TicksAreTime, countedFrom, TicksAdd}
-use Rattle.liveness.proofs.Judging.{by-judged, by-judged-each}
+use Rattle.liveness.proofs.Judging.{by-judged-each, by-applied}
 
 pub list-law : ListLaw
 unfolding after
@@ -155,9 +155,7 @@ gains Settle s = omega arith
 gains (Tick m) s = omega (arith, ticks-counted m s .gained, answered (ticks m s))
 
 pub event-time : (e : Event) (s : State) → applied e s .state .run .time ≡ s .run .time + ticksOf (applied e s .answer)
-unfolding applied
-event-time e s = by-judged (λ (a : After). a .state .run .time ≡ s .run .time + ticksOf (a .answer)) (refused s) (checks e s) (effect e s)
-    (λ r. omega arith) (λ c. gains e s)
+event-time e s = by-applied (λ (a : After). a .state .run .time ≡ s .run .time + ticksOf (a .answer)) e s (λ r. omega arith) (λ c. gains e s)
 
 pub ticks-are-time : TicksAreTime
 unfolding after ticksDone

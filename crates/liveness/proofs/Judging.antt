@@ -1,8 +1,8 @@
--- What a list of checks lets pass. Assumes nothing.
-use mathlib.Core.Path.{_≡_}
-use mathlib.Core.Bool.{Bool, _||_}
+-- What a list of checks lets pass, and those of an event. Assumes nothing.
+use mathlib.Core.Path.{_≡_, refl, ap}
+use mathlib.Core.Bool.{Bool, true, false, _||_, cond}
 use mathlib.Core.Logic.{⊎-elim}
-use mathlib.Core.List.{List, [], _∷_}
+use mathlib.Core.List.{List, [], _∷_, _++_}
 use Prim.Native.Nat.{ℕ, _≤_, _<_}
 use native.Mathlib.Omega.{arith}
 use lib.Dec.{T, leb, ltb, le→leb, lt→ltb}
@@ -10,8 +10,12 @@ use Rattle.base.specs.ScanLaws.{first-le}
 use Rattle.base.specs.Tests.{eq?, eq→eqb, or-left, or-right, or-cases, le?, by-cond}
 use Rattle.types.specs.declared.Plan.{Plan}
 use Rattle.types.specs.declared.Message.{Message}
-use Rattle.model.specs.State.{State}
-use Rattle.model.specs.Checks.{Check, judged, namedOutside, isAt, placeOf, notHeld}
+use Rattle.types.specs.declared.Event.{Event}
+use Rattle.types.specs.declared.Event.the-variants.{Deliver, Sign, Show, Settle, Tick}
+use Rattle.types.specs.Messages.{lacksForm}
+use Rattle.model.specs.State.{State, After, refused}
+use Rattle.model.specs.Checks.{Check, judged, unsound, namedOutside, isAt, placeOf, notHeld}
+use Rattle.model.specs.Events.{inputChecks, changeChecks, checks, effect, applied}
 
 -- none of the checks refuses
 abbrev pub Passes : List Check → Type 0
@@ -38,6 +42,63 @@ pub by-judged {κ} : {A : Type 0} (Q : A → Type κ) (refusal : ℕ → A) (cs 
     → Q (judged refusal cs a)
 by-judged Q refusal cs a f g = by-judged-each Q refusal cs a (all-refusals (λ r. Q (refusal r)) cs f) g
 
+-- ---- checks behind checks
+
+pub judged-both : {A : Type 0} (refusal : ℕ → A) (xs ys : List Check) (a : A) → judged refusal (xs ++ ys) a ≡ judged refusal xs (judged refusal ys a)
+judged-both refusal [] ys a = refl
+judged-both refusal (x ∷ xs) ys a = ap (λ b. cond (x .1) (refusal (x .0)) b) (judged-both refusal xs ys a)
+
+pub passes-both : (xs ys : List Check) → Passes (xs ++ ys) → Passes xs × Passes ys
+passes-both [] ys c = (tt, c)
+passes-both (x ∷ xs) ys c = let b = passes-both xs ys (c .1) in ((c .0, b .0), b .1)
+
+-- ---- the checks of an event
+
+-- none of them refuses
+pub record Passed (e : Event) (s : State) : Type 0 where
+  pub form : T (lacksForm e) → ⊥
+  pub sound : T (unsound s) → ⊥
+  pub input : Passes (inputChecks e s)
+  pub outcome : Passes (changeChecks e s)
+
+pub passed : (e : Event) (s : State) → Passes (checks e s) → Passed e s
+unfolding checks
+passed e s c =
+    let b = passes-both (inputChecks e s) (changeChecks e s) (c .1 .1) in
+    record { form = c .0; sound = c .1 .0; input = b .0; outcome = b .1 }
+
+-- what holds of the refusals, and of its effect where none refuses, holds of an event
+pub by-applied {κ} : (Q : After → Type κ) (e : Event) (s : State) → ((r : ℕ) → Q (refused s r)) → (Passed e s → Q (effect e s)) → Q (applied e s)
+unfolding applied
+by-applied Q e s f g = by-judged Q (refused s) (checks e s) (effect e s) f (λ c. g (passed e s c))
+
+-- the same by the check that refuses: 1, 9, or a later one
+pub by-applied-each {κ} : (Q : After → Type κ) (e : Event) (s : State) → (T (lacksForm e) → Q (refused s 1)) → (T (unsound s) → Q (refused s 9))
+    → ((r : ℕ) → 9 < r → Q (refused s r)) → (Passed e s → Q (effect e s)) → Q (applied e s)
+unfolding applied checks
+by-applied-each Q e s one nine later g = by-judged-each Q (refused s) (checks e s) (effect e s) (one, (nine, others e)) (λ c. g (passed e s c))
+  where
+    others : (d : Event) → Refusals (λ r. Q (refused s r)) (inputChecks d s ++ changeChecks d s)
+    others (Deliver m) = (
+      λ t. later 10 (omega arith),
+      (λ t. later 11 (omega arith), (λ t. later 13 (omega arith), (λ t. later 17 (omega arith), (λ t. later 18 (omega arith), tt)))),
+    )
+    others (Sign m) = (
+      λ t. later 10 (omega arith),
+      (λ t. later 11 (omega arith), (λ t. later 12 (omega arith), (λ t. later 17 (omega arith), (λ t. later 18 (omega arith), tt)))),
+    )
+    others (Show m) = (
+      λ t. later 10 (omega arith),
+      (
+        λ t. later 11 (omega arith),
+        (λ t. later 12 (omega arith), (λ t. later 14 (omega arith), (λ t. later 17 (omega arith), (λ t. later 18 (omega arith), tt)))),
+      ),
+    )
+    others Settle = (λ t. later 15 (omega arith), tt)
+    others (Tick m) = tt
+
+-- ---- single checks
+
 -- check 10 passed
 pub named-within : (plan : Plan) (p w : ℕ) → (T (namedOutside plan p w) → ⊥) → (p < plan .n) × (w < plan .views)
 named-within plan p w no' = (
@@ -59,6 +120,11 @@ neither a b no' = (λ x. no' (or-left a b x), λ x. no' (or-right a b x))
 
 pub nor : (a b : Bool) → (T a → ⊥) → (T b → ⊥) → T (a || b) → ⊥
 nor a b f g t = ⊎-elim f g (or-cases a b t)
+
+pub or-none : (a b : Bool) → (T b → ⊥) → (a || b) ≡ a
+or-none true b f = refl
+or-none false true f = absurd (f tt)
+or-none false false f = refl
 
 pub not-ltb : (a b : ℕ) → (T (ltb a b) → ⊥) → b ≤ a
 not-ltb a b no' = ⊎-elim (λ (l : b ≤ a). l) (λ (l : a < b). absurd (no' (lt→ltb a b l))) (le? b a)

@@ -1,15 +1,16 @@
 -- What ties a run and its lent buffers to a state of the protocol: the network's words to the messages in flight, and clocks, views and
 -- tally to processors and tally. Assumes nothing.
-use mathlib.Core.Path.{_≡_, refl, ap, _∙_}
+use mathlib.Core.Path.{_≡_, refl, ap, _∙_, subst}
 use mathlib.Core.Bool.{Bool, true, false, not, _&&_}
-use mathlib.Core.Logic.{_⊎_, ⊎-elim}
+use mathlib.Core.Logic.{⊎-elim}
 use mathlib.Core.List.{List, _∷_, _++_}
 use Prim.Native.Nat.{ℕ, _+_, _-_, _*_, _%_, _^_, _≤_, _<_}
 use native.Mathlib.Omega.{arith}
-use lib.Dec.{T, ltb, eqb→eq, ltb→lt, lt→ltb}
+use lib.Dec.{T, leb, ltb, eqb→eq, le→leb, ltb→lt, lt→ltb}
 use lib.ListN.{length, getD, length-append}
-use Rattle.base.specs.Tests.{T-left, T-true, le?, eq→eqb}
+use Rattle.base.specs.Tests.{T-left, T-and, T-true, le?, eq→eqb}
 use Rattle.base.specs.Count.{count, count-ext, count-both}
+use Rattle.base.specs.ScanLaws.{some-by, first-at}
 use Rattle.base.specs.Sets.{member, size}
 use Rattle.base.specs.SetLaws.{size-count}
 use Rattle.protocol.specs.Params as proto
@@ -17,12 +18,15 @@ use Rattle.protocol.specs.Params.{Params}
 use Rattle.protocol.specs.State.{Processors, Tally, Flight, Starts}
 use Rattle.types.specs.declared.Plan.{Plan}
 use Rattle.types.specs.declared.Message.{Message}
+use Rattle.types.specs.declared.Run.{Run}
 use Rattle.types.specs.Quantities.{deltaLeast, gammaLeast, nLeast, nMost, viewsLeast, rowWords, messageWords, tolerated, perLeader, turnStart, lead, initial, nextInitial, clockTime, endTime, correct}
 use Rattle.types.proofs.PlanLaws.{per-leader-positive}
-use Rattle.model.specs.State.{enteredWord, heardWord, marksWord, markBit, word, posted, removed, capacity}
-use Rattle.model.specs.Moves.{certificate}
-use Rattle.liveness.proofs.Flight.{sentAs, Sent, In, laid, stamped, length-laid, length-stamped, posted-laid, removed-laid, Found, length-removed}
+use Rattle.model.specs.State.{State, isCorrect, enteredWord, heardWord, marksWord, markBit, word, posted, removed, capacity}
+use Rattle.model.specs.Moves.{Change, certificate}
+use Rattle.model.specs.Checks.{isAt, placeOf, notHeld, reachesEnd}
+use Rattle.liveness.proofs.Flight.{sentAs, Sent, In, laid, stamped, length-laid, length-stamped, posted-laid, removed-laid, Found, found-at, rest, length-removed}
 use Rattle.liveness.proofs.Sending.{signature, At}
+use Rattle.liveness.proofs.Judging.{place-inside}
 
 -- ---- the plan as the protocol's parameters
 
@@ -137,10 +141,7 @@ module _ {ws : List ℕ} {held : ℕ} {xs : List Sent} (wire : Wire ws held xs) 
         ∙ omega (arith, length-append xs (stamped now ms), length-stamped now ms, wire-length, wire .number, wire-room)
 
   module _ {m : Message} {i : ℕ} (found : Found xs m i) where
-    abbrev pub rest : List Sent
-    rest = found .ahead ++ found .behind
-
-    pub wire-removed : Wire (removed ws held i) (held - 1) rest
+    pub wire-removed : Wire (removed ws held i) (held - 1) (rest found)
     wire-removed = record {
       spare = messageWords + wire .spare;
       words =
@@ -160,6 +161,13 @@ module _ {ws : List ℕ} {held : ℕ} {xs : List Sent} (wire : Wire ws held xs) 
     length-without = length-removed ws held i
         (omega (arith, wire .number, found .place, ap length (found .split), length-append (found .ahead) (sentAs m (found .time) ∷ found .behind)))
         (omega (arith, wire-length))
+
+-- a held message is found in flight
+pub wire-found : (s : State) {xs : List Sent} → Wire (s .network) (s .run .held) xs → (m : Message) → (T (notHeld s m) → ⊥) → Found xs m (placeOf s m)
+wire-found s {xs} wire m is-held =
+    let inside : placeOf s m < s .run .held = place-inside s m is-held in
+    found-at xs (wire .spare) m (placeOf s m) (omega (arith, wire .number))
+    (subst (λ (l : List ℕ). T (isAt l m (placeOf s m))) (wire .words) (first-at (isAt (s .network) m) (s .run .held) inside))
 
 -- ---- clocks, views and tally
 
@@ -181,3 +189,13 @@ Ready plan faulty clocks views = (p : ℕ) → T (correct plan faulty p) → get
 
 abbrev pub Below : Plan → ℕ → List ℕ → Type 0
 Below plan faulty clocks = (p : ℕ) → T (correct plan faulty p) → getD clocks p 0 < endTime plan
+
+-- check 17 passed
+pub not-ended : (r : Run) (c : Change) → (T (reachesEnd r c) → ⊥) → Below (r .plan) (r .faulty) (c .clocks)
+unfolding reachesEnd
+not-ended r c no' p i = ⊎-elim
+    (λ (l : endTime (r .plan) ≤ getD (c .clocks) p 0).
+    absurd (no' (some-by (λ q. isCorrect r q && leb (endTime (r .plan)) (getD (c .clocks) q 0)) (r .plan .n) p (correct-below (r .plan) (r .faulty) p i)
+    (T-and (isCorrect r p) _ i (le→leb _ _ l)))))
+    (λ l. l)
+    (le? (endTime (r .plan)) (getD (c .clocks) p 0))

@@ -1,14 +1,13 @@
 -- The mark of a quorum certificate turns only where rule 5 forms it. Assumes nothing.
 use mathlib.Core.Path.{_≡_, sym, subst}
-use mathlib.Core.Bool.{Bool, true, false, not, _&&_, _||_}
-use mathlib.Core.Logic.{_⊎_, ⊎-elim}
+use mathlib.Core.Bool.{Bool, true, false, not, _&&_}
+use mathlib.Core.Logic.{⊎-elim}
 use mathlib.Core.List.{List, [], _∷_}
 use Prim.Native.Nat.{ℕ, zero, suc, _*_, _≤_, _<_}
 use native.Mathlib.Omega.{arith}
-use lib.Dec.{T, eqb, leb, ltb, eqb→eq, T-not, not-T}
+use lib.Dec.{T, eqb, leb, eqb→eq, T-not, not-T}
 use lib.ListN.{length}
-use Rattle.base.specs.Tests.{passes?, T-left, T-right, T-and, T-iff, or-left, or-right, not-not, eq→eqb, by-cond}
-use Rattle.base.specs.ScanLaws.{first-at}
+use Rattle.base.specs.Tests.{passes?, T-left, T-right, T-and, T-iff, or-left, or-right, eq→eqb, by-cond}
 use Rattle.base.specs.Sets.{member, insert, size}
 use Rattle.base.specs.SetLaws.{member-insert}
 use Rattle.types.specs.declared.Message.{Message}
@@ -18,15 +17,16 @@ use Rattle.types.specs.declared.Event.the-variants.{Deliver, Sign, Show, Settle
 use Rattle.types.specs.declared.Run.{Run}
 use Rattle.types.specs.Quantities.{rowWords, lead}
 use Rattle.types.specs.Messages.{voteStage, kindOf, viewIn, processorIn, addressee}
-use Rattle.model.specs.State.{State, After, isCorrect, viewOf, enteredWord, heardWord, marksWord, markBit, slot, word, added, kindAt, viewAt, processorAt, sentAt, checkOf, accepted, refused}
+use Rattle.model.specs.State.{State, After, isCorrect, viewOf, enteredWord, heardWord, marksWord, markBit, slot, word, added, checkOf, accepted, refused}
 use Rattle.model.specs.Moves.{Change, changed, still, Entry, stay, into, byView, byQuorum, needed, forms, ripe, entering, taking, entries, hearing, handling, advanced, arrival, arrivals, made}
-use Rattle.model.specs.Checks.{isAt, placeOf, notHeld, limitsBroken, messageUnsound, unsound}
-use Rattle.model.specs.Events.{without, delivering, signing, nowSettled, tickChecks, tickOnce, continued, ticks, tickRun, checks, effect, applied}
+use Rattle.model.specs.Checks.{notHeld, limitsBroken, unsound}
+use Rattle.model.specs.Events.{without, delivering, signing, nowSettled, tickChecks, tickOnce, continued, ticks, tickRun, effect, applied}
 use Rattle.model.specs.Lists.{after, formsQuorum, formedIn, formedDuring}
 use Rattle.liveness.specs.Promises.{quorumMark, MarksAreFormed}
 use Rattle.liveness.proofs.TallyLaws.{heard-low, length-added, added-same, added-only}
 use Rattle.liveness.proofs.Soundness.{sound-of, rows-long}
-use Rattle.liveness.proofs.Judging.{place-inside, named-within, Passes, by-judged}
+use Rattle.liveness.proofs.Carrying.{carried-of, held-addressed}
+use Rattle.liveness.proofs.Judging.{named-within, Passed, by-judged, by-applied}
 
 -- the mark of w's quorum certificate
 abbrev pub Marked : List ℕ → ℕ → Type 0
@@ -77,26 +77,9 @@ ticks-mark (suc m) s w x = go (checkOf (tickOnce s .answer)) (λ y. once-mark s 
 
 -- ---- a vote that is delivered was for a correct leader
 
-module _ (s : State) (m : Message) (sound : T (unsound s) → ⊥) (is-held : T (notHeld s m) → ⊥) where
-  pub addressed : T (isCorrect (s .run) (addressee (s .run .plan) (kindOf m) (viewIn m) (processorIn m)))
-  unfolding messageUnsound
-  addressed =
-      let i : ℕ = placeOf s m in
-      let inside : placeOf s m < s .run .held = place-inside s m is-held in
-      let t : T (isAt (s .network) m i) = first-at (isAt (s .network) m) (s .run .held) inside in
-      let both = T-left (eqb (kindAt (s .network) i) (kindOf m) && eqb (viewAt (s .network) i) (viewIn m)) _ t in
-      let kind : kindAt (s .network) i ≡ kindOf m = eqb→eq _ _ (T-left (eqb (kindAt (s .network) i) (kindOf m)) _ both) in
-      let view : viewAt (s .network) i ≡ viewIn m = eqb→eq _ _ (T-right (eqb (kindAt (s .network) i) (kindOf m)) _ both) in
-      let processor : processorAt (s .network) i ≡ processorIn m = eqb→eq _ _
-      (T-right (eqb (kindAt (s .network) i) (kindOf m) && eqb (viewAt (s .network) i) (viewIn m)) _ t) in
-      let k1 : Bool = ltb (kindAt (s .network) i) 1 in
-      let k2 : Bool = ltb 4 (kindAt (s .network) i) in
-      let v : Bool = leb (s .run .plan .views) (viewAt (s .network) i) in
-      let p : Bool = leb (s .run .plan .n) (processorAt (s .network) i) in
-      let to : Bool = isCorrect (s .run) (addressee (s .run .plan) (kindAt (s .network) i) (viewAt (s .network) i) (processorAt (s .network) i)) in
-      let time : Bool = ltb (s .run .time) (sentAt (s .network) i) in
-      rw (kind, view, processor) at (not-not to (λ x. sound-of s sound .messages (placeOf s m) inside
-      (or-right (k1 || k2) (v || p || not to || time) (or-left (v || p || not to) time (or-right (v || p) (not to) x)))))
+pub addressed : (s : State) (m : Message) → (T (unsound s) → ⊥) → (T (notHeld s m) → ⊥)
+    → T (isCorrect (s .run) (addressee (s .run .plan) (kindOf m) (viewIn m) (processorIn m)))
+addressed s m sound is-held = held-addressed s (carried-of s (sound-of s sound)) m is-held .to-correct
 
 -- ---- each event
 
@@ -112,44 +95,45 @@ vote-mark q r t v p w no' led x =
     )
 
 module _ (s : State) (w : ℕ) (no' : Marked (s .tally) w → ⊥) where
-  delivered-mark : (m : Message) → Passes (checks (Deliver m) s) → Marked (delivering s m .tally) w → T (formsQuorum (s .run) (s .tally) m w)
-  unfolding checks delivering without handling ripe
-  delivered-mark (View v p) c x = absurd (vote-mark false (without s (View v p) .run) (s .tally) v p w no' (addressed s (View v p) (c .0) (c .1 .1 .1 .0)) x .0)
-  delivered-mark (Vote v p) c x = vote-mark true (without s (Vote v p) .run) (s .tally) v p w no' (addressed s (Vote v p) (c .0) (c .1 .1 .1 .0)) x .1
+  delivered-mark : (m : Message) → Passed (Deliver m) s → Marked (delivering s m .tally) w → T (formsQuorum (s .run) (s .tally) m w)
+  unfolding delivering without handling ripe
+  delivered-mark (View v p) c x =
+      absurd (vote-mark false (without s (View v p) .run) (s .tally) v p w no' (addressed s (View v p) (c .sound) (c .input .1 .1 .0)) x .0)
+  delivered-mark (Vote v p) c x = vote-mark true (without s (Vote v p) .run) (s .tally) v p w no' (addressed s (Vote v p) (c .sound) (c .input .1 .1 .0)) x .1
   delivered-mark (Vc v p) c x = absurd (no' (entry-mark (without s (Vc v p) .run) (s .tally) p (byView (s .run .plan) (viewOf (s .run) p) v) w x))
   delivered-mark (Qc v p) c x = absurd (no' (entry-mark (without s (Qc v p) .run) (s .tally) p (byQuorum (viewOf (s .run) p) v) w x))
 
-  signed-mark : (m : Message) → Passes (checks (Sign m) s) → Marked (signing s m .tally) w → T (formsQuorum (s .run) (s .tally) m w)
-  unfolding checks signing handling
+  signed-mark : (m : Message) → Passed (Sign m) s → Marked (signing s m .tally) w → T (formsQuorum (s .run) (s .tally) m w)
+  unfolding signing handling
   signed-mark (View v p) c = by-cond (λ (d : Change). Marked (d .tally) w → ⊥) (isCorrect (s .run) (lead (s .run .plan) v))
       (hearing false (s .run) (s .tally) v p) (still (s .run) (s .tally))
       (λ l x. vote-mark false (s .run) (s .tally) v p w no' l x .0) (λ l x. no' x)
   signed-mark (Vote v p) c = by-cond (λ (d : Change). Marked (d .tally) w → T (formsQuorum (s .run) (s .tally) (Vote v p) w))
       (isCorrect (s .run) (lead (s .run .plan) v)) (hearing true (s .run) (s .tally) v p) (still (s .run) (s .tally))
       (λ l x. vote-mark true (s .run) (s .tally) v p w no' l x .1) (λ l x. absurd (no' x))
-  signed-mark (Vc v p) c = absurd (c .0 tt)
-  signed-mark (Qc v p) c = absurd (c .0 tt)
+  signed-mark (Vc v p) c = absurd (c .form tt)
+  signed-mark (Qc v p) c = absurd (c .form tt)
 
-  shown-mark : (m : Message) → Passes (checks (Show m) s) → Marked (handling (s .run) (s .tally) m .tally) w → ⊥
-  unfolding checks handling
-  shown-mark (View v p) c x = c .0 tt
-  shown-mark (Vote v p) c x = c .0 tt
+  shown-mark : (m : Message) → Passed (Show m) s → Marked (handling (s .run) (s .tally) m .tally) w → ⊥
+  unfolding handling
+  shown-mark (View v p) c x = c .form tt
+  shown-mark (Vote v p) c x = c .form tt
   shown-mark (Vc v p) c x = no' (entry-mark (s .run) (s .tally) p (byView (s .run .plan) (viewOf (s .run) p) v) w x)
   shown-mark (Qc v p) c x = no' (entry-mark (s .run) (s .tally) p (byQuorum (viewOf (s .run) p) v) w x)
 
 turned-formed : (s : State) (e : Event) (w : ℕ) → (Marked (s .tally) w → ⊥) → Marked (applied e s .state .tally) w → T (formedIn e s w)
-unfolding applied effect formedIn made nowSettled tickRun
-turned-formed s (Deliver m) w no' = by-judged (λ (a : After). Marked (a .state .tally) w
-    → T (accepted (a .answer) && formsQuorum (s .run) (s .tally) m w)) (refused s) (checks (Deliver m) s) (effect (Deliver m) s)
+unfolding effect formedIn made nowSettled tickRun
+turned-formed s (Deliver m) w no' = by-applied (λ (a : After). Marked (a .state .tally) w
+    → T (accepted (a .answer) && formsQuorum (s .run) (s .tally) m w)) (Deliver m) s
     (λ r x. absurd (no' x)) (λ c x. delivered-mark s w no' m c x)
-turned-formed s (Sign m) w no' = by-judged (λ (a : After). Marked (a .state .tally) w
-    → T (accepted (a .answer) && formsQuorum (s .run) (s .tally) m w)) (refused s) (checks (Sign m) s) (effect (Sign m) s)
+turned-formed s (Sign m) w no' = by-applied (λ (a : After). Marked (a .state .tally) w
+    → T (accepted (a .answer) && formsQuorum (s .run) (s .tally) m w)) (Sign m) s
     (λ r x. absurd (no' x)) (λ c x. signed-mark s w no' m c x)
-turned-formed s (Show m) w no' = by-judged (λ (a : After). Marked (a .state .tally) w → ⊥) (refused s) (checks (Show m) s) (effect (Show m) s)
+turned-formed s (Show m) w no' = by-applied (λ (a : After). Marked (a .state .tally) w → ⊥) (Show m) s
     (λ r x. no' x) (λ c x. shown-mark s w no' m c x)
-turned-formed s Settle w no' = by-judged (λ (a : After). Marked (a .state .tally) w → ⊥) (refused s) (checks Settle s) (effect Settle s)
+turned-formed s Settle w no' = by-applied (λ (a : After). Marked (a .state .tally) w → ⊥) Settle s
     (λ r x. no' x) (λ c x. no' x)
-turned-formed s (Tick m) w no' = by-judged (λ (a : After). Marked (a .state .tally) w → ⊥) (refused s) (checks (Tick m) s) (effect (Tick m) s)
+turned-formed s (Tick m) w no' = by-applied (λ (a : After). Marked (a .state .tally) w → ⊥) (Tick m) s
     (λ r x. no' x) (λ c x. no' (ticks-mark m s w x))
 
 -- ---- and where rule 5 forms it, the mark turns
@@ -182,27 +166,27 @@ formed-turned s r v p w limits low e f = (fresh, by-cond (λ (l : List ℕ). Mar
         (subst (λ (u : ℕ). Marked (s .tally) u) (sym e) x)
 
 module _ (s : State) (w : ℕ) where
-  delivered-turned : (m : Message) → Passes (checks (Deliver m) s) → T (formsQuorum (s .run) (s .tally) m w)
+  delivered-turned : (m : Message) → Passed (Deliver m) s → T (formsQuorum (s .run) (s .tally) m w)
       → (Marked (s .tally) w → ⊥) × Marked (delivering s m .tally) w
-  unfolding checks delivering without handling ripe
+  unfolding delivering without handling ripe
   delivered-turned (View v p) c x = absurd x
   delivered-turned (Vote v p) c x =
       let e : v ≡ w = eqb→eq v w (T-left (eqb v w) _ (T-left (eqb v w && isCorrect (s .run) (lead (s .run .plan) w)) _ x)) in
-      formed-turned s (without s (Vote v p) .run) v p w (sound-of s (c .0) .limits) (named-within (s .run .plan) p v (c .1 .0) .1) e
+      formed-turned s (without s (Vote v p) .run) v p w (sound-of s (c .sound) .limits) (named-within (s .run .plan) p v (c .input .0) .1) e
       (subst (λ (u : ℕ). T (forms voteStage (s .run) (s .tally) u p)) (sym e) (T-right (eqb v w && isCorrect (s .run) (lead (s .run .plan) w)) _ x))
   delivered-turned (Vc v p) c x = absurd x
   delivered-turned (Qc v p) c x = absurd x
 
-  signed-turned : (m : Message) → Passes (checks (Sign m) s) → T (formsQuorum (s .run) (s .tally) m w)
+  signed-turned : (m : Message) → Passed (Sign m) s → T (formsQuorum (s .run) (s .tally) m w)
       → (Marked (s .tally) w → ⊥) × Marked (signing s m .tally) w
-  unfolding checks signing handling
+  unfolding signing handling
   signed-turned (View v p) c x = absurd x
   signed-turned (Vote v p) c x =
       let both = T-left (eqb v w && isCorrect (s .run) (lead (s .run .plan) w)) _ x in
       let e : v ≡ w = eqb→eq v w (T-left (eqb v w) _ both) in
       by-cond (λ (d : Change). (Marked (s .tally) w → ⊥) × Marked (d .tally) w) (isCorrect (s .run) (lead (s .run .plan) v))
       (hearing voteStage (s .run) (s .tally) v p) (still (s .run) (s .tally))
-      (λ l. formed-turned s (s .run) v p w (sound-of s (c .1 .0) .limits) (named-within (s .run .plan) p v (c .1 .1 .0) .1) e
+      (λ l. formed-turned s (s .run) v p w (sound-of s (c .sound) .limits) (named-within (s .run .plan) p v (c .input .0) .1) e
       (subst (λ (u : ℕ). T (forms voteStage (s .run) (s .tally) u p)) (sym e) (T-right (eqb v w && isCorrect (s .run) (lead (s .run .plan) w)) _ x)))
       (λ l. absurd (l (subst (λ (u : ℕ). T (isCorrect (s .run) (lead (s .run .plan) u))) (sym e) (T-right (eqb v w) _ both))))
   signed-turned (Vc v p) c x = absurd x
@@ -212,12 +196,12 @@ module _ (s : State) (w : ℕ) where
   turn t x = T-and (not (quorumMark (s .tally) w)) _ (not-T (quorumMark (s .tally) w) (x .0)) (x .1)
 
 formed-turns : (s : State) (e : Event) (w : ℕ) → T (formedIn e s w) → T (not (quorumMark (s .tally) w) && quorumMark (applied e s .state .tally) w)
-unfolding applied effect formedIn made
-formed-turns s (Deliver m) w = by-judged (λ (a : After). T (accepted (a .answer) && formsQuorum (s .run) (s .tally) m w)
-    → T (not (quorumMark (s .tally) w) && quorumMark (a .state .tally) w)) (refused s) (checks (Deliver m) s) (effect (Deliver m) s)
+unfolding effect formedIn made
+formed-turns s (Deliver m) w = by-applied (λ (a : After). T (accepted (a .answer) && formsQuorum (s .run) (s .tally) m w)
+    → T (not (quorumMark (s .tally) w) && quorumMark (a .state .tally) w)) (Deliver m) s
     (λ r x. absurd x) (λ c x. turn s w (delivering s m .tally) (delivered-turned s w m c x))
-formed-turns s (Sign m) w = by-judged (λ (a : After). T (accepted (a .answer) && formsQuorum (s .run) (s .tally) m w)
-    → T (not (quorumMark (s .tally) w) && quorumMark (a .state .tally) w)) (refused s) (checks (Sign m) s) (effect (Sign m) s)
+formed-turns s (Sign m) w = by-applied (λ (a : After). T (accepted (a .answer) && formsQuorum (s .run) (s .tally) m w)
+    → T (not (quorumMark (s .tally) w) && quorumMark (a .state .tally) w)) (Sign m) s
     (λ r x. absurd x) (λ c x. turn s w (signing s m .tally) (signed-turned s w m c x))
 formed-turns s (Show m) w = λ x. absurd x
 formed-turns s Settle w = λ x. absurd x

@@ -1,8 +1,10 @@
 -- The promises of specs/Promises.antt, proved: those of any run are passed on from the files that show them. Assumes nothing.
 pub use Rattle.liveness.proofs.History.{list-law, ticks-are-time, ticks-add}
-pub use Rattle.liveness.proofs.Answers.{ticks-answered, refused-stays, refused-opening-stays}
+pub use Rattle.liveness.proofs.Answers.{ticks-answered, answers-told, refused-stays, refused-opening-stays}
 pub use Rattle.liveness.proofs.Alike.{opens-alike}
 pub use Rattle.liveness.proofs.Settling.{settled-since}
+pub use Rattle.liveness.proofs.Soundness.{unsound-parts}
+pub use Rattle.liveness.proofs.Keeping.{events-last}
 pub use Rattle.liveness.proofs.Marks.{marks-are-formed}
 use mathlib.Core.Path.{_≡_, refl, sym, ap, _∙_, subst}
 use mathlib.Core.Bool.{Bool, true, false, _&&_, cond}
@@ -32,14 +34,14 @@ use Rattle.types.specs.Quantities.{perLeader, tolerated, lead, correct}
 use Rattle.model.specs.State.{State, After, clockOf, viewOf, checkOf, accepted, refused, done}
 use Rattle.model.specs.Checks.{supporting, tooFarAhead, unsound}
 use Rattle.model.specs.Opening.{opened, openingChecks, opening}
-use Rattle.model.specs.Events.{nowSettled, ticks, tickRun, checks, effect, applied}
+use Rattle.model.specs.Events.{nowSettled, ticks, tickRun, effect, applied}
 use Rattle.model.specs.Processors.{Moved, clockAt, entryBy, moving-check, movingBy, stepChecks, refusing, stepped}
 use Rattle.model.specs.Lists.{after, ClockCondition, Since, since, sinceSettling, ticksDone, ticksSince, formedSince}
 use Rattle.liveness.specs.Promises.{settlingBound, Certified, DemandThree, StaysSound, OpeningReaches, EventReaches, ReachableSound, StaysSame, NeverBack, RefusedProcessorStays}
 use Rattle.liveness.specs.Live.{setup, unopened, events, past-bound, opening-accepted}
 use Rattle.liveness.proofs.Link.{Planned, params, correct-count, third}
 use Rattle.liveness.proofs.Tracks.{Tracked, Leads, stays, leads-on}
-use Rattle.liveness.proofs.Judging.{Passes, by-judged, by-judged-each}
+use Rattle.liveness.proofs.Judging.{Passes, by-judged, by-applied, by-applied-each}
 use Rattle.liveness.proofs.Events.{at-own-plan, event-leads}
 use Rattle.liveness.proofs.Opens.{planned, opened-tracked, opened-lengths}
 use Rattle.liveness.proofs.Sound.{tracked-sound}
@@ -124,11 +126,11 @@ module _ (plan : Plan) (faulty : ℕ) (ok : Planned plan faulty) where
   }
 
   follows-event : (e : Event) (s : State) → Tracked plan faulty ok s → Follows s (applied e s .state)
-  unfolding applied effect nowSettled
+  unfolding effect nowSettled
   follows-event (Deliver m) s x = follows-leads s x _ (event-leads plan faulty ok (Deliver m) tt s x)
   follows-event (Sign m) s x = follows-leads s x _ (event-leads plan faulty ok (Sign m) tt s x)
   follows-event (Show m) s x = follows-leads s x _ (event-leads plan faulty ok (Show m) tt s x)
-  follows-event Settle s x = by-judged (λ (a : After). Follows s (a .state)) (refused s) (checks Settle s) (effect Settle s) (λ r. follows-none s x)
+  follows-event Settle s x = by-applied (λ (a : After). Follows s (a .state)) Settle s (λ r. follows-none s x)
       (λ c. record { tracked = settled-tracked s x; tally-length = refl; network-length = refl; view-up = λ p d. omega arith; clock-up = λ p d. omega arith })
   follows-event (Tick m) s x = follows-leads s x _ (event-leads plan faulty ok (Tick m) tt s x)
 
@@ -142,12 +144,11 @@ module _ (plan : Plan) (faulty : ℕ) (ok : Planned plan faulty) where
 
   -- from a settled run every event, a second settle among them, is a run of the protocol
   leads-settled : (e : Event) (s : State) (x : Tracked plan faulty ok s) → T (s .run .settled) → Leads plan faulty ok s x (applied e s .state)
-  unfolding applied effect checks
   leads-settled (Deliver m) s x z = event-leads plan faulty ok (Deliver m) tt s x
   leads-settled (Sign m) s x z = event-leads plan faulty ok (Sign m) tt s x
   leads-settled (Show m) s x z = event-leads plan faulty ok (Show m) tt s x
-  leads-settled Settle s x z = by-judged (λ (a : After). Leads plan faulty ok s x (a .state)) (refused s) (checks Settle s) (effect Settle s)
-      (λ r. stays plan faulty ok s x) (λ c. absurd (c .1 .0 z))
+  leads-settled Settle s x z = by-applied (λ (a : After). Leads plan faulty ok s x (a .state)) Settle s (λ r. stays plan faulty ok s x)
+      (λ c. absurd (c .input .0 z))
   leads-settled (Tick m) s x z = event-leads plan faulty ok (Tick m) tt s x
 
   leads-all : (es : List Event) (s : State) (x : Tracked plan faulty ok s) → T (s .run .settled) → Leads plan faulty ok s x (after s es)
@@ -285,28 +286,18 @@ stays-same u before t es =
     lengths = subst (λ (s : State). (length (s .tally) ≡ length (before .tally)) × (length (s .network) ≡ length (before .network)))
         (sym (opened-so u before t .1)) (opened-lengths u before (c₀ u before t))
 
+effect-not-nine : (e : Event) (s : State) → checkOf (effect e s .answer) ≢ 9
+unfolding effect tickRun
+effect-not-nine (Deliver m) s = omega arith
+effect-not-nine (Sign m) s = omega arith
+effect-not-nine (Show m) s = omega arith
+effect-not-nine Settle s = omega arith
+effect-not-nine (Tick m) s = subst (λ (k : ℕ). k ≢ 9) (sym (answered-check (ticks m s))) (ticks-not-nine m s)
+
 -- no event of a sound run is answered by check 9
 not-nine : (e : Event) (s : State) → (T (unsound s) → ⊥) → checkOf (applied e s .answer) ≢ 9
-unfolding applied checks effect tickRun
-not-nine (Deliver m) s no' = by-judged-each (λ (a : After). checkOf (a .answer) ≢ 9) (refused s) (checks (Deliver m) s) (effect (Deliver m) s)
-    (λ t. absurd (no' t), (λ t. omega arith, (λ t. omega arith, (λ t. omega arith, (λ t. omega arith, (λ t. omega arith, tt)))))) (λ c. omega arith)
-not-nine (Sign m) s no' = by-judged-each (λ (a : After). checkOf (a .answer) ≢ 9) (refused s) (checks (Sign m) s) (effect (Sign m) s)
-    (λ t. omega arith, (λ t. absurd (no' t), (λ t. omega arith, (λ t. omega arith, (λ t. omega arith, (λ t. omega arith, (λ t. omega arith, tt)))))))
-    (λ c. omega arith)
-not-nine (Show m) s no' = by-judged-each (λ (a : After). checkOf (a .answer) ≢ 9) (refused s) (checks (Show m) s) (effect (Show m) s) (
-  λ t. omega arith,
-  (
-    λ t. absurd (no' t),
-    (
-      λ t. omega arith,
-      (λ t. omega arith, (λ t. omega arith, (λ t. omega arith, (λ t. omega arith, (λ t. omega arith, tt))))),
-    ),
-  ),
-) (λ c. omega arith)
-not-nine Settle s no' = by-judged-each (λ (a : After). checkOf (a .answer) ≢ 9) (refused s) (checks Settle s) (effect Settle s)
-    (λ t. absurd (no' t), (λ t. omega arith, tt)) (λ c. omega arith)
-not-nine (Tick m) s no' = by-judged-each (λ (a : After). checkOf (a .answer) ≢ 9) (refused s) (checks (Tick m) s) (effect (Tick m) s)
-    (λ t. omega arith, (λ t. absurd (no' t), tt)) (λ c. subst (λ (k : ℕ). k ≢ 9) (sym (answered-check (ticks m s))) (ticks-not-nine m s))
+not-nine e s no' = by-applied-each (λ (a : After). checkOf (a .answer) ≢ 9) e s
+    (λ t. omega arith) (λ t. absurd (no' t)) (λ r l. omega arith) (λ c. effect-not-nine e s)
 
 pub stays-sound : StaysSound
 stays-sound u before t es e =

@@ -3,12 +3,10 @@ use mathlib.Core.Path.{_≡_, refl, _∙_}
 use mathlib.Core.Bool.{Bool, true, false, _&&_, cond}
 use mathlib.Core.Logic.{_⊎_, inl, inr, ⊎-elim}
 use mathlib.Core.List.{List, [], _++_}
-use Prim.Native.Nat.{ℕ, _+_, _-_, _≤_, _<_}
+use Prim.Native.Nat.{ℕ, _≤_, _<_}
 use native.Mathlib.Omega.{arith}
-use native.Mathlib.Nat.{lt-of-mul-lt-mul-right}
 use lib.Dec.{T, leb, ltb, leb→le, le→leb, ltb→lt, lt→ltb}
 use lib.ListN.{length}
-use lib.Seq.{getD-set-same}
 use Rattle.base.specs.Members.{elem-left, elem-cases}
 use Rattle.base.specs.Tests.{T-right, T-and, le?, by-cond}
 use Rattle.protocol.specs.Params.{Params}
@@ -19,17 +17,18 @@ use Rattle.types.specs.declared.Plan.{Plan}
 use Rattle.types.specs.declared.Message.{Message}
 use Rattle.types.specs.declared.Message.the-variants.{Vc, Qc}
 use Rattle.types.specs.Quantities.{lead, initial}
-use Rattle.model.specs.State.{State, withHeld, clockOf, viewOf, isCorrect, enteredWord}
-use Rattle.model.specs.Moves.{Change, still, entryClock, Entry, stay, into, certificate, entering, taking, hearing, handling, made}
+use Rattle.model.specs.State.{State, withHeld, viewOf, isCorrect, enteredWord}
+use Rattle.model.specs.Moves.{Change, still, Entry, stay, into, certificate, entering, taking, hearing, handling, made}
 use Rattle.model.specs.Checks.{reachesEnd, overfull}
 use Rattle.liveness.proofs.TallyLaws.{length-added}
 use Rattle.liveness.proofs.Flight.{Sent, In, stamped, sentAs}
 use Rattle.liveness.proofs.Sending.{signature, apart, certificate-is, At}
-use Rattle.liveness.proofs.Link.{Planned, params, correct-below, to-starts, Wire, wire-posted, length-posted}
-use Rattle.liveness.proofs.Enters.{entrants, enter-books, enter-below, sent-to, entered, enter-ready, entry-max}
+use Rattle.liveness.proofs.Link.{Planned, params, to-starts, Wire, wire-posted, length-posted}
+use Rattle.liveness.proofs.Enters.{entrants, enter-books, sent-to, entered}
+use Rattle.liveness.proofs.Soundness.{Inside}
+use Rattle.liveness.proofs.Clocks.{view-low, entered-inside}
 use Rattle.liveness.proofs.Hears.{length-to, hearers, hear-books, sent-of, heard}
-use Rattle.liveness.proofs.Tracks.{Tracked, Leads, arrives}
-use Rattle.liveness.proofs.Ticks.{not-ended}
+use Rattle.liveness.proofs.Tracks.{Tracked, tracked-inside, Leads, arrives}
 
 module _ (s : State) (ok : Planned (s .run .plan) (s .run .faulty)) (x : Tracked (s .run .plan) (s .run .faulty) ok s) where
   abbrev plan : Plan
@@ -107,8 +106,7 @@ module _ (s : State) (ok : Planned (s .run .plan) (s .run .faulty)) (x : Tracked
           (wire-posted wire (s .run .time) _ fits)
           (enter-books (s₁ .run) (s .tally) ok (x .books) p u c low)
           (more none (enters p u (entered (s₁ .run) (s .tally) ok (x .books) p u c low (s .run .time) (x .messages) ys kept lost why)))
-          (enter-ready (s₁ .run) (s .tally) ok (x .books) p u c low (s .run .time) (x .messages) ys kept lost why (λ r i ne. x .ready r i) (inl (x .ready p c)))
-          (enter-below (s₁ .run) (s .tally) ok (x .books) p u c low (x .below))
+          (λ q cq. inside-to q cq .ready) (λ q cq. inside-to q cq .below)
           (length-added (s .tally) u enteredWord p)
           (length-posted wire (s .run .time) _ fits ∙ same-length)
         where
@@ -116,13 +114,12 @@ module _ (s : State) (ok : Planned (s .run .plan) (s .run .faulty)) (x : Tracked
           u = onward q w
 
           low : onward q w < plan .views
-          low = lt-of-mul-lt-mul-right (plan .gamma) (omega (
-            arith,
-            not-ended (s₁ .run) (taken (into (onward q w))) not-end p c,
-            getD-set-same (s .run .clocks) p (entryClock plan (clockOf (s .run) p) (onward q w)) 0
-                (omega (arith, correct-below plan faulty p c, x .books .clocks-long)),
-            entry-max plan (clockOf (s .run) p) (onward q w),
-          ))
+          low = view-low (s₁ .run) (s .tally) ok (x .books .clocks-long) (x .books .views-long) (tracked-inside plan faulty ok s x) p (onward q w) c
+              (omega arith) not-end
+
+          inside-to : Inside plan faulty (entering (s₁ .run) (s .tally) p (onward q w) .clocks) (entering (s₁ .run) (s .tally) p (onward q w) .views)
+          inside-to = entered-inside (s₁ .run) (s .tally) ok (x .books .clocks-long) (x .books .views-long) (tracked-inside plan faulty ok s x) p (onward q w) c
+              (omega arith) not-end
 
           lost : (m : Message) (t : ℕ) → In m t (x .messages) → In m t ys ⊎ ((d : Bool) × (v : ℕ) × (m ≡ certificate d v p) × (onward d v ≤ onward q w))
           lost m t i = ⊎-elim (λ y. inl y) (λ y. inr (q, w, y, omega arith)) (gone m t i)

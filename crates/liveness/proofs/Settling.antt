@@ -8,10 +8,10 @@ use Rattle.types.specs.declared.Event.{Event}
 use Rattle.types.specs.declared.Event.the-variants.{Deliver, Sign, Show, Settle, Tick}
 use Rattle.model.specs.State.{State, After, checkOf, accepted, refused}
 use Rattle.model.specs.Moves.{made}
-use Rattle.model.specs.Events.{without, nowSettled, tickChecks, tickOnce, continued, ticks, tickRun, checks, effect, applied}
+use Rattle.model.specs.Events.{without, nowSettled, tickChecks, tickOnce, continued, ticks, tickRun, effect, applied}
 use Rattle.model.specs.Lists.{after, since, sinceSettling, ticksDone}
 use Rattle.liveness.specs.Promises.{Settled, SettledSince}
-use Rattle.liveness.proofs.Judging.{by-judged}
+use Rattle.liveness.proofs.Judging.{by-judged, by-applied}
 use Rattle.liveness.proofs.Events.{Moving}
 use Rattle.liveness.proofs.History.{ticks-are-time}
 use Rattle.liveness.proofs.Answers.{no-yes, refused-stays}
@@ -42,17 +42,14 @@ alike-effect Settle v s = absurd v
 alike-effect (Tick m) v s = alike-ticks m s
 
 alike-event : (e : Event) → Moving e → (s : State) → Alike s (applied e s .state)
-unfolding applied
-alike-event e v s = by-judged (λ (a : After). Alike s (a .state)) (refused s) (checks e s) (effect e s) (λ r. (refl, refl)) (λ c. alike-effect e v s)
+alike-event e v s = by-applied (λ (a : After). Alike s (a .state)) e s (λ r. (refl, refl)) (λ c. alike-effect e v s)
 
 -- a settled run stays so, with the same settling time
 once-settled : (e : Event) (s : State) → s .run .settled ≡ true → Alike s (applied e s .state)
-unfolding applied checks
 once-settled (Deliver m) s z = alike-event (Deliver m) tt s
 once-settled (Sign m) s z = alike-event (Sign m) tt s
 once-settled (Show m) s z = alike-event (Show m) tt s
-once-settled Settle s z = by-judged (λ (a : After). Alike s (a .state)) (refused s) (checks Settle s) (effect Settle s) (λ r. (refl, refl))
-    (λ c. absurd (c .1 .0 (rw z tt)))
+once-settled Settle s z = by-applied (λ (a : After). Alike s (a .state)) Settle s (λ r. (refl, refl)) (λ c. absurd (c .input .0 (rw z tt)))
 once-settled (Tick m) s z = alike-event (Tick m) tt s
 
 stays-settled : (es : List Event) (s : State) → s .run .settled ≡ true → Alike s (after s es)
@@ -66,9 +63,9 @@ stays-settled (e ∷ es) s z =
 -- a settle is accepted and settles, or is refused
 pub settle-cases : (s : State) → ((accepted (applied Settle s .answer) ≡ true) × (applied Settle s .state ≡ nowSettled s))
     ⊎ (accepted (applied Settle s .answer) ≡ false)
-unfolding applied effect
-settle-cases s = by-judged (λ (a : After). ((accepted (a .answer) ≡ true) × (a .state ≡ nowSettled s)) ⊎ (accepted (a .answer) ≡ false))
-    (refused s) (checks Settle s) (effect Settle s) (λ r. inr refl) (λ c. inl (refl, refl))
+unfolding effect
+settle-cases s = by-applied (λ (a : After). ((accepted (a .answer) ≡ true) × (a .state ≡ nowSettled s)) ⊎ (accepted (a .answer) ≡ false))
+    Settle s (λ r. inr refl) (λ c. inl (refl, refl))
 
 now-settled : (s : State) → (nowSettled s .run .settled ≡ true) × (nowSettled s .run .gst ≡ nowSettled s .run .time)
 unfolding nowSettled

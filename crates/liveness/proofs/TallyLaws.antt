@@ -11,7 +11,8 @@ use lib.Seq.{getD-set-same, getD-set-other, set-out}
 use Rattle.base.specs.Tests.{T-and, T-left, T-right, or-left, or-right, or-cases, T-iff, le?, eq?, eq→eqb}
 use Rattle.base.specs.Sets.{member, insert}
 use Rattle.base.specs.SetLaws.{member-insert, insert-below}
-use Rattle.model.specs.State.{heardWord, marksWord, slot, word, added}
+use Rattle.model.specs.State.{heardWord, marksWord, markBit, slot, word, added}
+use Rattle.model.specs.Moves.{heardTally}
 
 pub heard-low : (d : Bool) → (0 < heardWord d) × (heardWord d < marksWord)
 heard-low false = omega arith
@@ -19,6 +20,10 @@ heard-low true = omega arith
 
 pub length-added : (t : List ℕ) (w j p : ℕ) → length (added t w j p) ≡ length t
 length-added t w j p = length-set t (slot w j) (insert (word t w j) p)
+
+pub length-heard : (t : List ℕ) (q : Bool) (w p : ℕ) (formed : Bool) → length (heardTally t q w p formed) ≡ length t
+length-heard t q w p true = length-added (added t w (heardWord q) p) w marksWord (markBit q) ∙ length-added t w (heardWord q) p
+length-heard t q w p false = length-added t w (heardWord q) p
 
 module _ (t : List ℕ) (w j p : ℕ) where
   pub added-same : slot w j < length t → word (added t w j p) w j ≡ insert (word t w j) p

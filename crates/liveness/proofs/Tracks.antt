@@ -1,8 +1,8 @@
 -- Between events: what holds of a run that the protocol tracks, and where an event leads it. Assumes nothing.
-use mathlib.Core.Path.{_≡_, refl, _∙_, subst}
+use mathlib.Core.Path.{_≡_, refl, ap, _∙_, subst}
 use mathlib.Core.Bool.{Bool, false, not, _||_}
 use mathlib.Core.List.{List}
-use Prim.Native.Nat.{ℕ, _≤_}
+use Prim.Native.Nat.{ℕ, _*_, _≤_}
 use native.Mathlib.Omega.{arith}
 use lib.Dec.{T}
 use lib.ListN.{length}
@@ -17,9 +17,10 @@ use Rattle.model.specs.State.{State, clockOf}
 use Rattle.model.specs.Checks.{planOutside, faultyOutside, lengthsOutside, limitsBroken}
 use Rattle.liveness.proofs.Flight.{Sent}
 use Rattle.liveness.proofs.Link.{Planned, params, flight, Wire, Books, Ready, Below}
+use Rattle.liveness.proofs.Soundness.{Inside}
 
 -- the limits of a run, by the lengths of what is lent
-abbrev limitsFor : Plan → ℕ → ℕ → ℕ → Bool
+abbrev pub limitsFor : Plan → ℕ → ℕ → ℕ → Bool
 limitsFor p faulty a b = planOutside p || faultyOutside p faulty || lengthsOutside p a b
 
 module _ (plan : Plan) (faulty : ℕ) (ok : Planned plan faulty) where
@@ -43,6 +44,14 @@ module _ (plan : Plan) (faulty : ℕ) (ok : Planned plan faulty) where
     -- an unsettled run has the settling time 0
     pub unsettled : T (not (s .run .settled)) → s .run .gst ≡ 0
     pub limits : limitsBroken s ≡ false
+
+  -- its clocks are within their views
+  pub tracked-inside : (s : State) → Tracked s → Inside plan faulty (s .run .clocks) (s .run .views)
+  tracked-inside s x p c = record {
+    below = x .below p c;
+    low = omega (arith, x .holds .processors .low p c, x .books .clock p, ap (λ (y : ℕ). y * plan .gamma) (x .books .view p));
+    ready = x .ready p c;
+  }
 
   abbrev pub state-of : (s : State) → Tracked s → St
   state-of s x = st (x .processors) (x .tally) (flight (x .messages)) (s .run .time) (s .run .gst) (s .run .settled)

@@ -1,11 +1,11 @@
 -- What is promised: demand 3 first, then what goes with it for every run opened here and altered by events only, then what holds of any
 -- run and buffers handed in. proofs/Promises.antt has a proof of each, under its name in small letters with hyphens (`demand-three`).
 use mathlib.Core.Path.{_≡_}
-use mathlib.Core.Bool.{Bool, true, false, not, _&&_}
+use mathlib.Core.Bool.{Bool, true, false, not, _&&_, _||_, cond}
 use mathlib.Core.Logic.{_≢_}
 use mathlib.Core.List.{List, [], _++_}
 use Prim.Native.Nat.{ℕ, _+_, _*_, _≤_, _<_}
-use lib.Dec.{T}
+use lib.Dec.{T, eqb}
 use lib.ListN.{length, getD, take}
 use Rattle.base.specs.Sets.{member, size}
 use Rattle.types.specs.declared.Plan.{Plan}
@@ -17,10 +17,10 @@ use Rattle.types.specs.declared.Run.{Run}
 use Rattle.types.specs.declared.Setup.{Setup}
 use Rattle.types.specs.declared.Processor.{Processor}
 use Rattle.types.specs.declared.Input.{Input}
-use Rattle.types.specs.Quantities.{perLeader, lead, correct}
+use Rattle.types.specs.Quantities.{nMost, perLeader, lead, correct}
 use Rattle.types.specs.Messages.{voteStage}
-use Rattle.model.specs.State.{State, clockOf, viewOf, marksWord, markBit, word, checkOf, accepted, refused}
-use Rattle.model.specs.Checks.{unsound}
+use Rattle.model.specs.State.{State, clockOf, viewOf, marksWord, markBit, word, checkOf, ticksOf, accepted, refused}
+use Rattle.model.specs.Checks.{timeUnsound, unsound, unsoundForGood}
 use Rattle.model.specs.Opening.{opening}
 use Rattle.model.specs.Events.{tickOnce, Ticks, ticks, applied}
 use Rattle.model.specs.Processors.{stepped}
@@ -71,7 +71,7 @@ OpeningReaches = (u : Setup) (before : State) → T (accepted (opening u before 
 abbrev pub EventReaches : Type 0
 EventReaches = (s : State) → Reachable s → (e : Event) → Reachable (applied e s .state)
 
--- check 9 does not refuse it: whoever has such a state need not make that check
+-- check 9 does not refuse it
 abbrev pub ReachableSound : Type 0
 ReachableSound = (s : State) → Reachable s → unsound s ≡ false
 
@@ -134,6 +134,20 @@ pub record Settled (s : State) (es : List Event) (i : Since) : Type 0 where
 abbrev pub SettledSince : Type 0
 SettledSince = (s : State) → s .run .settled ≡ false → (es : List Event) → Settled s es (sinceSettling s es)
 
+-- check 9 is the part of it that lasts, or the time
+abbrev pub UnsoundParts : Type 0
+UnsoundParts = (s : State) → unsound s ≡ (unsoundForGood s || timeUnsound s)
+
+-- the tables have an entry for every processor that there may be
+pub record Tabled (r : Run) : Type 0 where
+  pub clocks : length (r .clocks) ≡ nMost
+  pub views : length (r .views) ≡ nMost
+
+-- what that part says of a run no event changes, accepted or refused, whatever the tally holds: of events in turn it need be asked once, and
+-- before each of them the time alone
+abbrev pub EventsLast : Type 0
+EventsLast = (e : Event) (s : State) → Tabled (s .run) → (unsoundForGood (applied e s .state) ≡ unsoundForGood s) × Tabled (applied e s .state .run)
+
 -- the mark of a view's quorum certificate
 abbrev pub quorumMark : List ℕ → ℕ → Bool
 quorumMark t w = member (word t w marksWord) (markBit voteStage)
@@ -160,3 +174,11 @@ abbrev pub TicksAdd : Type 0
 TicksAdd =
     (a b : ℕ) (s : State)
     → (ticks a s .check ≡ 0 → ticks (a + b) s ≡ countedFrom a (ticks b (ticks a s .state))) × (ticks a s .check ≢ 0 → ticks (a + b) s ≡ ticks a s)
+
+-- the answer that a check, the ticks done and the messages held tell
+abbrev pub answerFrom : ℕ → ℕ → ℕ → Answer
+answerFrom check done held = cond (eqb check 0) (Done done held) (cond (eqb done 0) (Refused check) (Stopped done held check))
+
+-- the numbers of an event's answer, with the messages held after it, tell the answer
+abbrev pub AnswersTold : Type 0
+AnswersTold = (e : Event) (s : State) → let a = applied e s in answerFrom (checkOf (a .answer)) (ticksOf (a .answer)) (a .state .run .held) ≡ a .answer

@@ -132,6 +132,10 @@ unfoldable pub unsound : State → Bool
 unsound s =
     limitsBroken s || clocksUnsound s || timeUnsound s || heldTooMany s || some (messageUnsound s) (s .run .held) || settlingUnsound s || tailNotZero s
 
+-- all of it but the time: no event changes what this part says of a run (`EventsLast` in liveness), while ticks may bring the time to VΓ
+unfoldable pub unsoundForGood : State → Bool
+unsoundForGood s = limitsBroken s || clocksUnsound s || heldTooMany s || some (messageUnsound s) (s .run .held) || settlingUnsound s || tailNotZero s
+
 -- 10. "A named cabinet is n or more, or a named view V or more."
 abbrev pub namedOutside : Plan → ℕ → ℕ → Bool
 namedOutside plan p w = noProcessor plan p || noView plan w

@@ -1,17 +1,18 @@
--- Computed vectors at the edges: the last number that passes a limit, the order of checks that could both refuse, what an answer stands for.
+-- Computed vectors at the edges: the last number that passes a limit, the order of checks that could both refuse, what an answer stands for,
+-- and what of check 9 lasts.
 -- Each row, its right side taken from document 01, shuts out the wrong number or order that its comment is about. Assumes nothing.
 use mathlib.Core.Path.{_≡_, refl}
 use mathlib.Core.Bool.{true, false}
 use mathlib.Core.List.{List, [], _∷_, _++_, map}
 use lib.ListN.{length, replicate}
-use Rattle.types.specs.declared.Message.the-variants.{View, Vote, Qc}
+use Rattle.types.specs.declared.Message.the-variants.{View, Vote, Vc, Qc}
 use Rattle.types.specs.declared.Event.the-variants.{Deliver, Sign, Show, Settle, Tick}
 use Rattle.types.specs.declared.Answer.the-variants.{Done, Stopped, Refused}
 use Rattle.types.specs.declared.Input.the-variants as input
 use Rattle.types.specs.declared.Sends.the-variants.{Nothing, Vote as VoteFor, ViewAndVote}
 use Rattle.types.specs.declared.Stepped.the-variants as step
-use Rattle.model.specs.State.{checkOf, heldOf, accepted}
-use Rattle.model.specs.Checks.{lengthsOutside}
+use Rattle.model.specs.State.{State, stateOf, runOf, checkOf, heldOf, accepted}
+use Rattle.model.specs.Checks.{lengthsOutside, unsoundForGood}
 use Rattle.model.specs.Opening.{opening}
 use Rattle.model.specs.Processors.{sentIn, checkIn, stepped}
 use Rattle.model.specs.Lists.{after}
@@ -93,6 +94,29 @@ meanings =
     ∷ words (checkIn (step.Refused 17) ∷ checkIn (step.Sent Nothing) ∷ []) (17 ∷ 0 ∷ [])
     ∷ []
 
+-- ---- what of check 9 lasts
+
+-- the time is ahead of the clocks, one below VΓ
+abbrev ahead : State
+ahead = handedIn standard 0 23 false 0 0 (replicate 4 5) zeroes [] []
+
+-- a table without entries: its clocks read as 0, and none can be set; the view certificate for 3 is formed
+abbrev short : State
+short = stateOf (runOf standard 0 0 false 0 0 [] zeroes) (replicate 15 0 ++ (1 ∷ replicate 8 0)) (replicate 64 0)
+
+pub lasting : List Row
+lasting =
+    -- the time does not: two ticks, and the next event meets 9
+    handedRow ahead (Tick 2 ∷ Settle ∷ []) (Done 2 0 ∷ Refused 9 ∷ [])
+    -- all else of it does
+    ∷ truth (unsoundForGood ahead) false
+    ∷ truth (unsoundForGood (after ahead (Tick 2 ∷ []))) false
+    -- but not where a table is too short for the clock that an entry sets
+    ∷ handedRow short (Show (Vc 3 0) ∷ Settle ∷ []) (Done 0 2 ∷ Refused 9 ∷ [])
+    ∷ truth (unsoundForGood short) false
+    ∷ truth (unsoundForGood (after short (Show (Vc 3 0) ∷ []))) true
+    ∷ []
+
 -- ---- all of them agree
 
 pub limits-hold : agreeing 0 limits ≡ length limits
@@ -106,3 +130,7 @@ orders-hold = refl
 pub meanings-hold : agreeing 0 meanings ≡ length meanings
 unfolding meanings definitions
 meanings-hold = refl
+
+pub lasting-hold : agreeing 0 lasting ≡ length lasting
+unfolding lasting definitions
+lasting-hold = refl

@@ -1,8 +1,9 @@
 -- "Events": the five events, each with its checks in order and its effect.
 use mathlib.Core.Bool.{cond}
-use mathlib.Core.List.{List, [], _∷_}
+use mathlib.Core.List.{List, [], _∷_, _++_}
 use Prim.Native.Nat.{ℕ, zero, suc, _+_, _-_}
 use lib.Dec.{eqb}
+use Rattle.types.specs.declared.Plan.{Plan}
 use Rattle.types.specs.declared.Message.{Message}
 use Rattle.types.specs.declared.Event.{Event}
 use Rattle.types.specs.declared.Event.the-variants.{Deliver, Sign, Show, Settle, Tick}
@@ -13,6 +14,10 @@ use Rattle.types.specs.Messages.{viewIn, processorIn, stageOf, lacksForm}
 use Rattle.model.specs.State.{State, After, withHeld, withGst, isCorrect, removed, checkOf, refused, done}
 use Rattle.model.specs.Moves.{Change, still, handling, advanced, arrivals, made}
 use Rattle.model.specs.Checks.{Check, judged, unsound, namedOutside, notInitial, signerCorrect, receiverFaulty, placeOf, notHeld, notExisting, settledBefore, overdue, reachesEnd, overfull}
+
+-- 17 and 18 of what an event or a single tick would change: of the change c of s
+abbrev pub outcomeChecks : State → Change → List Check
+outcomeChecks s c = (17, reachesEnd (s .run) c) ∷ (18, overfull s c) ∷ []
 
 -- ---- "It leaves the post (the first, of equal ones) and is handled."
 
@@ -40,9 +45,7 @@ nowSettled s = record { run = withGst (s .run .time) (s .run); tally = s .tally;
 
 -- the checks of a single tick
 abbrev pub tickChecks : State → List Check
-tickChecks s =
-    let a = advanced s in
-    (16, overdue s) ∷ (17, reachesEnd (a .run) (arrivals a)) ∷ (18, overfull a (arrivals a)) ∷ []
+tickChecks s = (16, overdue s) ∷ outcomeChecks (advanced s) (arrivals (advanced s))
 
 unfoldable pub tickOnce : State → After
 tickOnce s =
@@ -77,21 +80,29 @@ tickRun m s = let x = ticks m s in record { state = x .state; answer = ticksAnsw
 
 -- ---- each event
 
+-- 10 and 11 of what a message names
+abbrev pub namedChecks : Plan → Message → List Check
+namedChecks plan m = (10, namedOutside plan (processorIn m) (viewIn m)) ∷ (11, notInitial plan (stageOf m) (viewIn m)) ∷ []
+
+-- the checks of its input beyond 1 and 9, in order
+abbrev pub inputChecks : Event → State → List Check
+inputChecks (Deliver m) s = namedChecks (s .run .plan) m ++ ((13, notHeld s m) ∷ [])
+inputChecks (Sign m) s = namedChecks (s .run .plan) m ++ ((12, signerCorrect s m) ∷ [])
+inputChecks (Show m) s = namedChecks (s .run .plan) m ++ ((12, receiverFaulty s m) ∷ (14, notExisting s m) ∷ [])
+inputChecks Settle s = (15, settledBefore s) ∷ []
+inputChecks (Tick m) s = []
+
+-- those of what it would change; a run of ticks makes them tick by tick
+abbrev pub changeChecks : Event → State → List Check
+changeChecks (Deliver m) s = outcomeChecks (without s m) (delivering s m)
+changeChecks (Sign m) s = outcomeChecks s (signing s m)
+changeChecks (Show m) s = outcomeChecks s (handling (s .run) (s .tally) m)
+changeChecks Settle s = []
+changeChecks (Tick m) s = []
+
 -- its checks, in order
 unfoldable pub checks : Event → State → List Check
-checks (Deliver m) s =
-    (9, unsound s) ∷ (10, namedOutside (s .run .plan) (processorIn m) (viewIn m)) ∷ (11, notInitial (s .run .plan) (stageOf m) (viewIn m))
-    ∷ (13, notHeld s m) ∷ (17, reachesEnd (s .run) (delivering s m)) ∷ (18, overfull (without s m) (delivering s m)) ∷ []
-checks (Sign m) s =
-    (1, lacksForm (Sign m)) ∷ (9, unsound s) ∷ (10, namedOutside (s .run .plan) (processorIn m) (viewIn m))
-    ∷ (11, notInitial (s .run .plan) (stageOf m) (viewIn m)) ∷ (12, signerCorrect s m)
-    ∷ (17, reachesEnd (s .run) (signing s m)) ∷ (18, overfull s (signing s m)) ∷ []
-checks (Show m) s =
-    (1, lacksForm (Show m)) ∷ (9, unsound s) ∷ (10, namedOutside (s .run .plan) (processorIn m) (viewIn m))
-    ∷ (11, notInitial (s .run .plan) (stageOf m) (viewIn m)) ∷ (12, receiverFaulty s m) ∷ (14, notExisting s m)
-    ∷ (17, reachesEnd (s .run) (handling (s .run) (s .tally) m)) ∷ (18, overfull s (handling (s .run) (s .tally) m)) ∷ []
-checks Settle s = (9, unsound s) ∷ (15, settledBefore s) ∷ []
-checks (Tick m) s = (1, lacksForm (Tick m)) ∷ (9, unsound s) ∷ []
+checks e s = (1, lacksForm e) ∷ (9, unsound s) ∷ (inputChecks e s ++ changeChecks e s)
 
 -- what it does where none of them refuses; shown, "correct p receives a certificate from the adversary"
 unfoldable pub effect : Event → State → After

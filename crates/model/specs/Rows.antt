@@ -20,7 +20,7 @@ use Rattle.types.specs.Quantities.{tableClocks, perLeader}
 use Rattle.types.specs.Messages.{kindOf, viewIn, processorIn}
 use Rattle.model.specs.State.{State, After, runOf, clockOf, viewOf, isCorrect, posted, removed}
 use Rattle.model.specs.Moves.{toCorrect, entering, taking, entries, ripe, toEach, hearing, handling, clocksOn, arrivals, made}
-use Rattle.model.specs.Checks.{startTooHigh, tooFarAhead, messageUnsound, unsound, exists, overdue, reachesEnd}
+use Rattle.model.specs.Checks.{startTooHigh, tooFarAhead, messageUnsound, unsound, unsoundForGood, exists, overdue, reachesEnd}
 use Rattle.model.specs.Opening.{blank, opened, opening}
 use Rattle.model.specs.Events.{without, delivering, signing, nowSettled, tickOnce, ticks, tickRun, checks, effect, applied}
 use Rattle.model.specs.Processors.{Moved, stepped}
@@ -28,7 +28,7 @@ use Rattle.model.specs.Lists.{after}
 
 -- names all that has to unfold for a row to compute
 unfoldable pub definitions : ℕ
-unfolding stepped applied checks effect tickRun ticks tickOnce nowSettled signing delivering without after opening opened blank reachesEnd overdue exists unsound messageUnsound tooFarAhead startTooHigh made arrivals clocksOn handling hearing toEach ripe entries taking entering toCorrect removed posted perLeader count some first listed member ones onesIn
+unfolding stepped applied checks effect tickRun ticks tickOnce nowSettled signing delivering without after opening opened blank reachesEnd overdue exists unsound unsoundForGood messageUnsound tooFarAhead startTooHigh made arrivals clocksOn handling hearing toEach ripe entries taking entering toCorrect removed posted perLeader count some first listed member ones onesIn
 definitions = 0
 
 -- ---- what is put in

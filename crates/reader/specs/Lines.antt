@@ -1,5 +1,7 @@
 -- What a line is read as, from the left. That this is the reading of the forms and of nothing else is proved (proofs/RoundTrip).
 use Prim.Native.Nat.{ℕ, zero, suc, _-_}
+use mathlib.Core.Path.{_≡_, refl}
+use mathlib.Core.Logic.{_⊎_, inl, inr}
 use mathlib.Core.Bool.{cond}
 use mathlib.Core.List.{List, [], _∷_, _++_}
 use lib.ListN.{length, getD, replicate}
@@ -170,3 +172,24 @@ reading s =
     onAfter (afterWord s 0 openBracket)
     (λ a. onAfter (afterWord s a openWord) (openingAt s) (record { read = eventAt s a; setup = noSetup }))
     noForm
+
+-- ---- a line skimmed: one that begins as an opening does is taken for one, whatever comes behind; any other is read
+
+unfoldable pub skimmed : List ℕ → Read
+skimmed s = onAfter (afterWord s 0 openBracket) (λ a. onAfter (afterWord s a openWord) (λ b. Read.Opening) (eventAt s a)) NoForm
+
+-- so it is an opening, or what is read
+pub skimmed-read : (s : List ℕ) → (skimmed s ≡ Read.Opening) ⊎ (skimmed s ≡ reading s .read)
+unfolding skimmed reading
+skimmed-read s = at-bracket (afterWord s 0 openBracket)
+  where
+    at-word : (a : ℕ) (x : After) → (onAfter x (λ b. Read.Opening) (eventAt s a) ≡ Read.Opening)
+        ⊎ (onAfter x (λ b. Read.Opening) (eventAt s a) ≡ onAfter x (openingAt s) (record { read = eventAt s a; setup = noSetup }) .read)
+    at-word a (At b) = inl refl
+    at-word a Away = inr refl
+
+    at-bracket : (x : After) → (onAfter x (λ a. onAfter (afterWord s a openWord) (λ b. Read.Opening) (eventAt s a)) NoForm ≡ Read.Opening)
+        ⊎ (onAfter x (λ a. onAfter (afterWord s a openWord) (λ b. Read.Opening) (eventAt s a)) NoForm
+        ≡ onAfter x (λ a. onAfter (afterWord s a openWord) (openingAt s) (record { read = eventAt s a; setup = noSetup })) noForm .read)
+    at-bracket (At a) = at-word a (afterWord s a openWord)
+    at-bracket Away = inr refl

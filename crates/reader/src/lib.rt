@@ -13,7 +13,7 @@ ghost use Rattle.lines.specs.Forms.{openBracket, closeBracket, oneBlank};
 ghost use Rattle.lines.specs.Contracts.{noSetup, noForm, Reads};
 ghost use Rattle.reader.specs.Bytes.{classOf, classAt, digitRun, spelled};
 ghost use Rattle.reader.specs.Scan.{afterWord, fitting, numberAt};
-ghost use Rattle.reader.specs.Lines.{kindFoundAt, messageOf, saidKind, messageAt, endingAt, deliverAt, signAt, showAt, ticksAt, eventAt, headingAt, nextNumberAt, firstClockAt, tableEndAt, noTable, tableAt, openingAt, reading};
+ghost use Rattle.reader.specs.Lines.{kindFoundAt, messageOf, saidKind, messageAt, endingAt, deliverAt, signAt, showAt, ticksAt, eventAt, headingAt, nextNumberAt, firstClockAt, tableEndAt, noTable, tableAt, openingAt, reading, skimmed};
 
 // ---- bytes
 
@@ -504,6 +504,20 @@ fn read_bytes(line: &[u8]) -> Reading
         read: read_event(line, a),
         setup: no_setup(),
     }
+}
+
+// A line, without its newline, is skimmed: one that begins as an opening does is taken for one and not read further, so that no setup stands beside
+// what is read.
+pub fn skim_line(line: &[u8]) -> Read
+    ensures { λ r. ⌜ r ≡ skimmed (now (line .entry)) ⌝ }
+{
+    let After::At(a) = after_open_bracket(line, 0) else {
+        return Read::NoForm;
+    };
+    if let After::At(_) = after_word(line, a, b"open") {
+        return Read::Opening;
+    }
+    read_event(line, a)
 }
 
 // What a line, without its newline, is read as.

@@ -14,15 +14,16 @@ use Rattle.types.specs.declared.Message.the-variants.{View, Vote, Vc, Qc}
 use Rattle.types.specs.declared.Run.{Run}
 use Rattle.types.specs.declared.Input.the-variants.{Vc as VcIn, Qc as QcIn}
 use Rattle.types.specs.Quantities.{initial}
-use Rattle.types.specs.Messages.{viewStage, voteStage, viewIn, processorIn, stageOf}
+use Rattle.types.specs.Messages.{viewStage, voteStage, viewIn, processorIn, stageOf, isSignature}
 use Rattle.model.specs.State.{State, stateOf, withHeld, withClocks, withViews, viewOf, isCorrect}
-use Rattle.model.specs.Moves.{Change, byView, byQuorum, forms, hearing, handling, made, heardChange}
+use Rattle.model.specs.Moves.{Change, byView, byQuorum, forms, hearing, handling, made, formedMessages, heardChange}
 use Rattle.model.specs.Checks.{planOutside, noProcessor, noView, namedOutside, notInitial, reachesEnd}
+use Rattle.liveness.proofs.Answers.{no-yes}
 use Rattle.liveness.proofs.Judging.{named-within}
 use Rattle.model.specs.Processors.{movingBy}
 use Rattle.pacemaker.proofs.LimitLaws.{within as limits}
 use Rattle.simulator.specs.declared.Reaction.{Reaction}
-use Rattle.simulator.specs.Inner.{Posts, Reacts, changeBy, sentFor, Fit, seat, namedCheck, Decides}
+use Rattle.simulator.specs.Inner.{Posts, sentBy, Reacts, movedChange, changeBy, sentFor, Fit, seat, namedCheck, Decides}
 use Rattle.simulator.proofs.Moving.{moved-taking, stays-below, taking-reaches}
 use Rattle.simulator.proofs.Ticking.{state-by}
 
@@ -100,6 +101,34 @@ change-sent r t (View w p) x = refl
 change-sent r t (Vote w p) x = refl
 change-sent r t (Vc w p) x = refl
 change-sent r t (Qc w p) x = refl
+
+-- ---- a signature is heard, a certificate moves its receiver
+
+module _ (r : Run) (t : List ℕ) (x : Reaction) where
+  pub signature-change : (m : Message) → isSignature m ≡ true → changeBy r t m x ≡ heardChange (stageOf m) r t (viewIn m) (processorIn m) (x .formed)
+  signature-change (View w p) e = refl
+  signature-change (Vote w p) e = refl
+  signature-change (Vc w p) e = no-yes (sym e)
+  signature-change (Qc w p) e = no-yes (sym e)
+
+  pub certificate-change : (m : Message) → isSignature m ≡ false → changeBy r t m x ≡ movedChange r t (processorIn m) x
+  certificate-change (View w p) e = no-yes e
+  certificate-change (Vote w p) e = no-yes e
+  certificate-change (Vc w p) e = refl
+  certificate-change (Qc w p) e = refl
+
+module _ (plan : Plan) (faulty : ℕ) (x : Reaction) where
+  pub signature-sent : (m : Message) → isSignature m ≡ true → sentFor plan faulty m x ≡ formedMessages plan faulty (stageOf m) (viewIn m) (x .formed)
+  signature-sent (View w p) e = refl
+  signature-sent (Vote w p) e = refl
+  signature-sent (Vc w p) e = no-yes (sym e)
+  signature-sent (Qc w p) e = no-yes (sym e)
+
+  pub certificate-sent : (m : Message) → isSignature m ≡ false → sentFor plan faulty m x ≡ sentBy plan faulty (processorIn m) (x .sends)
+  certificate-sent (View w p) e = no-yes e
+  certificate-sent (Vote w p) e = no-yes e
+  certificate-sent (Vc w p) e = refl
+  certificate-sent (Qc w p) e = refl
 
 -- ---- what a message makes of whom it reaches
 

@@ -1,11 +1,12 @@
 -- The message that is delivered: where it stands, whom it reaches, and what is left without it. Assumes nothing.
-use mathlib.Core.Path.{_≡_, ap, _∙_}
+use mathlib.Core.Path.{_≡_, refl, ap, _∙_}
+use mathlib.Core.Logic.{_⊎_, inl, inr}
 use mathlib.Core.Bool.{true, false}
-use mathlib.Core.List.{List}
 use Prim.Native.Nat.{ℕ, _-_, _/_, _≤_, _<_}
+use native.Mathlib.Nat.{le-refl}
 use native.Mathlib.Omega.{arith}
-use borrow.Author.Tests.{eq-eqb, ne-eqb}
-use Rattle.base.specs.Tests.{fails, T-true}
+use borrow.Author.Tests.{eq-eqb, ne-eqb, lt-ltb, le-ltb, le-leb}
+use Rattle.base.specs.Tests.{fails, T-true, le?}
 use Rattle.base.specs.ScanLaws.{first-le}
 use Rattle.types.specs.declared.Message.{Message}
 use Rattle.types.specs.declared.Message.the-variants.{View, Vote, Vc, Qc}
@@ -16,12 +17,18 @@ use Rattle.model.specs.Checks.{unsound, isAt, placeOf, notHeld}
 use Rattle.model.specs.Events.{without}
 use Rattle.liveness.proofs.Flight.{length-removed}
 use Rattle.liveness.proofs.Marks.{addressed}
-use Rattle.buffers.specs.Network.{found, taken, found-fits, taken-fits}
-use Rattle.simulator.specs.Inner.{Fit, ReachesCorrect}
+use Rattle.buffers.specs.Network.{found, found-fits}
+use Rattle.simulator.specs.Inner.{Fit, ReachesCorrect, leaving}
 
 -- the run with one message less is as fit
 pub fit-held : (r : Run) (h : ℕ) → Fit r → Fit (withHeld h r)
 fit-held r h f = record { plan = f .plan; faulty = f .faulty; clocks = f .clocks }
+
+pub reaches-held : (r : Run) (h : ℕ) (m : Message) → ReachesCorrect r m → ReachesCorrect (withHeld h r) m
+reaches-held r h (View w p) x = x
+reaches-held r h (Vote w p) x = x
+reaches-held r h (Vc w p) x = x
+reaches-held r h (Qc w p) x = x
 
 module _ (s : State) (m : Message) (room : s .run .held ≤ capacity (s .network)) (i : ℕ) (is-found : i ≡ found (s .network) (s .run .held) m) where
   pub place-is : i ≡ placeOf s m
@@ -34,18 +41,24 @@ module _ (s : State) (m : Message) (room : s .run .held ≤ capacity (s .network
   found-some l = ne-eqb (placeOf s m) (s .run .held) (λ e. absurd (omega (arith, e, place-is)))
 
   module _ (inside : i < s .run .held) where
-    pub without-is : (ws : List ℕ) → ws ≡ taken (s .network) (s .run .held) i → stateOf (withHeld (s .run .held - 1) (s .run)) (s .tally) ws ≡ without s m
+    pub leaves-without : leaving s i ≡ without s m
     unfolding without
-    without-is ws e = ap (stateOf (withHeld (s .run .held - 1) (s .run)) (s .tally))
-        (e ∙ taken-fits (s .network) (s .run .held) i inside room ∙ ap (removed (s .network) (s .run .held)) place-is)
+    leaves-without = rw (lt-ltb i (s .run .held) inside, le-leb (s .run .held) (capacity (s .network)) room)
+        (ap (λ (k : ℕ). stateOf (withHeld (s .run .held - 1) (s .run)) (s .tally) (removed (s .network) (s .run .held) k)) place-is)
 
-    pub capacity-without : capacity (without s m .network) ≡ capacity (s .network)
-    unfolding without
-    capacity-without = ap (λ (n : ℕ). n / messageWords) (length-removed (s .network) (s .run .held) (placeOf s m) (omega (arith, place-is)) (omega arith))
+-- without a message there is as much room
+pub room-left : (s : State) (i : ℕ) → s .run .held ≤ capacity (s .network)
+    → (capacity (leaving s i .network) ≡ capacity (s .network)) × (leaving s i .run .held ≤ s .run .held)
+room-left s i room = go (le? (s .run .held) i)
+  where
+    go : (s .run .held ≤ i) ⊎ (i < s .run .held) → (capacity (leaving s i .network) ≡ capacity (s .network)) × (leaving s i .run .held ≤ s .run .held)
+    go (inl l) = rw (le-ltb i (s .run .held) l) (refl, le-refl (s .run .held))
+    go (inr l) = rw (lt-ltb i (s .run .held) l, le-leb (s .run .held) (capacity (s .network)) room)
+        (ap (λ (n : ℕ). n / messageWords) (length-removed (s .network) (s .run .held) i (omega arith) (omega arith)), omega arith)
 
 -- a certificate that is held goes to a correct processor
-pub held-reaches : (s : State) (m : Message) → unsound s ≡ false → notHeld s m ≡ false → (h : ℕ) → ReachesCorrect (withHeld h (s .run)) m
-held-reaches s (View w p) sound is-held h = tt
-held-reaches s (Vote w p) sound is-held h = tt
-held-reaches s (Vc w p) sound is-held h = T-true (isCorrect (s .run) p) (addressed s (Vc w p) (fails (unsound s) sound) (fails (notHeld s (Vc w p)) is-held))
-held-reaches s (Qc w p) sound is-held h = T-true (isCorrect (s .run) p) (addressed s (Qc w p) (fails (unsound s) sound) (fails (notHeld s (Qc w p)) is-held))
+pub held-reaches : (s : State) (m : Message) → unsound s ≡ false → notHeld s m ≡ false → ReachesCorrect (s .run) m
+held-reaches s (View w p) sound is-held = tt
+held-reaches s (Vote w p) sound is-held = tt
+held-reaches s (Vc w p) sound is-held = T-true (isCorrect (s .run) p) (addressed s (Vc w p) (fails (unsound s) sound) (fails (notHeld s (Vc w p)) is-held))
+held-reaches s (Qc w p) sound is-held = T-true (isCorrect (s .run) p) (addressed s (Qc w p) (fails (unsound s) sound) (fails (notHeld s (Qc w p)) is-held))

@@ -1,10 +1,10 @@
 -- What `open` and `apply` hand back is what the definitions make of the opening and the list, so that demand 3 holds of it. Assumes nothing.
 use mathlib.Core.Path.{_≡_, refl, sym, ap, _∙_, subst}
 use mathlib.Core.Bool.{false}
-use mathlib.Core.List.{[], _∷_}
+use mathlib.Core.List.{List, [], _∷_}
 use Prim.Native.Nat.{ℕ, zero, suc, _<_}
 use lib.Dec.{T}
-use lib.ListN.{take}
+use lib.ListN.{length, take}
 use Rattle.types.specs.declared.Plan.{Plan}
 use Rattle.model.specs.State.{State, After, checkOf, accepted}
 use Rattle.model.specs.Checks.{tooFarAhead}
@@ -13,7 +13,8 @@ use Rattle.model.specs.Events.{applied}
 use Rattle.model.specs.Lists.{after, ClockCondition, sinceSettling, ticksSince}
 use Rattle.liveness.specs.Promises.{settlingBound, Certified, Same}
 use Rattle.liveness.proofs.Promises.{demand-three, stays-sound, stays-same}
-use Rattle.simulator.specs.Demands.{handed, Demanded, DemandThreeOfCode, NeverUnsound, HandedIsAfter, EveryListFed}
+use Rattle.words.specs.Batches.{Worded, answered, wordsApplied, eventsOf}
+use Rattle.simulator.specs.Demands.{Fed, handed, answersIn, BatchIsFed, Demanded, DemandThreeOfCode, NeverUnsound, HandedIsAfter, EveryListFed}
 
 pub handed-is-after : HandedIsAfter
 unfolding after
@@ -60,3 +61,22 @@ never-unsound u before o opens ok es hs fed i e h applies nine =
     stays-sound u before (subst (λ (a : After). T (accepted (a .answer))) opens ok) (take i es) e
     (sym (ap (λ (a : After). checkOf (a .answer)) (applies ∙ ap (applied e) (handed-is-after (o .state) es hs fed i)
     ∙ ap (λ (a : After). applied e (after (a .state) (take i es))) opens)) ∙ nine)
+
+-- what the words leave, by what the events handed back
+turned : (ws : List ℕ) (s : State) (hs : List After) → Fed s (eventsOf ws) hs
+    → wordsApplied ws s ≡ record { state = handed s hs (length hs); words = answersIn ws hs }
+unfolding wordsApplied eventsOf answersIn
+turned [] s [] f = refl
+turned [] s (h ∷ hs) f = absurd f
+turned (a ∷ []) s [] f = refl
+turned (a ∷ []) s (h ∷ hs) f = absurd f
+turned (a ∷ b ∷ []) s [] f = refl
+turned (a ∷ b ∷ []) s (h ∷ hs) f = absurd f
+turned (a ∷ b ∷ c ∷ []) s [] f = refl
+turned (a ∷ b ∷ c ∷ []) s (h ∷ hs) f = absurd f
+turned (a ∷ b ∷ c ∷ d ∷ ws) s [] f = absurd f
+turned (a ∷ b ∷ c ∷ d ∷ ws) s (h ∷ hs) f =
+    ap (λ (x : After). answered a x (wordsApplied ws (x .state))) (sym (f .0)) ∙ ap (answered a h) (turned ws (h .state) hs (f .1))
+
+pub batch-is-fed : BatchIsFed
+batch-is-fed ws s s' ws' e hs f = let t = e ∙ turned ws s hs f in (ap (λ (y : Worded). y .state) t, ap (λ (y : Worded). y .words) t)

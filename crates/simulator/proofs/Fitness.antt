@@ -16,7 +16,7 @@ use Rattle.model.specs.Checks.{planOutside, faultyOutside, buffersOutside, cloc
 use Rattle.liveness.proofs.Judging.{neither, not-ltb, not-leb}
 use Rattle.base.specs.Count.{count-some}
 use Rattle.liveness.proofs.Link.{Planned, correct-count, third}
-use Rattle.liveness.proofs.Soundness.{SoundRun, sound-of}
+use Rattle.liveness.proofs.Soundness.{SoundRun, sound-of, sound-time}
 use Rattle.base.specs.Choice.{or-neither}
 use Rattle.model.specs.Processors.{processorUnsound}
 use Rattle.pacemaker.specs.Limits.{Within, timeMost}
@@ -55,7 +55,7 @@ module _ (s : State) (sound : unsound s ≡ false) where
   room-of = not-ltb _ _ (sound-run .room)
 
   pub time-of : s .run .time < endTime (s .run .plan)
-  time-of = not-leb _ _ (sound-run .time)
+  time-of = not-leb _ _ (sound-time s (fails (unsound s) sound))
 
 -- a correct clock of a fit run is below the end
 pub clock-below : (plan : Plan) (clock view : ℕ) → clockOutside plan clock view ≡ false → clock < endTime plan

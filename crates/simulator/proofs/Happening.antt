@@ -1,14 +1,14 @@
 -- Each event in each of its cases. Assumes nothing.
-use mathlib.Core.Path.{_≡_, refl, sym, ap, _∙_}
+use mathlib.Core.Path.{_≡_, refl, sym, ap, ap₂, subst, _∙_}
 use mathlib.Core.Bool.{Bool, true, false, not, cond}
 use mathlib.Core.Logic.{_≢_}
 use mathlib.Core.List.{List}
-use Prim.Native.Nat.{ℕ, _+_, _-_, _≤_, _<_}
-use native.Mathlib.Nat.{add-zero}
+use Prim.Native.Nat.{ℕ, _+_, _≤_, _<_}
+use native.Mathlib.Nat.{le-refl}
 use native.Mathlib.Omega.{arith}
 use lib.Dec.{ltb}
 use lib.ListN.{length}
-use borrow.Author.Tests.{lt-ltb, le-ltb, eqb-false}
+use borrow.Author.Tests.{le-ltb, eqb-false}
 use Rattle.base.specs.Choice.{cond-yes, cond-no, not-yes, not-no}
 use Rattle.types.specs.declared.Plan.{Plan}
 use Rattle.types.specs.declared.Message.{Message}
@@ -21,23 +21,23 @@ use Rattle.types.specs.declared.Head.{Head}
 use Rattle.types.specs.declared.AppliedHead.{AppliedHead}
 use Rattle.types.specs.Quantities.{lead}
 use Rattle.types.specs.Messages.{viewIn, processorIn, stageOf, lacksForm}
-use Rattle.model.specs.State.{State, After, stateOf, runFrom, headOf, withHeld, leftBehind, isCorrect, capacity, refused, done}
+use Rattle.model.specs.State.{State, After, stateOf, runFrom, withHeld, leftBehind, isCorrect, capacity, refused, done}
 use Rattle.model.specs.Moves.{Change, still, handling, made}
 use Rattle.model.specs.Checks.{unsound, namedOutside, notInitial, exists, notHeld, reachesEnd, overfull}
 use Rattle.model.specs.Events.{without, delivering, signing, nowSettled, tickRun, checks, effect, applied}
 use Rattle.liveness.proofs.Answers.{no-yes}
-use Rattle.buffers.specs.WordLaws.{posted-none}
+use Rattle.leaps.proofs.Leaping.{still-made}
 use Rattle.simulator.specs.declared.Reaction.{Reaction}
-use Rattle.simulator.specs.Inner.{sentFor, Decides, ReachesCorrect, namedCheck, finished}
+use Rattle.simulator.specs.Inner.{sentFor, Decides, ReachesCorrect, namedCheck, finished, headWithout, leaving, handled}
 use Rattle.simulator.proofs.Fitness.{fit-of, room-of}
+use Rattle.simulator.proofs.Delivery.{room-left}
 use Rattle.simulator.proofs.Moving.{stays-below}
-use Rattle.simulator.proofs.Ticking.{state-by}
 use Rattle.simulator.proofs.Deciding.{named-passed, named-refused, change-sent}
 
 -- what was left behind, by its parts
-pub refused-is : (s : State) (x : AppliedHead) (k : ℕ) → (x .head ≡ headOf (s .run)) × (x .answer ≡ Refused k)
-    → leftBehind x (s .run .clocks) (s .run .views) (s .tally) (s .network) ≡ refused s k
-refused-is s x k e = λ i. record { state = stateOf (runFrom (e .0 i) (s .run .clocks) (s .run .views)) (s .tally) (s .network); answer = e .1 i }
+pub refused-is : (h : Head) (c v t ws : List ℕ) (x : AppliedHead) (k : ℕ) → (x .head ≡ h) × (x .answer ≡ Refused k)
+    → leftBehind x c v t ws ≡ refused (stateOf (runFrom h c v) t ws) k
+refused-is h c v t ws x k e = λ i. record { state = stateOf (runFrom (e .0 i) c v) t ws; answer = e .1 i }
 
 pub done-is : (s : State) (h : Head) (c v t ws : List ℕ) (x : AppliedHead) → (x .head ≡ h) × (x .answer ≡ Done 0 (h .held)) → stateOf (runFrom h c v) t ws ≡ s
     → leftBehind x c v t ws ≡ done s
@@ -45,27 +45,56 @@ done-is s h c v t ws x e q = (λ i. record { state = stateOf (runFrom (e .0 i) c
 
 -- ---- checks 17 and 18 of a change, and the change made
 
-module _ (s : State) (c : Change) where
-  pub finish-ends : reachesEnd (s .run) c ≡ true → refused s 17 ≡ finished s c
-  finish-ends e = cond-yes (reachesEnd (s .run) c) (refused s 17) (refused s 17) _ e refl
+-- the first of two checks that refuses, or 0
+abbrev outcome : Bool → Bool → ℕ
+outcome ends full = cond ends 17 (cond full 18 0)
 
-  pub finish-full : reachesEnd (s .run) c ≡ false → overfull s c ≡ true → refused s 18 ≡ finished s c
-  finish-full e f = cond-no (reachesEnd (s .run) c) (refused s 18) (refused s 17) _ e (cond-yes (overfull s c) (refused s 18) (refused s 18) _ f refl)
+outcome-refused : (ends full : Bool) (s : State) (a : After) (k : ℕ) → k ≡ outcome ends full → 0 < k
+    → refused s k ≡ cond ends (refused s 17) (cond full (refused s 18) a)
+outcome-refused true full s a k e l = ap (refused s) e
+outcome-refused false true s a k e l = ap (refused s) e
+outcome-refused false false s a k e l = absurd (omega (arith, e, l))
 
-  pub finish-done : reachesEnd (s .run) c ≡ false → overfull s c ≡ false → done (made s c) ≡ finished s c
-  finish-done e f = cond-no (reachesEnd (s .run) c) (done (made s c)) (refused s 17) _ e (cond-no (overfull s c) (done (made s c)) (refused s 18) _ f refl)
+pub outcome-passed : (ends full : Bool) → outcome ends full ≡ 0 → (ends ≡ false) × (full ≡ false)
+outcome-passed true full e = absurd (omega (arith, e))
+outcome-passed false true e = absurd (omega (arith, e))
+outcome-passed false false e = (refl, refl)
 
--- how many messages a decided change sends
-module _ (r : Run) (t : List ℕ) (m : Message) (x : Reaction) (d : Decides r t m x) (goes-on : x .ends ≡ false) where
-  pub decided-sent : sentFor (r .plan) (r .faulty) m x ≡ handling r t m .sent
-  decided-sent = sym (change-sent r t m x) ∙ ap (λ (c : Change). c .sent) (d .change goes-on)
+module _ (s s' : State) (c : Change) where
+  pub finish-refused : (k : ℕ) → k ≡ outcome (reachesEnd (s' .run) c) (overfull s' c) → 0 < k → refused s k ≡ finished s s' c
+  finish-refused k e l = outcome-refused (reachesEnd (s' .run) c) (overfull s' c) s (done (made s' c)) k e l
 
-  module _ (h k : ℕ) (ws : List ℕ) (number : k ≡ length (sentFor (r .plan) (r .faulty) m x)) where
-    pub decided-over : capacity ws < h + k → ltb (capacity ws) (h + length (handling r t m .sent)) ≡ true
-    decided-over l = let g : capacity ws < h + length (handling r t m .sent) = omega (arith, number ∙ ap length decided-sent) in lt-ltb _ _ g
+  pub finish-done : reachesEnd (s' .run) c ≡ false → overfull s' c ≡ false → done (made s' c) ≡ finished s s' c
+  finish-done e f = rw (e, f) refl
 
-    pub decided-fits : h + k ≤ capacity ws → ltb (capacity ws) (h + length (handling r t m .sent)) ≡ false
-    decided-fits l = let g : h + length (handling r t m .sent) ≤ capacity ws = omega (arith, number ∙ ap length decided-sent) in le-ltb _ _ g
+-- what was decided of a change tells its outcome
+module _ (r : Run) (t : List ℕ) (m : Message) (x : Reaction) (d : Decides r t m x) where
+  decided-sent : x .ends ≡ false → sentFor (r .plan) (r .faulty) m x ≡ handling r t m .sent
+  decided-sent goes-on = sym (change-sent r t m x) ∙ ap (λ (c : Change). c .sent) (d .change goes-on)
+
+  pub decided-outcome : (h k : ℕ) → outcome (x .ends) (ltb k (h + length (sentFor (r .plan) (r .faulty) m x)))
+      ≡ outcome (reachesEnd r (handling r t m)) (ltb k (h + length (handling r t m .sent)))
+  decided-outcome h k = go (x .ends) refl
+    where
+      go : (b : Bool) → x .ends ≡ b → outcome (x .ends) (ltb k (h + length (sentFor (r .plan) (r .faulty) m x)))
+          ≡ outcome (reachesEnd r (handling r t m)) (ltb k (h + length (handling r t m .sent)))
+      go true e = ap (λ (b : Bool). outcome b (ltb k (h + length (sentFor (r .plan) (r .faulty) m x)))) e
+          ∙ ap (λ (b : Bool). outcome b (ltb k (h + length (handling r t m .sent)))) (sym e ∙ d .ends)
+      go false e = ap (λ (ms : List Message). outcome (x .ends) (ltb k (h + length ms))) (decided-sent e)
+          ∙ ap (λ (b : Bool). outcome b (ltb k (h + length (handling r t m .sent)))) (d .ends)
+
+-- the outcome of a message that is handled, by what was decided on a head without it
+pub handled-outcome : (before : Head) (cs vs t ws : List ℕ) (m : Message) (i : ℕ) → before .held ≤ capacity ws → (h : Head) → h ≡ headWithout before i
+    → (x : Reaction) → Decides (runFrom h cs vs) t m x → (room k : ℕ) → room ≡ capacity ws
+    → k ≡ outcome (x .ends) (ltb room (h .held + length (sentFor (h .plan) (h .faulty) m x)))
+    → let s' = leaving (stateOf (runFrom before cs vs) t ws) i in let c = handling (s' .run) t m in k ≡ outcome (reachesEnd (s' .run) c) (overfull s' c)
+handled-outcome before cs vs t ws m i fits h e x d room k r q =
+    let s : State = stateOf (runFrom before cs vs) t ws in
+    let s' : State = leaving s i in
+    let c : Change = handling (s' .run) (s .tally) m in
+    q ∙ ap₂ (λ (y : Head) (n : ℕ). outcome (x .ends) (ltb n (y .held + length (sentFor (y .plan) (y .faulty) m x)))) e (r ∙ sym (room-left s i fits .0))
+    ∙ decided-outcome (s' .run) (s .tally) m x (subst (λ (y : Head). Decides (runFrom y (s .run .clocks) (s .run .views)) (s .tally) m x) e d)
+    (s' .run .held) (capacity (s' .network))
 
 -- ---- what is named
 
@@ -80,32 +109,18 @@ module _ (s : State) (m : Message) where
     deliver-named k e l = cond-no (unsound s) (refused s k) (refused s 9) _ sound (named-refused (refused s) plan m k _ e l)
 
     module _ (named : namedCheck plan m ≡ 0) where
-      deliver-rest : (a : After) → a ≡ cond (notHeld s m) (refused s 13) (cond (reachesEnd (s .run) (delivering s m)) (refused s 17)
-          (cond (overfull (without s m) (delivering s m)) (refused s 18) (effect (Deliver m) s))) → a ≡ applied (Deliver m) s
-      unfolding applied checks
+      deliver-rest : (a : After) → a ≡ cond (notHeld s m) (refused s 13) (finished s (without s m) (delivering s m)) → a ≡ applied (Deliver m) s
+      unfolding applied checks effect
       deliver-rest a e = cond-no (unsound s) a (refused s 9) _ sound (cond-no (namedOutside plan (processorIn m) (viewIn m)) a (refused s 10) _ (named-passed plan m named .0)
           (cond-no (notInitial plan (stageOf m) (viewIn m)) a (refused s 11) _ (named-passed plan m named .1) e))
 
       pub deliver-missing : notHeld s m ≡ true → refused s 13 ≡ applied (Deliver m) s
       deliver-missing e = deliver-rest (refused s 13) (cond-yes (notHeld s m) (refused s 13) (refused s 13) _ e refl)
 
-      module _ (is-held : notHeld s m ≡ false) where
-        pub deliver-ends : reachesEnd (s .run) (delivering s m) ≡ true → refused s 17 ≡ applied (Deliver m) s
-        deliver-ends e = deliver-rest (refused s 17) (cond-no (notHeld s m) (refused s 17) (refused s 13) _ is-held
-            (cond-yes (reachesEnd (s .run) (delivering s m)) (refused s 17) (refused s 17) _ e refl))
-
-        pub deliver-full : reachesEnd (s .run) (delivering s m) ≡ false → overfull (without s m) (delivering s m) ≡ true → refused s 18 ≡ applied (Deliver m) s
-        deliver-full e f = deliver-rest (refused s 18) (cond-no (notHeld s m) (refused s 18) (refused s 13) _ is-held
-            (cond-no (reachesEnd (s .run) (delivering s m)) (refused s 18) (refused s 17) _ e
-            (cond-yes (overfull (without s m) (delivering s m)) (refused s 18) (refused s 18) _ f refl)))
-
-        pub deliver-done : reachesEnd (s .run) (delivering s m) ≡ false → overfull (without s m) (delivering s m) ≡ false
-            → done (made (without s m) (delivering s m)) ≡ applied (Deliver m) s
-        unfolding effect
-        deliver-done e f = deliver-rest (done (made (without s m) (delivering s m)))
-            (cond-no (notHeld s m) (done (made (without s m) (delivering s m))) (refused s 13) _ is-held
-            (cond-no (reachesEnd (s .run) (delivering s m)) (done (made (without s m) (delivering s m))) (refused s 17) _ e
-            (cond-no (overfull (without s m) (delivering s m)) (done (made (without s m) (delivering s m))) (refused s 18) _ f refl)))
+      pub deliver-held : notHeld s m ≡ false → (i : ℕ) → leaving s i ≡ without s m → handled s m i ≡ applied (Deliver m) s
+      unfolding delivering
+      deliver-held e i w = deliver-rest (handled s m i) (cond-no (notHeld s m) (handled s m i) (refused s 13) _ e
+          (ap (λ (x : State). finished s x (handling (x .run) (s .tally) m)) w))
 
   -- sign
   module _ (formed : lacksForm (Sign m) ≡ false) (sound : unsound s ≡ false) where
@@ -115,7 +130,7 @@ module _ (s : State) (m : Message) where
         (cond-no (unsound s) (refused s k) (refused s 9) _ sound (named-refused (refused s) plan m k _ e l))
 
     module _ (named : namedCheck plan m ≡ 0) where
-      sign-rest : (a : After) → a ≡ cond (isCorrect (s .run) (processorIn m)) (refused s 12) (finished s (signing s m)) → a ≡ applied (Sign m) s
+      sign-rest : (a : After) → a ≡ cond (isCorrect (s .run) (processorIn m)) (refused s 12) (finished s s (signing s m)) → a ≡ applied (Sign m) s
       unfolding applied checks effect
       sign-rest a e = cond-no (lacksForm (Sign m)) a (refused s 1) _ formed (cond-no (unsound s) a (refused s 9) _ sound
           (cond-no (namedOutside plan (processorIn m) (viewIn m)) a (refused s 10) _ (named-passed plan m named .0)
@@ -125,16 +140,16 @@ module _ (s : State) (m : Message) where
       sign-correct e = sign-rest (refused s 12) (cond-yes (isCorrect (s .run) (processorIn m)) (refused s 12) (refused s 12) _ e refl)
 
       pub sign-heard : isCorrect (s .run) (processorIn m) ≡ false → isCorrect (s .run) (lead plan (viewIn m)) ≡ true → (a : After)
-          → a ≡ finished s (handling (s .run) (s .tally) m) → a ≡ applied (Sign m) s
+          → a ≡ finished s s (handling (s .run) (s .tally) m) → a ≡ applied (Sign m) s
       unfolding signing
       sign-heard e l a q = sign-rest a (cond-no (isCorrect (s .run) (processorIn m)) a (refused s 12) _ e
-          (q ∙ ap (finished s) (cond-yes (isCorrect (s .run) (lead plan (viewIn m))) _ _ (still (s .run) (s .tally)) l refl)))
+          (q ∙ ap (finished s s) (cond-yes (isCorrect (s .run) (lead plan (viewIn m))) _ _ (still (s .run) (s .tally)) l refl)))
 
       pub sign-unheard : isCorrect (s .run) (processorIn m) ≡ false → isCorrect (s .run) (lead plan (viewIn m)) ≡ false → (a : After)
-          → a ≡ finished s (still (s .run) (s .tally)) → a ≡ applied (Sign m) s
+          → a ≡ finished s s (still (s .run) (s .tally)) → a ≡ applied (Sign m) s
       unfolding signing
       sign-unheard e l a q = sign-rest a (cond-no (isCorrect (s .run) (processorIn m)) a (refused s 12) _ e
-          (q ∙ ap (finished s) (cond-no (isCorrect (s .run) (lead plan (viewIn m))) _ (handling (s .run) (s .tally) m) _ l refl)))
+          (q ∙ ap (finished s s) (cond-no (isCorrect (s .run) (lead plan (viewIn m))) _ (handling (s .run) (s .tally) m) _ l refl)))
 
   -- show
   module _ (formed : lacksForm (Show m) ≡ false) (sound : unsound s ≡ false) where
@@ -148,7 +163,7 @@ module _ (s : State) (m : Message) where
       there = exists (stageOf m) (s .run) (s .tally) (viewIn m)
 
       show-rest : (a : After) → a ≡ cond (not (isCorrect (s .run) (processorIn m))) (refused s 12) (cond (not there) (refused s 14)
-          (finished s (handling (s .run) (s .tally) m))) → a ≡ applied (Show m) s
+          (finished s s (handling (s .run) (s .tally) m))) → a ≡ applied (Show m) s
       unfolding applied checks effect
       show-rest a e = cond-no (lacksForm (Show m)) a (refused s 1) _ formed (cond-no (unsound s) a (refused s 9) _ sound
           (cond-no (namedOutside plan (processorIn m) (viewIn m)) a (refused s 10) _ (named-passed plan m named .0)
@@ -161,7 +176,7 @@ module _ (s : State) (m : Message) where
       show-none e f = show-rest (refused s 14) (cond-no (not (isCorrect (s .run) (processorIn m))) (refused s 14) (refused s 12) _ (not-yes _ e)
           (cond-yes (not there) (refused s 14) (refused s 14) _ (not-no _ f) refl))
 
-      pub show-there : isCorrect (s .run) (processorIn m) ≡ true → there ≡ true → (a : After) → a ≡ finished s (handling (s .run) (s .tally) m) → a ≡ applied (Show m) s
+      pub show-there : isCorrect (s .run) (processorIn m) ≡ true → there ≡ true → (a : After) → a ≡ finished s s (handling (s .run) (s .tally) m) → a ≡ applied (Show m) s
       show-there e f a q = show-rest a (cond-no (not (isCorrect (s .run) (processorIn m))) a (refused s 12) _ (not-yes _ e)
           (cond-no (not there) a (refused s 14) _ (not-yes _ f) q))
 
@@ -190,33 +205,27 @@ certificate-reaches r (Vote w p) e = tt
 certificate-reaches r (Vc w p) e = e
 certificate-reaches r (Qc w p) e = e
 
-still-made : (s : State) → s ≡ made s (still (s .run) (s .tally))
-unfolding made
-still-made s = state-by _ _ (ap (λ (h : ℕ). withHeld h (s .run)) (sym (add-zero (s .run .held)))) refl (posted-none (s .network) (s .run .held) (s .run .time))
-
 -- nothing changed is done: no clock has moved, and what is held fits
-pub finish-still : (s : State) → unsound s ≡ false → done s ≡ finished s (still (s .run) (s .tally))
+pub finish-still : (s : State) → unsound s ≡ false → done s ≡ finished s s (still (s .run) (s .tally))
 finish-still s sound =
     let l : s .run .held + 0 ≤ capacity (s .network) = omega (arith, room-of s sound) in
-    ap done (still-made s) ∙ finish-done s (still (s .run) (s .tally)) (stays-below (s .run) (fit-of s sound) (still (s .run) (s .tally)) refl) (le-ltb _ _ l)
+    ap done (still-made s) ∙ finish-done s s (still (s .run) (s .tally)) (stays-below (s .run) (fit-of s sound) (still (s .run) (s .tally)) refl) (le-ltb _ _ l)
+
+-- a message that is not held leaves nothing behind
+pub none-leaves : (s : State) (m : Message) → handled s m (s .run .held) ≡ finished s s (handling (s .run) (s .tally) m)
+none-leaves s m =
+    let w : leaving s (s .run .held) ≡ s = rw (le-ltb (s .run .held) (s .run .held) (le-refl (s .run .held))) refl in
+    ap (λ (x : State). finished s x (handling (x .run) (s .tally) m)) w
 
 -- ---- checks 1 and 9 of every event
 
 pub lacking : (e : Event) (s : State) → lacksForm e ≡ true → refused s 1 ≡ applied e s
 unfolding applied checks
-lacking (Deliver m) s q = no-yes (sym q)
-lacking (Sign m) s q = cond-yes (lacksForm (Sign m)) (refused s 1) (refused s 1) _ q refl
-lacking (Show m) s q = cond-yes (lacksForm (Show m)) (refused s 1) (refused s 1) _ q refl
-lacking Settle s q = no-yes (sym q)
-lacking (Tick m) s q = cond-yes (lacksForm (Tick m)) (refused s 1) (refused s 1) _ q refl
+lacking e s q = cond-yes (lacksForm e) (refused s 1) (refused s 1) _ q refl
 
 pub unsound-handed : (e : Event) (s : State) → lacksForm e ≡ false → unsound s ≡ true → refused s 9 ≡ applied e s
 unfolding applied checks
-unsound-handed (Deliver m) s q u = cond-yes (unsound s) (refused s 9) (refused s 9) _ u refl
-unsound-handed (Sign m) s q u = cond-no (lacksForm (Sign m)) (refused s 9) (refused s 1) _ q (cond-yes (unsound s) (refused s 9) (refused s 9) _ u refl)
-unsound-handed (Show m) s q u = cond-no (lacksForm (Show m)) (refused s 9) (refused s 1) _ q (cond-yes (unsound s) (refused s 9) (refused s 9) _ u refl)
-unsound-handed Settle s q u = cond-yes (unsound s) (refused s 9) (refused s 9) _ u refl
-unsound-handed (Tick m) s q u = cond-no (lacksForm (Tick m)) (refused s 9) (refused s 1) _ q (cond-yes (unsound s) (refused s 9) (refused s 9) _ u refl)
+unsound-handed e s q u = cond-no (lacksForm e) (refused s 9) (refused s 1) _ q (cond-yes (unsound s) (refused s 9) (refused s 9) _ u refl)
 
 pub ticks-applied : (m : ℕ) (s : State) → lacksForm (Tick m) ≡ false → unsound s ≡ false → tickRun m s ≡ applied (Tick m) s
 unfolding applied checks effect

@@ -11,9 +11,9 @@ pub mod Ticking
 pub mod TickKeeps
 pub mod Once
 pub mod Deciding
+pub mod Lasting
 pub mod Happening
 pub mod Delivery
 pub mod Starting
 pub mod Demands
-pub mod Waiting
-pub mod Leaping
+pub mod Striding

@@ -20,7 +20,8 @@ use Rattle.types.specs.declared.Setup.{Setup}
 use Rattle.types.specs.declared.Sends.{Sends}
 use Rattle.types.specs.declared.Sends.the-variants.{Nothing, ViewAndVote}
 use Rattle.types.specs.Quantities.{networkLeast, networkMost, tableClocks, rowWords, perLeader, initial, correct}
-use Rattle.model.specs.State.{stateOf, runOf, withHeld, clockOf, viewOf, posted, capacity, refused, done}
+use Rattle.types.specs.Runs.{head-back}
+use Rattle.model.specs.State.{stateOf, runOf, withHeld, clockOf, viewOf, posted, capacity, refused, done, runFrom, headOf}
 use Rattle.model.specs.Moves.{Change, changed, stay, into, made}
 use Rattle.model.specs.Processors.{messagesOf, moving}
 use Rattle.model.specs.Opening.{startClocks, blankRun, blank, firstEntry, opened, opening}
@@ -176,10 +177,11 @@ module _ (u : Setup) (run : Run) (t ws : List ℕ) where
   check = setupCheck u (length t) (length ws)
 
   pub opens-done : (next : Run) (t' ws' : List ℕ) → check ≡ 0 → stateOf next t' ws' ≡ opened u (stateOf (blankRun u) t ws)
-      → Opens u (stateOf run t ws) (done (stateOf next t' ws'))
+      → Opens u (stateOf run t ws) (done (stateOf (runFrom (headOf next) (next .clocks) (next .views)) t' ws'))
   unfolding opening
   opens-done next t' ws' z e =
-      cond-yes (eqb check 0) (done (stateOf next t' ws')) (done (opened u (stateOf run t ws))) (refused (stateOf run t ws) check) (eq-eqb check 0 z)
+      ap (λ (r : Run). done (stateOf r t' ws')) (head-back next)
+      ∙ cond-yes (eqb check 0) (done (stateOf next t' ws')) (done (opened u (stateOf run t ws))) (refused (stateOf run t ws) check) (eq-eqb check 0 z)
       (ap done (e ∙ opened-same u (blankRun u) run t ws))
       ∙ sym (setup-check u (stateOf run t ws) (done (opened u (stateOf run t ws))))
 

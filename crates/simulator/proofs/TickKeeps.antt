@@ -9,9 +9,9 @@ use native.Mathlib.Nat.{div-add-mod', mul-div-cancel, mul-mod-left, mul-le-mul-r
 use lib.Dec.{T, eqb, leb, ltb, eqb→eq}
 use lib.ListN.{length, getD, length-set}
 use lib.Seq.{getD-set-same, getD-set-other}
-use borrow.Author.Tests.{lt-leb, le-ltb, eq-eqb}
+use borrow.Author.Tests.{eq-eqb}
 use Rattle.base.specs.Tests.{fails, T-left, le?}
-use Rattle.base.specs.Choice.{or-neither, and-both}
+use Rattle.base.specs.Choice.{and-both}
 use Rattle.base.specs.Scan.{some}
 use Rattle.base.specs.ScanLaws.{some-not}
 use Rattle.pacemaker.proofs.LimitLaws.{within}
@@ -26,6 +26,7 @@ use Rattle.model.specs.Checks.{clockOutside, atEnd}
 use Rattle.liveness.proofs.Link.{correct-below}
 use Rattle.liveness.proofs.TickLaws.{clock-up}
 use Rattle.liveness.proofs.Judging.{neither, not-ltb, not-leb}
+use Rattle.leaps.proofs.Resting.{clock-inside}
 use Rattle.simulator.specs.Inner.{Fit, Went, arrivedBelow, endsAt}
 use Rattle.simulator.proofs.Entries.{entries-views}
 use Rattle.simulator.proofs.Arrivals.{arrived-clocks}
@@ -66,12 +67,6 @@ module _ (e : ℕ → Entry) (r : Run) (t : List ℕ) where
 
 -- ---- a clock inside its view, one tick on
 
--- the three bounds of check 9 on a clock
-inside : (plan : Plan) (clock view : ℕ) → clock < endTime plan → clockTime plan view ≤ clock → clock < clockTime plan (nextInitial plan view)
-    → clockOutside plan clock view ≡ false
-inside plan clock view a b c = or-neither (atEnd plan clock || ltb clock (clockTime plan view)) _
-    (or-neither (atEnd plan clock) _ (lt-leb _ _ a) (le-ltb _ _ b)) (lt-leb _ _ c)
-
 module _ (plan : Plan) (positive : 0 < plan .gamma) (clock view : ℕ) (was : clockOutside plan clock view ≡ false) (on : atEnd plan (clock + 1) ≡ false) where
   bounds : (clockTime plan view ≤ clock) × (clock < clockTime plan (nextInitial plan view))
   bounds =
@@ -91,11 +86,11 @@ module _ (plan : Plan) (positive : 0 < plan .gamma) (clock view : ℕ) (was : cl
       let m : (clock + 1) % plan .gamma ≡ 0 = eqb→eq _ _ (T-left (eqb ((clock + 1) % plan .gamma) 0) (initial plan w) t) in
       let g : w * plan .gamma ≡ clock + 1 = omega (arith, div-add-mod' (clock + 1) (plan .gamma)) in
       let n : (w + 1) * plan .gamma ≤ nextInitial plan w * plan .gamma = mul-le-mul-right (plan .gamma) (next-above plan w (per-leader-positive plan)) in
-      inside plan (clock + 1) w before-end (omega arith) (omega arith)
+      clock-inside plan (clock + 1) w before-end (omega arith) (omega arith)
 
   -- it has not, and is still below the next
   goes-on : (T due → ⊥) → clockOutside plan (clock + 1) view ≡ false
-  goes-on no' = inside plan (clock + 1) view before-end (omega (arith, bounds .0)) (⊎-elim
+  goes-on no' = clock-inside plan (clock + 1) view before-end (omega (arith, bounds .0)) (⊎-elim
       (λ (l : clockTime plan next ≤ clock + 1). absurd (no' (at-next (omega (arith, bounds .1)))))
       (λ (l : clock + 1 < clockTime plan next). l)
       (le? (clockTime plan next) (clock + 1)))

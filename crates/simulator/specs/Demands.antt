@@ -1,19 +1,20 @@
 -- Demand 3 of what the code hands back: start with what `open` leaves, feed any list of events to `apply`, each getting what the last one
--- left. proofs/Demands.antt has a proof of each promise, under its name in small letters with hyphens (`demand-three-of-code`).
+-- left, or many at once to `apply_events`. proofs/Demands.antt has a proof of each promise, under its name in small letters with hyphens (`demand-three-of-code`).
 use mathlib.Core.Path.{_≡_}
 use mathlib.Core.Bool.{false}
 use mathlib.Core.Logic.{_≢_}
 use mathlib.Core.List.{List, [], _∷_}
 use Prim.Native.Nat.{ℕ, zero, suc, _<_}
 use lib.Dec.{T}
-use lib.ListN.{take}
+use lib.ListN.{length, take}
 use Rattle.types.specs.declared.Event.{Event}
 use Rattle.types.specs.declared.Setup.{Setup}
-use Rattle.model.specs.State.{State, After, checkOf, accepted}
+use Rattle.model.specs.State.{State, After, checkOf, ticksOf, accepted}
 use Rattle.model.specs.Checks.{tooFarAhead}
 use Rattle.model.specs.Lists.{after, sinceSettling, ticksSince}
 use Rattle.liveness.specs.Promises.{settlingBound, Certified, Same}
-use Rattle.simulator.specs.Contracts.{Opens, Applies}
+use Rattle.words.specs.Batches.{eventsOf}
+use Rattle.simulator.specs.Contracts.{Opens, Applies, AppliesAll}
 
 -- the list es fed to `apply` from s on: hs is what the calls handed back, one for each event, as their contract says
 abbrev pub Fed : State → List Event → List After → Type 0
@@ -56,3 +57,20 @@ HandedIsAfter = (s : State) (es : List Event) (hs : List After) → Fed s es hs 
 -- Every list can be fed.
 abbrev pub EveryListFed : Type 0
 EveryListFed = (s : State) (es : List Event) → (hs : List After) × Fed s es hs
+
+-- the words that a batch leaves, hs being what its events handed back one by one: each event's become its form, the check that refused it or ended
+-- its ticks, the ticks done and the messages held; words behind the last four stay
+unfoldable pub answersIn : List ℕ → List After → List ℕ
+answersIn [] hs = []
+answersIn (a ∷ []) hs = a ∷ []
+answersIn (a ∷ b ∷ []) hs = a ∷ b ∷ []
+answersIn (a ∷ b ∷ c ∷ []) hs = a ∷ b ∷ c ∷ []
+answersIn (a ∷ b ∷ c ∷ d ∷ ws) [] = a ∷ b ∷ c ∷ d ∷ ws
+answersIn (a ∷ b ∷ c ∷ d ∷ ws) (h ∷ hs) = a ∷ checkOf (h .answer) ∷ ticksOf (h .answer) ∷ h .state .run .held ∷ answersIn ws hs
+
+-- A batch leaves and answers what `apply` hands back of its events one by one, whatever the run and the buffers hold: so what is promised of calls
+-- of `apply` holds of batches.
+abbrev pub BatchIsFed : Type 0
+BatchIsFed =
+    (ws : List ℕ) (s s' : State) (ws' : List ℕ) → AppliesAll ws s s' ws' → (hs : List After) → Fed s (eventsOf ws) hs
+    → (s' ≡ handed s hs (length hs)) × (ws' ≡ answersIn ws hs)

@@ -2,26 +2,31 @@
 use mathlib.Core.Path.{_≡_}
 use mathlib.Core.Bool.{Bool, true, false, _&&_, cond}
 use mathlib.Core.List.{List, [], _∷_}
-use Prim.Native.Nat.{ℕ, _+_, _*_, _^_, _≤_, _<_}
+use Prim.Native.Nat.{ℕ, _+_, _-_, _*_, _^_, _≤_, _<_}
+use lib.Dec.{ltb}
 use lib.ListN.{length}
 use Rattle.types.specs.declared.Plan.{Plan}
 use Rattle.types.specs.declared.Message.{Message}
 use Rattle.types.specs.declared.Message.the-variants.{View, Vote, Vc, Qc}
+use Rattle.types.specs.declared.Event.{Event}
 use Rattle.types.specs.declared.Run.{Run}
+use Rattle.types.specs.declared.Head.{Head}
 use Rattle.types.specs.declared.Processor.{Processor}
 use Rattle.types.specs.declared.Input.the-variants.{Tick}
 use Rattle.types.specs.declared.Sends.{Sends}
 use Rattle.types.specs.declared.Sends.the-variants.{Nothing, Vote as VoteFor, ViewAndVote}
 use Rattle.types.specs.Quantities.{nMost, correct}
 use Rattle.base.specs.Scan.{some}
-use Rattle.types.specs.Messages.{viewStage, voteStage, viewIn, processorIn, stageOf}
-use Rattle.model.specs.State.{State, After, stateOf, clockOf, viewOf, isCorrect, enteredWord, added, posted, capacity, checkOf, refused, done}
+use Rattle.types.specs.Messages.{viewStage, voteStage, lacksForm}
+use Rattle.model.specs.State.{State, After, stateOf, runFrom, withHeld, clockOf, viewOf, isCorrect, enteredWord, added, posted, capacity, checkOf, refused, done}
 use Rattle.model.specs.Moves.{Change, toCorrect, movedTo, formedMessages, heardChange, stay, entries, handling, advanced, arrival, arrivals, made}
-use Rattle.model.specs.Checks.{judged, planOutside, faultyOutside, clockOutside, atEnd, namedOutside, notInitial, reachesEnd, overfull}
-use Rattle.model.specs.Events.{tickOnce, Ticks}
+use Rattle.model.specs.Checks.{judged, planOutside, faultyOutside, unsound, clockOutside, atEnd, reachesEnd}
+use Rattle.model.specs.Events.{outcomeChecks, namedChecks, tickOnce, Ticks, tickRun, applied}
 use Rattle.model.specs.Processors.{Moved, messagesOf, moving, movingBy}
 use Rattle.simulator.specs.declared.Reaction.{Reaction}
-use Rattle.simulator.specs.declared.Due.{Due}
+use Rattle.simulator.specs.declared.Task.{Task}
+use Rattle.simulator.specs.declared.Task.the-variants.{Refuse, Finish, Handle, Run as RunTicks}
+use Rattle.buffers.specs.Network.{taken}
 
 -- ---- messages sent
 
@@ -106,11 +111,11 @@ endsAt r q = isCorrect r q && atEnd (r .plan) (clockOf r q + 1)
 abbrev pub sentMost : ℕ
 sentMost = 2 * nMost
 
--- what a tick would do: a clock that ends, and how many messages it would send
-pub record Foretells (r : Run) (x : Due) : Type 0 where
-  pub ends : x .ends ≡ some (endsAt r) (r .plan .n)
-  pub sent : x .ends ≡ false → (t ws : List ℕ) → x .sent ≡ length (arrivedBelow (stateOf r t ws) (r .plan .n) .sent)
-  pub few : x .sent ≤ sentMost
+-- a run that check 9 passed, of which a tick brings no clock to the end
+pub record GoesOn (r : Run) : Type 0 where
+  pub fit : Fit r
+  pub whole : Whole r
+  pub goes-on : some (endsAt r) (r .plan .n) ≡ false
 
 -- what a tick needs that no check refuses: clocks that go on, room for what is sent, and a time that fits
 pub record CanTick (r : Run) (t ws : List ℕ) : Type 0 where
@@ -145,7 +150,7 @@ ranTo s count check = record { state = s; count = count; check = check }
 
 -- the first of checks 10 and 11 that refuses what is named, or 0
 abbrev pub namedCheck : Plan → Message → ℕ
-namedCheck plan m = judged (λ r. r) ((10, namedOutside plan (processorIn m) (viewIn m)) ∷ (11, notInitial plan (stageOf m) (viewIn m)) ∷ []) 0
+namedCheck plan m = judged (λ r. r) (namedChecks plan m) 0
 
 -- a certificate reaches a correct processor
 abbrev pub ReachesCorrect : Run → Message → Type 0
@@ -166,6 +171,37 @@ sentFor plan faulty (Vote w p) x = formedMessages plan faulty voteStage w (x .fo
 sentFor plan faulty (Vc w p) x = sentBy plan faulty p (x .sends)
 sentFor plan faulty (Qc w p) x = sentBy plan faulty p (x .sends)
 
--- a change of s, judged by checks 17 and 18 and made
-abbrev pub finished : State → Change → After
-finished s c = judged (refused s) ((17, reachesEnd (s .run) c) ∷ (18, overfull s c) ∷ []) (done (made s c))
+-- a change of s', what an event leaves of s before it changes anything, judged by checks 17 and 18 and made
+abbrev pub finished : State → State → Change → After
+finished s s' c = judged (refused s) (outcomeChecks s' c) (done (made s' c))
+
+-- how many are held without the message at place i, where one of the h that are held is there
+abbrev pub heldWithout : ℕ → ℕ → ℕ
+heldWithout h i = cond (ltb i h) (h - 1) h
+
+abbrev pub headWithout : Head → ℕ → Head
+headWithout x i = record { plan = x .plan; faulty = x .faulty; time = x .time; settled = x .settled; gst = x .gst; held = heldWithout (x .held) i }
+
+abbrev pub leaving : State → ℕ → State
+leaving s i = stateOf (withHeld (heldWithout (s .run .held) i) (s .run)) (s .tally) (taken (s .network) (s .run .held) i)
+
+-- m, held at place i or not held, is handled
+abbrev pub handled : State → Message → ℕ → After
+handled s m i = finished s (leaving s i) (handling (leaving s i .run) (s .tally) m)
+
+-- what it needs: a run that check 9 passed, names within their limits, and, of a certificate, a correct receiver
+pub record CanHandle (s : State) (m : Message) : Type 0 where
+  pub sound : unsound s ≡ false
+  pub named : namedCheck (s .run .plan) m ≡ 0
+  pub reaches : ReachesCorrect (s .run) m
+
+-- that checks 1 and 9 do not refuse the event
+abbrev pub Admitted : Event → State → Type 0
+Admitted e s = (lacksForm e ≡ false) × (unsound s ≡ false)
+
+-- that doing the task is applying the event
+abbrev pub Tasks : Event → State → Task → Type 0
+Tasks e s (Refuse k) = refused s k ≡ applied e s
+Tasks e s (Finish x) = done (stateOf (runFrom x (s .run .clocks) (s .run .views)) (s .tally) (s .network)) ≡ applied e s
+Tasks e s (Handle m i) = CanHandle s m × (handled s m i ≡ applied e s)
+Tasks e s (RunTicks m) = (0 < m) × (unsound s ≡ false) × (tickRun m s ≡ applied e s)

@@ -1,6 +1,6 @@
 -- What the contracts cite.
 pub mod Inner
-pub mod Leaps
+pub mod Strides
 pub mod Opening
 pub mod Contracts
 pub mod Demands

@@ -1,11 +1,10 @@
-// The events on a run that check 9 passed: what a message will do is decided first, then its checks are judged, then it is done. The run's
-// tables are lent beside its head.
+// A message on a run that check 9 passed: what it will do is decided first, then its outcome is judged, then it is done. The run's tables are
+// lent beside its head.
 use crate::Reaction;
 use crate::moves;
 use crate::ticks;
 use types::Answer;
 use types::AppliedHead;
-use types::Event;
 use types::Head;
 use types::Input;
 use types::Message;
@@ -13,17 +12,17 @@ use types::Plan;
 use types::Processor;
 use types::Sends;
 ghost use mathlib.Core.Path.{_≡_};
-ghost use mathlib.Core.Bool.{true, false};
-ghost use Prim.Native.Nat.{ℕ, _+_, _<_, _≤_};
+ghost use mathlib.Core.Bool.{false, cond};
+ghost use Prim.Native.Nat.{ℕ, _+_, _^_, _<_, _≤_};
+ghost use lib.Dec.{ltb};
 ghost use mathlib.Core.List.{List};
 ghost use lib.ListN.{length, getD};
-ghost use Rattle.types.specs.Quantities.{lead, initial};
-ghost use Rattle.types.specs.Messages.{processorIn, lacksForm};
+ghost use Rattle.types.specs.Quantities.{lead};
+ghost use Rattle.types.specs.Messages.{viewIn, processorIn, stageOf};
 ghost use Rattle.model.specs.State.{stateOf, runFrom, leftBehind, capacity};
-ghost use Rattle.model.specs.Moves.{ripe, handling, made, formedMessages, heardChange};
-ghost use Rattle.model.specs.Checks.{planOutside, faultyOutside, unsound, exists};
-ghost use Rattle.model.specs.Events.{applied};
-ghost use Rattle.simulator.specs.Inner.{Fit, Decides, ReachesCorrect, seat, namedCheck, CanEnter, movedChange, changeBy, sentFor, finished};
+ghost use Rattle.model.specs.Moves.{ripe, made, formedMessages, heardChange};
+ghost use Rattle.model.specs.Checks.{planOutside, faultyOutside};
+ghost use Rattle.simulator.specs.Inner.{Fit, Decides, ReachesCorrect, seat, namedCheck, CanEnter, movedChange, changeBy, sentFor, headWithout, CanHandle, handled};
 
 // A refusal: the check's number alone.
 pub(crate) fn refuse(head: Head, check: u64) -> AppliedHead
@@ -36,7 +35,7 @@ pub(crate) fn refuse(head: Head, check: u64) -> AppliedHead
 }
 
 // An event done that is no tick.
-fn done(head: Head) -> AppliedHead
+pub(crate) fn done(head: Head) -> AppliedHead
     ensures { λ r. ⌜ (r .head ≡ head) × (r .answer ≡ Answer.Done 0 (head .held)) ⌝ }
 {
     let held = head.held;
@@ -44,25 +43,6 @@ fn done(head: Head) -> AppliedHead
         head: head,
         answer: Answer::Done(0, held),
     }
-}
-
-// Checks 10 and 11.
-fn check_named(plan: Plan, message: Message) -> u64
-    ensures { λ r. ⌜ r ≡ namedCheck plan message ⌝ }
-{
-    if plan.n <= message.processor() {
-        return 10;
-    }
-    if plan.views <= message.view() {
-        return 10;
-    }
-    if message.stage() {
-        return 0;
-    }
-    if plan.initial(message.view()) {
-        return 0;
-    }
-    11
 }
 
 // Processor p as it stands.
@@ -149,16 +129,16 @@ fn count_sent(plan: Plan, faulty: u64, message: Message, x: Reaction) -> usize
 // A leader hears a signature.
 fn listen(
     head: Head,
-    stage: bool,
-    w: u64,
-    p: u64,
-    x: Reaction,
+    message: Message,
+    formed: bool,
     tally: &mut [u64],
     network: &mut [u64],
 ) -> Head
-    requires { ⌜ (0 < head .plan .n) × (p < 64) × (head .held + length (formedMessages (head .plan) (head .faulty) stage w (x .formed)) ≤ capacity (now network)) ⌝ }
+    requires { ⌜ (0 < head .plan .n) × (processorIn message < 64)
+        × (head .held + length (formedMessages (head .plan) (head .faulty) (stageOf message) (viewIn message) formed) ≤ capacity (now network)) ⌝ }
     ensures { λ r. ⌜ ((c v : List ℕ) → stateOf (runFrom r c v) (now (tally .exit)) (now (network .exit))
-        ≡ made (stateOf (runFrom head c v) (now (tally .entry)) (now (network .entry))) (heardChange stage (runFrom head c v) (now (tally .entry)) w p (x .formed))) ⌝ }
+        ≡ made (stateOf (runFrom head c v) (now (tally .entry)) (now (network .entry)))
+        (heardChange (stageOf message) (runFrom head c v) (now (tally .entry)) (viewIn message) (processorIn message) formed)) ⌝ }
 {
     let held = moves::hear(
         tally,
@@ -166,10 +146,10 @@ fn listen(
         head.held,
         head.plan,
         head.faulty,
-        stage,
-        w,
-        p,
-        x.formed,
+        message.stage(),
+        message.view(),
+        message.processor(),
+        formed,
         head.time,
     );
     let mut next = head;
@@ -224,146 +204,59 @@ fn perform(
     ensures { λ r. ⌜ stateOf (runFrom r (now (clocks .exit)) (now (views .exit))) (now (tally .exit)) (now (network .exit))
         ≡ made (stateOf (runFrom head (now (clocks .entry)) (now (views .entry))) (now (tally .entry)) (now (network .entry))) (changeBy (runFrom head (now (clocks .entry)) (now (views .entry))) (now (tally .entry)) message x) ⌝ }
 {
-    match message {
-        Message::View(w, p) => listen(head, false, w, p, x, tally, network),
-        Message::Vote(w, p) => listen(head, true, w, p, x, tally, network),
-        Message::Vc(_, p) => move_on(head, p, x, clocks, views, tally, network),
-        Message::Qc(_, p) => move_on(head, p, x, clocks, views, tally, network),
+    if message.is_signature() {
+        return listen(head, message, x.formed, tally, network);
     }
+    move_on(head, message.processor(), x, clocks, views, tally, network)
 }
 
-// A message is delivered: the first of equal ones leaves the network and is handled.
-pub(crate) fn deliver(
-    head: Head,
-    message: Message,
-    clocks: &mut [u64; 64],
-    views: &mut [u64; 64],
-    tally: &mut [u64],
-    network: &mut [u64],
-) -> AppliedHead
-    requires { ⌜ unsound (stateOf (runFrom head (now clocks) (now views)) (now tally) (now network)) ≡ false ⌝ }
-    ensures { λ r. ⌜ leftBehind r (now (clocks .exit)) (now (views .exit)) (now (tally .exit)) (now (network .exit))
-        ≡ applied (Event.Deliver message) (stateOf (runFrom head (now (clocks .entry)) (now (views .entry))) (now (tally .entry)) (now (network .entry))) ⌝ }
+// What a message would come to by what was decided: 17, 18, or 0 for neither.
+fn outcome_check(head: Head, message: Message, x: Reaction, room: usize) -> u64
+    requires { ⌜ (planOutside (head .plan) ≡ false) × (faultyOutside (head .plan) (head .faulty) ≡ false) × (head .held ≤ room) × (room < 2 ^ 63) ⌝ }
+    ensures { λ r. ⌜ r ≡ cond (x .ends) 17 (cond (ltb room (head .held + length (sentFor (head .plan) (head .faulty) message x))) 18 0) ⌝ }
 {
-    let named = check_named(head.plan, message);
-    if 0 < named {
-        return refuse(head, named);
+    if x.ends {
+        return 17;
     }
-    let i = buffers::find(network, head.held, message);
-    if head.held <= i {
-        return refuse(head, 13);
+    if room < head.held + count_sent(head.plan, head.faulty, message, x) {
+        return 18;
+    }
+    0
+}
+
+// The head without the message at a place, if one is held there.
+fn head_without(head: Head, place: usize) -> Head
+    ensures { λ r. ⌜ r ≡ headWithout head place ⌝ }
+{
+    if head.held <= place {
+        return head;
     }
     let mut next = head;
     next.held = head.held - 1;
+    next
+}
+
+// A message whose input no check refuses is handled: what it makes of whom it reaches is decided; then 17 and 18 are judged; then it leaves
+// the network, if it is held at the place named, and what was decided is done.
+pub(crate) fn handle(
+    head: Head,
+    message: Message,
+    place: usize,
+    clocks: &mut [u64; 64],
+    views: &mut [u64; 64],
+    tally: &mut [u64],
+    network: &mut [u64],
+) -> AppliedHead
+    requires { ⌜ CanHandle (stateOf (runFrom head (now clocks) (now views)) (now tally) (now network)) message ⌝ }
+    ensures { λ r. ⌜ leftBehind r (now (clocks .exit)) (now (views .exit)) (now (tally .exit)) (now (network .exit))
+        ≡ handled (stateOf (runFrom head (now (clocks .entry)) (now (views .entry))) (now (tally .entry)) (now (network .entry))) message place ⌝ }
+{
+    let next = head_without(head, place);
     let x = decide(next, message, clocks, views, tally);
-    if x.ends {
-        return refuse(head, 17);
+    let check = outcome_check(next, message, x, buffers::capacity(network));
+    if 0 < check {
+        return refuse(head, check);
     }
-    if buffers::capacity(network) < next.held + count_sent(head.plan, head.faulty, message, x) {
-        return refuse(head, 18);
-    }
-    buffers::remove(network, head.held, i);
+    buffers::remove(network, head.held, place);
     done(perform(next, message, x, clocks, views, tally, network))
-}
-
-// What was decided is done, unless it meets check 17 or 18.
-fn finish(
-    head: Head,
-    message: Message,
-    clocks: &mut [u64; 64],
-    views: &mut [u64; 64],
-    tally: &mut [u64],
-    network: &mut [u64],
-) -> AppliedHead
-    requires { ⌜ (unsound (stateOf (runFrom head (now clocks) (now views)) (now tally) (now network)) ≡ false) × (namedCheck (head .plan) message ≡ 0)
-        × ReachesCorrect (runFrom head (now clocks) (now views)) message ⌝ }
-    ensures { λ r. ⌜ leftBehind r (now (clocks .exit)) (now (views .exit)) (now (tally .exit)) (now (network .exit))
-        ≡ finished (stateOf (runFrom head (now (clocks .entry)) (now (views .entry))) (now (tally .entry)) (now (network .entry))) (handling (runFrom head (now (clocks .entry)) (now (views .entry))) (now (tally .entry)) message) ⌝ }
-{
-    let x = decide(head, message, clocks, views, tally);
-    if x.ends {
-        return refuse(head, 17);
-    }
-    if buffers::capacity(network) < head.held + count_sent(head.plan, head.faulty, message, x) {
-        return refuse(head, 18);
-    }
-    done(perform(head, message, x, clocks, views, tally, network))
-}
-
-// A faulty processor's signature is heard by the leader, if that is correct.
-pub(crate) fn sign(
-    head: Head,
-    message: Message,
-    clocks: &mut [u64; 64],
-    views: &mut [u64; 64],
-    tally: &mut [u64],
-    network: &mut [u64],
-) -> AppliedHead
-    requires { ⌜ (lacksForm (Event.Sign message) ≡ false) × (unsound (stateOf (runFrom head (now clocks) (now views)) (now tally) (now network)) ≡ false) ⌝ }
-    ensures { λ r. ⌜ leftBehind r (now (clocks .exit)) (now (views .exit)) (now (tally .exit)) (now (network .exit))
-        ≡ applied (Event.Sign message) (stateOf (runFrom head (now (clocks .entry)) (now (views .entry))) (now (tally .entry)) (now (network .entry))) ⌝ }
-{
-    let named = check_named(head.plan, message);
-    if 0 < named {
-        return refuse(head, named);
-    }
-    if head.plan.correct(head.faulty, message.processor()) {
-        return refuse(head, 12);
-    }
-    if moves::led(head.plan, head.faulty, message.view()) {
-        return finish(head, message, clocks, views, tally, network);
-    }
-    done(head)
-}
-
-// Whether a certificate of the stage exists for view w: formed by a correct leader, or within a faulty leader's reach.
-fn has_certificate(head: Head, stage: bool, w: u64, tally: &[u64]) -> bool
-    requires { ⌜ 0 < head .plan .n ⌝ }
-    ensures { λ r. ⌜ ((c v : List ℕ) → r ≡ exists stage (runFrom head c v) (now (tally .entry)) w) ⌝ }
-{
-    if moves::led(head.plan, head.faulty, w) {
-        return buffers::is_marked(tally, stage, w);
-    }
-    moves::signers_needed(head.plan, stage)
-        <= base::size(head.faulty) + base::size(buffers::entered(tally, w))
-}
-
-// The adversary shows a certificate to a correct processor.
-pub(crate) fn show(
-    head: Head,
-    message: Message,
-    clocks: &mut [u64; 64],
-    views: &mut [u64; 64],
-    tally: &mut [u64],
-    network: &mut [u64],
-) -> AppliedHead
-    requires { ⌜ (lacksForm (Event.Show message) ≡ false) × (unsound (stateOf (runFrom head (now clocks) (now views)) (now tally) (now network)) ≡ false) ⌝ }
-    ensures { λ r. ⌜ leftBehind r (now (clocks .exit)) (now (views .exit)) (now (tally .exit)) (now (network .exit))
-        ≡ applied (Event.Show message) (stateOf (runFrom head (now (clocks .entry)) (now (views .entry))) (now (tally .entry)) (now (network .entry))) ⌝ }
-{
-    let named = check_named(head.plan, message);
-    if 0 < named {
-        return refuse(head, named);
-    }
-    if head.plan.correct(head.faulty, message.processor()) {
-        if has_certificate(head, message.stage(), message.view(), tally) {
-            return finish(head, message, clocks, views, tally, network);
-        }
-        return refuse(head, 14);
-    }
-    refuse(head, 12)
-}
-
-// From now on the network keeps its delay.
-pub(crate) fn settle(head: Head) -> AppliedHead
-    ensures { λ r. ⌜ ((c v t ws : List ℕ) → unsound (stateOf (runFrom head c v) t ws) ≡ false
-        → leftBehind r c v t ws ≡ applied Event.Settle (stateOf (runFrom head c v) t ws)) ⌝ }
-{
-    if head.settled {
-        return refuse(head, 15);
-    }
-    let mut next = head;
-    next.settled = true;
-    next.gst = head.time;
-    done(next)
 }

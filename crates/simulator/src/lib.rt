@@ -1,9 +1,9 @@
 // The simulator: a setup is opened, and each event moves the run and the lent buffers exactly as the definitions say. Whatever is handed in gets
 // either the step or a refusal by the first check that fails, and a refused call has changed nothing.
 mod events;
-mod leaps;
 mod moves;
 mod opening;
+mod tasks;
 mod ticks;
 
 use types::Answer;
@@ -11,14 +11,15 @@ use types::Applied;
 use types::AppliedHead;
 use types::Event;
 use types::Head;
+use types::Message;
 use types::Processor;
 use types::Run;
 use types::Sends;
 use types::Setup;
 ghost use mathlib.Core.Path.{_≡_};
 ghost use Rattle.model.specs.State.{stateOf, runFrom, handedBack, leftBehind};
-ghost use Rattle.model.specs.Checks.{unsound};
-ghost use Rattle.simulator.specs.Contracts.{Opens, Applies, KnownSound};
+ghost use Rattle.model.specs.Checks.{unsoundForGood};
+ghost use Rattle.simulator.specs.Contracts.{Opens, Applies, AppliesAll};
 
 // What a message or a tick makes of the processor that it reaches. Of a signature it says whether the leader forms the certificate; of a
 // certificate or a tick, the processor's next state and what it sends, or that its clock would reach the end.
@@ -29,10 +30,13 @@ pub(crate) struct Reaction {
     pub(crate) ends: bool,
 }
 
-// What a tick would do: whether a clock reaches the end, and how many messages go out.
-pub(crate) struct Due {
-    pub(crate) ends: bool,
-    pub(crate) sent: usize,
+// What an event's input comes to: a check that refuses it; a head that is left, all else being as it was; a message to be handled, and the place
+// where it is held, or how many are held where it is not one of them; or ticks to be run.
+pub(crate) enum Task {
+    Refuse(u64),
+    Finish(Head),
+    Handle(Message, usize),
+    Run(u64),
 }
 
 // A setup is opened in place of the run at hand: the run's tables are lent beside its head.
@@ -65,50 +69,28 @@ pub fn open_lent(
     }
 }
 
-// Check 9, where the run is not known to be sound.
-fn is_unsound(
+// An event is applied to a run whose tables are lent beside its head, `broken` being what check 9 says of it but for the time.
+fn apply_judged(
     head: Head,
-    known: bool,
-    clocks: &[u64; 64],
-    views: &[u64; 64],
-    tally: &[u64],
-    network: &[u64],
-) -> bool
-    requires { ⌜ KnownSound known (stateOf (runFrom head (now clocks) (now views)) (now tally) (now network)) ⌝ }
-    ensures { λ r. ⌜ r ≡ unsound (stateOf (runFrom head (now (clocks .entry)) (now (views .entry))) (now (tally .entry)) (now (network .entry))) ⌝ }
-{
-    if known {
-        return false;
-    }
-    checks::unsound(head, clocks, views, tally, network)
-}
-
-// An event is applied to a run whose tables are lent beside its head. A caller that knows the run to be sound says so, and check 9 is not made.
-pub fn apply_lent(
-    head: Head,
-    known: bool,
+    broken: bool,
     event: Event,
     clocks: &mut [u64; 64],
     views: &mut [u64; 64],
     tally: &mut [u64],
     network: &mut [u64],
 ) -> AppliedHead
-    requires { ⌜ KnownSound known (stateOf (runFrom head (now clocks) (now views)) (now tally) (now network)) ⌝ }
+    requires { ⌜ broken ≡ unsoundForGood (stateOf (runFrom head (now clocks) (now views)) (now tally) (now network)) ⌝ }
     ensures { λ r. ⌜ Applies event (stateOf (runFrom head (now (clocks .entry)) (now (views .entry))) (now (tally .entry)) (now (network .entry)))
         (leftBehind r (now (clocks .exit)) (now (views .exit)) (now (tally .exit)) (now (network .exit))) ⌝ }
 {
-    if event.lacks_form() {
-        return events::refuse(head, 1);
-    }
-    if is_unsound(head, known, clocks, views, tally, network) {
-        return events::refuse(head, 9);
-    }
-    match event {
-        Event::Deliver(m) => events::deliver(head, m, clocks, views, tally, network),
-        Event::Sign(m) => events::sign(head, m, clocks, views, tally, network),
-        Event::Show(m) => events::show(head, m, clocks, views, tally, network),
-        Event::Settle => events::settle(head),
-        Event::Tick(m) => ticks::run_ticks(head, m, clocks, views, tally, network),
+    let task = tasks::judge(head, broken, event, tally, network);
+    match task {
+        Task::Refuse(check) => events::refuse(head, check),
+        Task::Finish(next) => events::done(next),
+        Task::Handle(message, place) => {
+            events::handle(head, message, place, clocks, views, tally, network)
+        }
+        Task::Run(m) => ticks::run_ticks(head, m, clocks, views, tally, network),
     }
 }
 
@@ -140,19 +122,42 @@ pub fn apply(run: Run, event: Event, tally: &mut [u64], network: &mut [u64]) -> 
 {
     let mut clocks = run.clocks;
     let mut views = run.views;
-    let outcome = apply_lent(
-        types::head_of(run),
-        false,
-        event,
-        &mut clocks,
-        &mut views,
-        tally,
-        network,
-    );
-    let head = outcome.head;
+    let head = types::head_of(run);
+    let broken = checks::unsound_for_good(head, &clocks, &views, tally, network);
+    let outcome = apply_judged(head, broken, event, &mut clocks, &mut views, tally, network);
+    let next = outcome.head;
     let answer = outcome.answer;
     Applied {
-        run: types::gather(head, &clocks, &views),
+        run: types::gather(next, &clocks, &views),
         answer: answer,
     }
+}
+
+// The events in the words are applied to the run and the lent buffers one after the other, whatever they hold, and each one's words become its
+// answer. What of check 9 lasts is looked at once, and the time before each.
+pub fn apply_events(
+    head: Head,
+    clocks: &mut [u64; 64],
+    views: &mut [u64; 64],
+    tally: &mut [u64],
+    network: &mut [u64],
+    events: &mut [u64],
+) -> Head
+    ensures { λ r. ⌜ AppliesAll (now (events .entry)) (stateOf (runFrom head (now (clocks .entry)) (now (views .entry))) (now (tally .entry)) (now (network .entry)))
+        (stateOf (runFrom r (now (clocks .exit)) (now (views .exit))) (now (tally .exit)) (now (network .exit))) (now (events .exit)) ⌝ }
+{
+    let broken = checks::unsound_for_good(head, clocks, views, tally, network);
+    let count = events.len() / words::EVENT_WORDS;
+    let mut current = head;
+    let mut i = 0;
+    while i < count {
+        let event = words::event_at(events, i);
+        let outcome = apply_judged(current, broken, event, clocks, views, tally, network);
+        let next = outcome.head;
+        let answer = outcome.answer;
+        words::put_answer(events, i, answer, next.held);
+        current = next;
+        i += 1;
+    }
+    current
 }

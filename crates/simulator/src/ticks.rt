@@ -1,7 +1,5 @@
 // Time: one tick, and the run of up to m ticks, which leaps over quiet ones.
-use crate::Due;
 use crate::Reaction;
-use crate::leaps;
 use crate::moves;
 use types::Answer;
 use types::AppliedHead;
@@ -15,14 +13,20 @@ ghost use mathlib.Core.Path.{_≡_};
 ghost use mathlib.Core.Bool.{true, false};
 ghost use mathlib.Core.List.{List};
 ghost use Prim.Native.Nat.{_+_, _^_, _<_, _≤_, ℕ};
+ghost use lib.Dec.{leb};
+ghost use lib.ListN.{length};
+ghost use Rattle.base.specs.Scan.{some};
 ghost use Rattle.types.specs.Quantities.{correct};
 ghost use Rattle.model.specs.State.{stateOf, runFrom, leftBehind, capacity};
-ghost use Rattle.model.specs.Checks.{overdue, unsound};
+ghost use Rattle.model.specs.Checks.{planOutside, overdue, unsound};
 ghost use Rattle.model.specs.Events.{ticksAnswer, tickRun};
 ghost use Rattle.model.specs.Processors.{processorUnsound, movingBy};
 ghost use Rattle.pacemaker.specs.Steps.{Named};
-ghost use Rattle.simulator.specs.Inner.{Reacts, Arrives, Fit, Whole, Foretells, CanTick, TickMade, TickedTo, ranTo};
-ghost use Rattle.simulator.specs.Leaps.{Ready, Advances};
+ghost use Rattle.simulator.specs.Inner.{Reacts, Arrives, Fit, Whole, GoesOn, arrivedBelow, endsAt, sentMost, CanTick, TickMade, TickedTo, ranTo};
+ghost use Rattle.simulator.specs.Strides.{Ready, Advances};
+
+// The most messages that a tick sends: two for each processor.
+const SENT_MOST: usize = 128;
 
 // What an input makes of a processor, by the pacemaker's own step.
 pub(crate) fn react(plan: Plan, processor: Processor, input: Input) -> Reaction
@@ -85,10 +89,31 @@ fn arrive(plan: Plan, faulty: u64, processor: Processor) -> Reaction
     }
 }
 
-// What a tick would do, with nothing written: checks 17 and 18 need it.
-fn foretell(head: Head, clocks: &[u64; 64], views: &[u64; 64]) -> Due
-    requires { ⌜ Fit (runFrom head (now clocks) (now views)) × Whole (runFrom head (now clocks) (now views)) ⌝ }
-    ensures { λ r. ⌜ Foretells (runFrom head (now (clocks .entry)) (now (views .entry))) r ⌝ }
+// Whether a tick brings a correct clock to the end.
+fn some_ends(head: Head, clocks: &[u64; 64]) -> bool
+    requires { ⌜ planOutside (head .plan) ≡ false ⌝ }
+    ensures { λ r. ⌜ ((v : List ℕ) → r ≡ some (endsAt (runFrom head (now (clocks .entry)) v)) (head .plan .n)) ⌝ }
+{
+    let n = head.plan.n;
+    let last = head.plan.end_time() - 1;
+    let mut q = 0;
+    while q < n {
+        let i = q as usize;
+        if last <= clocks[i] {
+            if head.plan.correct(head.faulty, q) {
+                return true;
+            }
+        }
+        q += 1;
+    }
+    false
+}
+
+// How many messages a tick would send that brings no clock to the end, with nothing written.
+fn foretell(head: Head, clocks: &[u64; 64], views: &[u64; 64]) -> usize
+    requires { ⌜ GoesOn (runFrom head (now clocks) (now views)) ⌝ }
+    ensures { λ r. ⌜ ((t ws : List ℕ) → r
+        ≡ length (arrivedBelow (stateOf (runFrom head (now (clocks .entry)) (now (views .entry))) t ws) (head .plan .n) .sent)) × (r ≤ sentMost) ⌝ }
 {
     let n = head.plan.n;
     let mut sent = 0;
@@ -104,20 +129,24 @@ fn foretell(head: Head, clocks: &[u64; 64], views: &[u64; 64]) -> Due
                 view: views[i],
             },
         );
-        if x.ends {
-            return Due {
-                ends: true,
-                sent: 0,
-            };
-        }
         let sends = x.sends;
         sent += moves::count_entry(head.plan, head.faulty, q, sends);
         q += 1;
     }
-    Due {
-        ends: false,
-        sent: sent,
+    sent
+}
+
+// Whether there is room for what such a tick sends. Its messages are counted only where the most that a tick sends would not fit.
+fn has_room(head: Head, clocks: &[u64; 64], views: &[u64; 64], room: usize) -> bool
+    requires { ⌜ GoesOn (runFrom head (now clocks) (now views)) × (head .held + sentMost < 2 ^ 64) ⌝ }
+    ensures { λ r. ⌜ ((t ws : List ℕ) → r
+        ≡ leb (head .held + length (arrivedBelow (stateOf (runFrom head (now (clocks .entry)) (now (views .entry))) t ws) (head .plan .n) .sent)) room) ⌝ }
+{
+    if head.held + SENT_MOST <= room {
+        return true;
     }
+    let sent = foretell(head, clocks, views);
+    head.held + sent <= room
 }
 
 // Time and every correct clock go on by one, and the processors that arrive at an initial view enter it, by rising number.
@@ -179,15 +208,16 @@ fn tick_once(
     ensures { λ r. ⌜ TickedTo (stateOf (runFrom head (now (clocks .entry)) (now (views .entry))) (now (tally .entry)) (now (network .entry)))
         (stateOf (runFrom (r .head) (now (clocks .exit)) (now (views .exit))) (now (tally .exit)) (now (network .exit))) (r .check) × (r .check ≡ 0 → r .count ≡ 1) ⌝ }
 {
-    let due = foretell(head, clocks, views);
-    if due.ends {
+    if some_ends(head, clocks) {
         return Ticked {
             head: head,
             count: 0,
             check: 17,
         };
     }
-    if buffers::capacity(network) < head.held + due.sent {
+    let room = buffers::capacity(network);
+    let fits = has_room(head, clocks, views, room);
+    if !fits {
         return Ticked {
             head: head,
             count: 0,

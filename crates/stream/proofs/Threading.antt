@@ -12,13 +12,11 @@ use Rattle.lines.specs.Printout.{printedMost}
 use Rattle.lines.specs.Splitting.{beforeNewline, nextLine}
 use Rattle.printout.specs.declared.Session.{Session}
 use Rattle.printout.specs.declared.Served.{Served}
-use Rattle.printout.specs.Printout.{Standing, standingOf, unopenedSession, tallyLent, networkLent, atStart}
+use Rattle.printout.specs.Printout.{Standing, standingOf, unopenedSession, tallyLent, networkLent}
 use Rattle.printout.specs.Contracts.{placeAt, Advance, fed, Begun, Serves}
 use Rattle.printout.proofs.Feeding.{fed-append}
 use Rattle.printout.proofs.Promises.{goes-on}
-use Rattle.driver.specs.Contracts.{KnownReachable}
 use Rattle.driver.proofs.Serving.{rest-lent, left-over}
-use Rattle.driver.proofs.Knowing.{known-unopened, known-fed, known-on}
 use Rattle.stream.specs.declared.Progress.{Progress}
 use Rattle.stream.specs.Threads.{Leads, Threads, Reaches}
 use Rattle.stream.proofs.Keeping.{kept-bytes}
@@ -63,11 +61,6 @@ going-more x late bytes tally network s passed used out tally' network' r after 
         subst (λ (l : List ℕ). Leads (standingOf s tally network) begun' (take (r .used) l) (standingOf (r .session) tally' network') (r .late)) (rest-lent used bytes)
         (record { state = f .state; begins = f .begins })
 
--- what is known of where they began is known of where they led
-pub going-known : (known : Bool) (x : Standing) (late : Bool) (bytes tally network : List ℕ) (s : Session) (passed : Bool) (used : ℕ)
-    → KnownReachable known x → Going x late bytes tally network s passed used → KnownReachable known (standingOf s tally network)
-going-known known x late bytes tally network s passed used h g = known-on known x late (take used bytes) (standingOf s tally network) h (λ begun b. g .leads begun b .state)
-
 -- a call that used nothing was the last
 pub going-stops : (x : Standing) (passed : Bool) (bytes out tally' network' : List ℕ) (used : ℕ) (r : Served) (after : List ℕ)
     → Serves x passed (midOf used (length bytes - used) bytes) out tally' network' r after → r .used ≡ 0 → printedMost ≤ length out → nextLine (drop (used + r .used) bytes) ≡ Unfinished
@@ -86,11 +79,6 @@ pub reaches-start : (tally network window : List ℕ) (s : Session) → s ≡ un
 unfolding nextLine beforeNewline
 reaches-start tally network window s e t n =
     record { input = []; leads = record { state = λ i. standingOf (e i) (t i) (n i); begins = refl }; within = omega arith; rest = refl }
-
--- an open run comes from an accepted opening, since none was open at first
-pub reaches-known : (known : Bool) (tally network window : List ℕ) (r : Progress) → Reaches tally network window r → KnownReachable known (standingOf (r .session) tally network)
-reaches-known known tally network window r h =
-    subst (KnownReachable known) (sym (h .leads .state)) (known-fed known (placeAt atStart []) (h .input) (known-unopened known _ _))
 
 -- a read leaves the bytes that were not used
 pub reaches-read : (tally network w w' : List ℕ) (r : Progress) → Reaches tally network w r → take (r .bytes) w' ≡ take (r .bytes) w → length w' ≡ length w

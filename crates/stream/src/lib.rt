@@ -2,13 +2,11 @@
 use lines::Written;
 use printout::Session;
 ghost use mathlib.Core.Path.{_≡_};
-ghost use mathlib.Core.Bool.{true};
 ghost use Prim.Native.Nat.{_+_, _-_, _≤_};
 ghost use lib.ListN.{length, take, drop, replicate};
 ghost use Rattle.lines.specs.Printout.{printedMost};
 ghost use lib.Seq.{paste};
 ghost use Rattle.printout.specs.Printout.{standingOf, tallyLent, networkLent};
-ghost use Rattle.driver.specs.Contracts.{KnownReachable};
 ghost use Rattle.stream.specs.Threads.{Threads, Reaches};
 
 // The session, whether bytes of a line that is too long were passed over, and a number of bytes: used, or left unused at the start of the window.
@@ -32,7 +30,7 @@ fn keep(window: &mut [u8], used: usize, filled: usize) -> usize
     unused
 }
 
-// Every line that ends within the bytes is answered, and the answers written. An open run comes from an accepted opening, so check 9 is not made.
+// Every line that ends within the bytes is answered, and the answers written.
 fn answer_all(
     session: Session,
     late: bool,
@@ -42,7 +40,6 @@ fn answer_all(
     out: &mut [u8],
     to: i32,
 ) -> Progress
-    requires { ⌜ KnownReachable true (standingOf session (now tally) (now network)) ⌝ }
     ensures { λ r. ⌜ Threads (standingOf session (now (tally .entry)) (now (network .entry))) late (now (bytes .entry)) (now (out .entry))
         (now (tally .exit)) (now (network .exit)) r ⌝ }
 {
@@ -50,7 +47,7 @@ fn answer_all(
     let mut passed = late;
     let mut used = 0;
     while used < bytes.len() {
-        let served = driver::serve_lines(state, true, passed, &bytes[used..], tally, network, out);
+        let served = driver::answer_lines(state, passed, &bytes[used..], tally, network, out);
         let printed = served.printed;
         io::write_all(to, &out[..printed]);
         state = served.session;

@@ -1,10 +1,20 @@
 -- A run and its parts: the head, which goes by value, and the two tables, which are lent beside it; and a setup of its parts.
+use mathlib.Core.Path.{_≡_, refl, ap}
+use mathlib.Core.Bool.{Bool, true, false, cond}
 use mathlib.Core.List.{List}
 use Prim.Native.Nat.{ℕ}
+use lib.Dec.{eqb}
 use Rattle.types.specs.declared.Head.{Head}
 use Rattle.types.specs.declared.Plan.{Plan}
 use Rattle.types.specs.declared.Run.{Run}
 use Rattle.types.specs.declared.Setup.{Setup}
+
+-- whether the network has settled, as a number and back: a head has a number for it, since a flag among numbers is slow to copy
+abbrev pub settledAs : Bool → ℕ
+settledAs settled = cond settled 1 0
+
+abbrev pub isSettled : ℕ → Bool
+isSettled k = eqb k 1
 
 -- the run whose tables are lent beside its head
 abbrev pub runFrom : Head → List ℕ → List ℕ → Run
@@ -12,7 +22,7 @@ runFrom h clocks views = record {
   plan = h .plan;
   faulty = h .faulty;
   time = h .time;
-  settled = h .settled;
+  settled = isSettled (h .settled);
   gst = h .gst;
   held = h .held;
   clocks = clocks;
@@ -20,7 +30,24 @@ runFrom h clocks views = record {
 }
 
 abbrev pub headOf : Run → Head
-headOf r = record { plan = r .plan; faulty = r .faulty; time = r .time; settled = r .settled; gst = r .gst; held = r .held }
+headOf r = record { plan = r .plan; faulty = r .faulty; time = r .time; settled = settledAs (r .settled); gst = r .gst; held = r .held }
+
+pub settled-back : (b : Bool) → isSettled (settledAs b) ≡ b
+settled-back true = refl
+settled-back false = refl
+
+-- a run taken apart is put together again
+pub head-back : (r : Run) → runFrom (headOf r) (r .clocks) (r .views) ≡ r
+head-back r = ap (λ (b : Bool). record {
+  plan = r .plan;
+  faulty = r .faulty;
+  time = r .time;
+  settled = b;
+  gst = r .gst;
+  held = r .held;
+  clocks = r .clocks;
+  views = r .views;
+}) (settled-back (r .settled))
 
 abbrev pub setupWith : Plan → ℕ → List ℕ → Setup
 setupWith plan faulty clocks = record { plan = plan; faulty = faulty; clocks = clocks }

@@ -2,7 +2,7 @@
 ghost use mathlib.Core.Path.{_≡_};
 ghost use Rattle.types.specs.Quantities.{tolerated, perLeader, turnStart, initial, correct};
 ghost use Rattle.types.specs.Messages.{kindOf, viewIn, processorIn, stageOf, isSignature, lacksForm};
-ghost use Rattle.types.specs.Runs.{runFrom, headOf};
+ghost use Rattle.types.specs.Runs.{settledAs, runFrom, headOf};
 ghost use Rattle.types.specs.PlanFunctions.{leadWord, nextInitialWord, clockTimeWord, addresseeWord};
 
 // The protocol's parameters (document 01: the plan): processors, delay, slot, view limit.
@@ -252,13 +252,24 @@ pub struct Run {
 }
 
 // The execution so far but for its two tables, which are lent beside it: so nothing large is handed from function to function.
+// Whether the network has settled is a number, 1 or another: a flag among numbers is slow to copy.
 pub struct Head {
     pub plan: Plan,
     pub faulty: u64,
     pub time: u64,
-    pub settled: bool,
+    pub settled: u64,
     pub gst: u64,
     pub held: usize,
+}
+
+// The number that says whether the network has settled.
+pub fn settled_as(settled: bool) -> u64
+    ensures { λ r. ⌜ r ≡ settledAs settled ⌝ }
+{
+    if settled {
+        return 1;
+    }
+    0
 }
 
 // The head of a run.
@@ -270,7 +281,7 @@ pub fn head_of(run: Run) -> Head
         plan: plan,
         faulty: run.faulty,
         time: run.time,
-        settled: run.settled,
+        settled: settled_as(run.settled),
         gst: run.gst,
         held: run.held,
     }
@@ -287,7 +298,7 @@ pub fn gather(head: Head, clocks: &[u64; 64], views: &[u64; 64]) -> Run
         plan: plan,
         faulty: head.faulty,
         time: head.time,
-        settled: head.settled,
+        settled: head.settled == 1,
         gst: head.gst,
         held: head.held,
         clocks: own_clocks,

@@ -4,10 +4,10 @@ use Rattle.fever.proofs.fever_open.Statement.{statement}
 use Rattle.fever.proofs.fever_open.Tie as tie
 use Rattle.fever.proofs.fever_open.Reads as reads
 use Rattle.fever.proofs.fever_open.Lts as lts
-use Rattle.fever.proofs.words.head_in.Reads as head-in-reads
-use Rattle.fever.proofs.words.put_outcome.Reads as put-outcome-reads
-use Rattle.fever.proofs.words.setup_in.Reads as setup-in-reads
-use Rattle.fever.proofs.words.table_in.Reads as table-in-reads
+use Rattle.fever.proofs.layout.head_in.Reads as head-in-reads
+use Rattle.fever.proofs.layout.put_outcome.Reads as put-outcome-reads
+use Rattle.fever.proofs.layout.setup_in.Reads as setup-in-reads
+use Rattle.fever.proofs.layout.table_in.Reads as table-in-reads
 use Rattle.simulator.proofs.open_lent.Reads as open-lent-reads
 
 returns : tie.Need-returns
@@ -44,7 +44,7 @@ same-length-3 : tie.Need-same-length-3
 same-length-3 c = search needs
 
 returns-3 : tie.Need-returns-3
-returns-3 c = opening-done _ _ _ _ _ _ _ _ _ _ _ _ _ (c .before .before .before .before .before .before .before .before .before .before .before .before .before .before .before .before .before .before .before .before .before .before .before .if1 .left) (c .before .before .before .before .before .before .before .before .before .before .before .before .before .before .before .before .before .before .before .before .before .before .if2 .left) (c .before .before .before .before .before .before .before .before .before .before .before .before .before .before .before .before .before .before .before .before .before .setup-in .ensures)
+returns-3 c = opening-done _ _ _ _ _ _ _ _ (c .before .before .before .before .before .before .before .before .before .before .open-lent .result) _ _ _ _ (c .before .before .before .before .before .before .before .before .before .before .before .before .before .before .before .before .before .before .before .before .before .before .before .if1 .left) (c .before .before .before .before .before .before .before .before .before .before .before .before .before .before .before .before .before .before .before .before .before .before .if2 .left) (c .before .before .before .before .before .before .before .before .before .before .before .before .before .before .before .before .before .before .before .before .before .setup-in .ensures)
     (record { head = c .before .before .before .before .before .before .before .before .before .before .before .before .before .before .before .before .before .before .before .head-in .ensures; clocks-in = c .before .before .before .before .before .before .before .before .before .before .before .before .before .before .before .before .before .table-in .ensures; views-in = c .before .before .before .before .before .before .before .before .before .before .before .before .before .before .before .table-in2 .ensures })
     (c .before .before .before .before .before .before .before .before .before .before .open-lent .ensures) (record { check = c .before .before .put-outcome .ensures .0; words = c .before .before .put-outcome .ensures .1 })
 

@@ -6,7 +6,7 @@ use Rattle.fever.proofs.fever_read_line.Statement.{statement}
 use Rattle.fever.proofs.fever_read_line.Tie as tie
 use Rattle.fever.proofs.fever_read_line.Reads as reads
 use Rattle.fever.proofs.fever_read_line.Lts as lts
-use Rattle.fever.proofs.words.put_reading.Reads as put-reading-reads
+use Rattle.fever.proofs.layout.put_reading.Reads as put-reading-reads
 use Rattle.reader.proofs.read_line.Reads as read-line-reads
 
 returns : tie.Need-returns

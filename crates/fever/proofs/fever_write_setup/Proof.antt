@@ -5,7 +5,7 @@ use Rattle.fever.proofs.fever_write_setup.Tie as tie
 use Rattle.fever.proofs.fever_write_setup.Reads as reads
 use Rattle.fever.proofs.fever_write_setup.Lts as lts
 use Rattle.fever.proofs.count_bytes.Reads as count-bytes-reads
-use Rattle.fever.proofs.words.setup_in.Reads as setup-in-reads
+use Rattle.fever.proofs.layout.setup_in.Reads as setup-in-reads
 use Rattle.writer.proofs.write_setup.Reads as write-setup-reads
 
 returns : tie.Need-returns

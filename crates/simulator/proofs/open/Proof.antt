@@ -1,3 +1,9 @@
+use Rattle.model.specs.Opening.{opening}
+use Rattle.model.specs.State.{stateOf}
+use Rattle.types.specs.Runs.{runFrom, head-back}
+use Rattle.types.specs.declared.Run.{Run}
+use Rattle.types.specs.declared.Head.{Head}
+use mathlib.Core.Path.{ap, _∙_}
 use borrow.Author.Needs.{needs}
 use Rattle.simulator.proofs.open.Statement.{statement}
 use Rattle.simulator.proofs.open.Tie as tie
@@ -23,7 +29,10 @@ same-length-2 : tie.Need-same-length-2
 same-length-2 c = search needs
 
 returns : tie.Need-returns
-returns c = rw (c .gather .ensures) (rw (c .before .before .before .before .before .before .before .before .before .before .before .before .before .head-of .ensures) at (c .before .before .before .before .before .before .before .before .open-lent .ensures))
+returns c =
+    rw (c .gather .ensures)
+    (c .before .before .before .before .before .before .before .before .open-lent .ensures ∙ ap (λ (r : Run). opening (c .before .before .before .before .before .before .before .before .before .before .before .before .before .before .before .before .before .before .args .setup) (stateOf r (c .before .before .before .before .before .before .before .before .before .before .before .before .before .before .before .before .before .before .args .tally .now) (c .before .before .before .before .before .before .before .before .before .before .before .before .before .before .before .before .before .before .args .network .now)))
+    (ap (λ (h : Head). runFrom h (c .before .before .before .before .before .before .before .before .before .before .before .before .before .before .before .before .before .before .args .run .clocks) (c .before .before .before .before .before .before .before .before .before .before .before .before .before .before .before .before .before .before .args .run .views)) (c .before .before .before .before .before .before .before .before .before .before .before .before .before .head-of .ensures) ∙ head-back (c .before .before .before .before .before .before .before .before .before .before .before .before .before .before .before .before .before .before .args .run)))
 
 pub open-spec : {M : Type 1} → statement M
 open-spec =

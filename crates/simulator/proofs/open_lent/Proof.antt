@@ -1,6 +1,6 @@
-use Rattle.simulator.proofs.Starting.{opens-done, opens-refused}
 use Rattle.model.specs.State.{runFrom}
 use mathlib.Core.Path.{sym, _∙_}
+use Rattle.simulator.proofs.Starting.{opens-done, opens-refused}
 use borrow.Author.Needs.{needs}
 use Rattle.simulator.proofs.open_lent.Statement.{statement}
 use Rattle.simulator.proofs.open_lent.Tie as tie
@@ -26,7 +26,8 @@ same-length-2 : tie.Need-same-length-2
 same-length-2 c = search needs
 
 returns : tie.Need-returns
-returns c = rw (c .head-of .ensures) (opens-done (c .before .before .before .before .before .before .before .before .before .before .before .before .before .before .args .setup) (runFrom (c .before .before .before .before .before .before .before .before .before .before .before .before .before .before .args .head) (c .before .before .before .before .before .before .before .before .before .before .before .before .before .before .args .clocks .now) (c .before .before .before .before .before .before .before .before .before .before .before .before .before .before .args .views .now)) (c .before .before .before .before .before .before .before .before .before .before .before .before .before .before .args .tally .now) (c .before .before .before .before .before .before .before .before .before .before .before .before .before .before .args .network .now) (c .before .before .before .before .before .before .before .start .result) _ _ (sym (c .before .before .before .before .before .before .before .before .before .before .before .setup-check .ensures) ∙ c .before .before .before .before .before .before .before .before .before .before .if1 .taken) (c .before .before .before .before .before .before .before .start .ensures))
+returns c =
+    rw (c .head-of .ensures) (opens-done (c .before .before .before .before .before .before .before .before .before .before .before .before .before .before .args .setup) (runFrom (c .before .before .before .before .before .before .before .before .before .before .before .before .before .before .args .head) (c .before .before .before .before .before .before .before .before .before .before .before .before .before .before .args .clocks .now) (c .before .before .before .before .before .before .before .before .before .before .before .before .before .before .args .views .now)) (c .before .before .before .before .before .before .before .before .before .before .before .before .before .before .args .tally .now) (c .before .before .before .before .before .before .before .before .before .before .before .before .before .before .args .network .now) (c .before .before .before .before .before .before .before .start .result) _ _ (sym (c .before .before .before .before .before .before .before .before .before .before .before .setup-check .ensures) ∙ c .before .before .before .before .before .before .before .before .before .before .if1 .taken) (c .before .before .before .before .before .before .before .start .ensures))
 
 returns-2 : tie.Need-returns-2
 returns-2 c = opens-refused (c .before .before .before .before .args .setup) (runFrom (c .before .before .before .before .args .head) (c .before .before .before .before .args .clocks .now) (c .before .before .before .before .args .views .now)) (c .before .before .before .before .args .tally .now) (c .before .before .before .before .args .network .now) (c .before .setup-check .result) (c .before .setup-check .ensures) (c .if1 .left)

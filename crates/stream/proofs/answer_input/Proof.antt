@@ -1,4 +1,4 @@
-use Rattle.stream.proofs.Threading.{reaches-start, reaches-known, reaches-read, threads-within, reaches-more}
+use Rattle.stream.proofs.Threading.{reaches-start, reaches-read, threads-within, reaches-more}
 use borrow.Author.Needs.{needs}
 use Rattle.stream.specs.Threads.{Reaches}
 use native.Mathlib.Omega.{arith}
@@ -57,7 +57,7 @@ slice-aggregate-answer-all : tie.Need-slice-aggregate-answer-all Inv-loop μ-loo
 slice-aggregate-answer-all c = sym (length-take-le _ _ (c .before .before .before .before .read-behind .ensures .0))
 
 answer-all-requires : tie.Need-answer-all-requires Inv-loop μ-loop
-answer-all-requires c κs = reaches-known _ _ _ _ _ (c .before .before .before .before .before .before .before .before .before .before .loop .inv .0)
+answer-all-requires c κs = search needs
 
 keep-requires : tie.Need-keep-requires Inv-loop μ-loop
 keep-requires c κs = (threads-within _ _ _ _ _ _ _ _ (c .before .before .before .before .before .before .before .before .before .before .before .before .before .before .before .before .read-behind .ensures .0) (c .before .before .before .before .before .before .before .before .answer-all .ensures), c .before .before .before .before .before .before .before .before .before .before .before .before .before .before .before .before .read-behind .ensures .0)

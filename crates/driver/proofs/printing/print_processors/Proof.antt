@@ -1,5 +1,7 @@
+use Rattle.driver.proofs.Texts.{Told, told-none, told-room, told-all, told-inside, processor-fits, processor-told}
+use mathlib.Core.Path.{refl}
+use Rattle.printout.specs.Printout.{processorLines}
 use borrow.Author.Needs.{needs}
-use Rattle.driver.proofs.Texts.{Told, told-none, told-room, told-more, told-all, told-inside, told-fits}
 use Prim.Native.Nat.{_-_, _≤_}
 use native.Mathlib.Omega.{arith}
 use Rattle.driver.proofs.printing.print_processors.Statement.{statement}
@@ -9,13 +11,13 @@ use Rattle.driver.proofs.printing.print_processors.Lts as lts
 use Rattle.driver.proofs.printing.print_processor.Reads as print-processor-reads
 
 abbrev Inv-loop : tie.InvT-loop
-Inv-loop run out₀ plan clocks views p₀ at₀ out p at = (p ≤ 64) × Told run out₀ p at out
+Inv-loop run out₀ plan clocks views p₀ at₀ out p at = (p ≤ 64) × Told (processorLines run) out₀ p at out
 
 abbrev μ-loop : tie.MeasureT-loop
 μ-loop run out₀ plan clocks views p₀ at₀ out p at = 64 - p
 
 loop-holds : tie.Need-loop-holds Inv-loop μ-loop
-loop-holds c = (omega arith, told-none _ _)
+loop-holds c = (omega arith, told-none _ refl)
 
 mul-print-processor : tie.Need-mul-print-processor Inv-loop μ-loop
 mul-print-processor c = search needs
@@ -30,19 +32,19 @@ array-read-print-processor-2 : tie.Need-array-read-print-processor-2 Inv-loop μ
 array-read-print-processor-2 c = search needs
 
 sub-print-processor : tie.Need-sub-print-processor Inv-loop μ-loop
-sub-print-processor c = told-inside _ _ _ _ _ (c .before .before .before .before .before .before .pre) (c .before .loop .inv .1) (c .loop-test .taken)
+sub-print-processor c = told-inside (c .before .loop .inv .1) (c .loop-test .taken) (c .before .before .before .before .before .before .pre)
 
 part-print-processor-start : tie.Need-part-print-processor-start Inv-loop μ-loop
-part-print-processor-start c = told-inside _ _ _ _ _ (c .before .before .before .before .before .before .pre) (c .before .loop .inv .1) (c .loop-test .taken)
+part-print-processor-start c = told-inside (c .before .loop .inv .1) (c .loop-test .taken) (c .before .before .before .before .before .before .pre)
 
 part-print-processor-end : tie.Need-part-print-processor-end Inv-loop μ-loop
 part-print-processor-end c = search needs
 
 print-processor-requires : tie.Need-print-processor-requires Inv-loop μ-loop
-print-processor-requires c κs = told-room _ _ _ _ _ (c .before .before .before .before .before .before .before .pre) (c .before .before .loop .inv .1) (c .before .loop-test .taken)
+print-processor-requires c κs = told-room (c .before .before .loop .inv .1) (c .before .loop-test .taken) (c .before .before .before .before .before .before .before .pre)
 
 add-at : tie.Need-add-at Inv-loop μ-loop
-add-at c = omega (arith, told-fits _ _ _ _ _ _ _ (c .before .before .before .before .before .loop .inv .1) (c .before .before .before .before .loop-test .taken) (c .before .before .print-processor .ensures))
+add-at c = omega (arith, processor-fits (c .before .before .before .before .before .loop .inv .1) (c .before .before .before .before .loop-test .taken) (c .before .before .before .before .before .before .before .before .before .before .pre) (c .before .before .print-processor .ensures), c .before .before .before .before .before .before .before .before .before .before .good)
 
 add-p : tie.Need-add-p Inv-loop μ-loop
 add-p c = search needs
@@ -51,13 +53,13 @@ loop-less : tie.Need-loop-less Inv-loop μ-loop
 loop-less c = search needs
 
 loop-again : tie.Need-loop-again Inv-loop μ-loop
-loop-again c = (omega (arith, c .before .before .before .before .loop-test .taken), told-more _ _ _ _ _ _ _ (c .before .before .before .before .before .before .before .before .before .before .pre) (c .before .before .before .before .before .loop .inv .1) (c .before .before .before .before .loop-test .taken) (c .before .before .print-processor .ensures) (c .before .before .print-processor .kept .1 .1 .1 .1 .1 .0))
+loop-again c = (omega (arith, c .before .before .before .before .loop-test .taken), processor-told (c .before .before .before .before .before .loop .inv .1) (c .before .before .before .before .loop-test .taken) (c .before .before .before .before .before .before .before .before .before .before .pre) (c .before .before .print-processor .ensures) (c .before .before .print-processor .kept .1 .1 .1 .1 .1 .0))
 
 same-length : tie.Need-same-length Inv-loop μ-loop
 same-length c = search needs
 
 returns : tie.Need-returns Inv-loop μ-loop
-returns c = told-all _ _ _ _ _ (c .before .loop .inv) (c .loop-test .left)
+returns c = told-all _ _ _ _ _ _ (c .before .loop .inv) (c .loop-test .left)
 
 pub print-processors-spec : {M : Type 1} → statement M
 print-processors-spec =

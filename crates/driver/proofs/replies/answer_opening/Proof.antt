@@ -1,11 +1,12 @@
-use Rattle.driver.proofs.Answering.{opening-applied}
+use Rattle.driver.proofs.Answering.{opening-passes}
 use borrow.Author.Needs.{needs}
 use Rattle.driver.proofs.replies.answer_opening.Statement.{statement}
 use Rattle.driver.proofs.replies.answer_opening.Tie as tie
 use Rattle.driver.proofs.replies.answer_opening.Reads as reads
 use Rattle.driver.proofs.replies.answer_opening.Lts as lts
-use Rattle.driver.proofs.replies.stays_open.Reads as stays-open-reads
+use Rattle.driver.proofs.printing.print_answer.Reads as print-answer-reads
 use Rattle.simulator.proofs.open_lent.Reads as open-lent-reads
+use Rattle.driver.proofs.replies.stays_open.Reads as stays-open-reads
 
 open-lent-requires : tie.Need-open-lent-requires
 open-lent-requires c κs = search needs
@@ -13,15 +14,29 @@ open-lent-requires c κs = search needs
 stays-open-requires : tie.Need-stays-open-requires
 stays-open-requires c κs = search needs
 
+print-answer-requires : tie.Need-print-answer-requires
+print-answer-requires c κs = search needs
+
 same-length : tie.Need-same-length
 same-length c = search needs
 
 same-length-2 : tie.Need-same-length-2
 same-length-2 c = search needs
 
+same-length-3 : tie.Need-same-length-3
+same-length-3 c = search needs
+
 returns : tie.Need-returns
-returns c = opening-applied _ _ _ _ (c .before .before .before .before .before .before .open-lent .ensures) (c .stays-open .ensures)
+returns c = opening-passes _ _ _ _ _ _ _ _ _ (c .before .before .before .before .before .before .before .before .before .before .open-lent .ensures) (c .before .before .before .before .stays-open .ensures) (c .before .before .print-answer .ensures)
 
 pub answer-opening-spec : {M : Type 1} → statement M
 answer-opening-spec =
-    tie.close (tie.spec open-lent-requires stays-open-requires same-length same-length-2 returns)
+    tie.close
+    (tie.spec
+    open-lent-requires
+    stays-open-requires
+    print-answer-requires
+    same-length
+    same-length-2
+    same-length-3
+    returns)

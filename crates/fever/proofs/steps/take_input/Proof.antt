@@ -6,7 +6,7 @@ use Rattle.fever.proofs.steps.take_input.Reads as reads
 use Rattle.fever.proofs.steps.take_input.Lts as lts
 use Rattle.fever.proofs.steps.count_sent.Reads as count-sent-reads
 use Rattle.fever.proofs.steps.record_in.Reads as record-in-reads
-use Rattle.fever.proofs.words.put_words.Reads as put-words-reads
+use Rattle.fever.proofs.layout.put_words.Reads as put-words-reads
 use Rattle.fever.proofs.steps.step_own.Reads as step-own-reads
 
 record-in-requires : tie.Need-record-in-requires

@@ -1,15 +1,28 @@
 use Rattle.simulator.proofs.Deciding.{made-by}
 use Rattle.model.specs.Moves.{heardChange}
 use Rattle.model.specs.State.{stateOf, runFrom}
+use mathlib.Core.Path.{sym}
 use borrow.Author.Needs.{needs}
 use Rattle.simulator.proofs.events.listen.Statement.{statement}
 use Rattle.simulator.proofs.events.listen.Tie as tie
 use Rattle.simulator.proofs.events.listen.Reads as reads
 use Rattle.simulator.proofs.events.listen.Lts as lts
 use Rattle.simulator.proofs.moves.hear.Reads as hear-reads
+use Rattle.types.proofs.Message.processor.Reads as processor-reads
+use Rattle.types.proofs.Message.stage.Reads as stage-reads
+use Rattle.types.proofs.Message.view.Reads as view-reads
+
+stage-requires : tie.Need-stage-requires
+stage-requires c κs = search needs
+
+view-requires : tie.Need-view-requires
+view-requires c κs = search needs
+
+processor-requires : tie.Need-processor-requires
+processor-requires c κs = search needs
 
 hear-requires : tie.Need-hear-requires
-hear-requires c κs = search needs
+hear-requires c κs = rw (c .before .before .stage .ensures, c .before .view .ensures, c .processor .ensures) (c .before .before .before .before .before .before .before .pre)
 
 same-length : tie.Need-same-length
 same-length c = search needs
@@ -18,7 +31,18 @@ same-length-2 : tie.Need-same-length-2
 same-length-2 c = search needs
 
 returns : tie.Need-returns
-returns c = λ cs vs. made-by (stateOf (runFrom (c .before .before .before .before .before .before .before .before .before .args .head) cs vs) (c .before .before .before .before .before .before .before .before .before .args .tally .now) (c .before .before .before .before .before .before .before .before .before .args .network .now)) (heardChange (c .before .before .before .before .before .before .before .before .before .args .stage) (runFrom (c .before .before .before .before .before .before .before .before .before .args .head) cs vs) (c .before .before .before .before .before .before .before .before .before .args .tally .now) (c .before .before .before .before .before .before .before .before .before .args .w) (c .before .before .before .before .before .before .before .before .before .args .p) (c .before .before .before .before .before .before .before .before .before .args .x .formed)) _ _ _ (c .before .before .before .before .hear .ensures .0) (c .before .before .before .before .hear .ensures .1)
+returns c = λ cs vs.
+    rw (sym (c .before .before .before .before .before .before .before .stage .ensures), sym (c .before .before .before .before .before .before .view .ensures), sym (c .before .before .before .before .before .processor .ensures))
+    (made-by (stateOf (runFrom (c .before .before .before .before .before .before .before .before .before .before .before .before .args .head) cs vs) (c .before .before .before .before .before .before .before .before .before .before .before .before .args .tally .now) (c .before .before .before .before .before .before .before .before .before .before .before .before .args .network .now)) (heardChange (c .before .before .before .before .before .before .before .stage .result) (runFrom (c .before .before .before .before .before .before .before .before .before .before .before .before .args .head) cs vs) (c .before .before .before .before .before .before .before .before .before .before .before .before .args .tally .now) (c .before .before .before .before .before .before .view .result) (c .before .before .before .before .before .processor .result) (c .before .before .before .before .before .before .before .before .before .before .before .before .args .formed)) _ _ _ (c .before .before .before .before .hear .ensures .0) (c .before .before .before .before .hear .ensures .1))
 
 pub listen-spec : {M : Type 1} → statement M
-listen-spec = tie.close (tie.spec hear-requires same-length same-length-2 returns)
+listen-spec =
+    tie.close
+    (tie.spec
+    stage-requires
+    view-requires
+    processor-requires
+    hear-requires
+    same-length
+    same-length-2
+    returns)

@@ -1,19 +1,19 @@
 use Rattle.simulator.proofs.Fitness.{whole-of}
-use Rattle.simulator.proofs.Leaping.{waits-now, advance-late, advance-once, advance-leap, leap-fits}
-use Rattle.simulator.specs.Leaps.{Waits}
+use Rattle.simulator.proofs.Striding.{advance-late, advance-once, advance-leap}
+use Rattle.leaps.proofs.Leaping.{waits-now}
+use Rattle.leaps.specs.Leaps.{Waits}
 use Rattle.model.specs.State.{State, stateOf, runFrom}
-use Rattle.types.specs.declared.Run.{Run}
 use native.Mathlib.Omega.{arith}
 use Prim.Native.Nat.{ℕ}
-use mathlib.Core.Path.{ap, subst}
+use mathlib.Core.Path.{subst}
 use borrow.Author.Needs.{needs}
 use Rattle.simulator.proofs.ticks.advance.Statement.{statement}
 use Rattle.simulator.proofs.ticks.advance.Tie as tie
 use Rattle.simulator.proofs.ticks.advance.Reads as reads
 use Rattle.simulator.proofs.ticks.advance.Lts as lts
-use Rattle.simulator.proofs.leaps.leap.Reads as leap-reads
-use Rattle.simulator.proofs.leaps.rest.Reads as rest-reads
-use Rattle.simulator.proofs.leaps.wait.Reads as wait-reads
+use Rattle.leaps.proofs.leap.Reads as leap-reads
+use Rattle.leaps.proofs.rest.Reads as rest-reads
+use Rattle.leaps.proofs.wait.Reads as wait-reads
 use Rattle.simulator.proofs.ticks.tick_once.Reads as tick-once-reads
 
 wait-requires : tie.Need-wait-requires
@@ -28,12 +28,10 @@ returns c =
     advance-late s (c .before .before .before .before .before .pre .0) (c .before .before .before .before .before .args .most) 0 (subst (λ (w : ℕ). Waits s (c .before .before .before .before .before .args .most) w) (c .if1 .taken) (c .before .wait .ensures (c .before .before .before .before .before .args .clocks .now) (c .before .before .before .before .before .args .views .now) (c .before .before .before .before .before .args .tally .now))) (c .before .before .before .before .before .pre .1)
 
 rest-requires : tie.Need-rest-requires
-rest-requires c κs = (c .before .before .before .before .before .before .before .before .before .pre .0 .fit, whole-of (runFrom (c .before .before .before .before .before .before .before .before .before .args .head) (c .before .before .before .before .before .before .before .before .before .args .clocks .now) (c .before .before .before .before .before .before .before .before .before .args .views .now)) (c .before .before .before .before .before .before .before .before .before .pre .0 .fit) (c .before .before .rest-arg2 .given .0) (c .rest-arg4 .given .0))
+rest-requires c κs = search needs
 
 leap-requires : tie.Need-leap-requires
-leap-requires c κs =
-    let s : State = stateOf (runFrom (c .before .before .before .before .before .before .before .before .before .before .before .before .args .head) (c .before .before .before .before .before .before .before .before .before .before .before .before .args .clocks .now) (c .before .before .before .before .before .before .before .before .before .before .before .before .args .views .now)) (c .before .before .before .before .before .before .before .before .before .before .before .before .args .tally .now) (c .before .before .before .before .before .before .before .before .before .before .before .before .args .network .now) in
-    leap-fits s (c .before .before .before .before .before .before .before .before .before .before .before .before .pre .0) (c .before .before .before .before .before .before .before .before .before .before .before .before .args .most) _ _ (c .before .before .before .before .before .before .before .before .wait .ensures (c .before .before .before .before .before .before .before .before .before .before .before .before .args .clocks .now) (c .before .before .before .before .before .before .before .before .before .before .before .before .args .views .now) (c .before .before .before .before .before .before .before .before .before .before .before .before .args .tally .now)) (c .before .before .rest .ensures)
+leap-requires c κs = search needs
 
 same-length-2 : tie.Need-same-length-2
 same-length-2 c = search needs
@@ -41,7 +39,7 @@ same-length-2 c = search needs
 returns-2 : tie.Need-returns-2
 returns-2 c =
     let s : State = stateOf (runFrom (c .before .before .before .before .before .before .before .before .before .before .before .before .before .args .head) (c .before .before .before .before .before .before .before .before .before .before .before .before .before .args .clocks .now) (c .before .before .before .before .before .before .before .before .before .before .before .before .before .args .views .now)) (c .before .before .before .before .before .before .before .before .before .before .before .before .before .args .tally .now) (c .before .before .before .before .before .before .before .before .before .before .before .before .before .args .network .now) in
-    advance-leap s (c .before .before .before .before .before .before .before .before .before .before .before .before .before .pre .0) (c .before .before .before .before .before .before .before .before .before .before .before .before .before .args .most) _ _ (c .before .before .before .before .before .before .before .before .before .wait .ensures (c .before .before .before .before .before .before .before .before .before .before .before .before .before .args .clocks .now) (c .before .before .before .before .before .before .before .before .before .before .before .before .before .args .views .now) (c .before .before .before .before .before .before .before .before .before .before .before .before .before .args .tally .now)) (c .before .before .before .rest .ensures) (whole-of (runFrom (c .before .before .before .before .before .before .before .before .before .before .before .before .before .args .head) (c .before .before .before .before .before .before .before .before .before .before .before .before .before .args .clocks .now) (c .before .before .before .before .before .before .before .before .before .before .before .before .before .args .views .now)) (c .before .before .before .before .before .before .before .before .before .before .before .before .before .pre .0 .fit) (c .before .before .before .before .before .before .rest-arg2 .given .0) (c .before .before .before .before .rest-arg4 .given .0)) (c .before .before .if2 .taken) _ (ap (λ (r : Run). stateOf r (c .before .before .before .before .before .before .before .before .before .before .before .before .before .args .tally .now) (c .before .before .before .before .before .before .before .before .before .before .before .before .before .args .network .now)) (c .leap .ensures (c .before .before .before .before .before .before .before .before .before .before .before .before .before .args .views .now)))
+    advance-leap s (c .before .before .before .before .before .before .before .before .before .before .before .before .before .pre .0) (c .before .before .before .before .before .before .before .before .before .before .before .before .before .args .most) _ (c .before .before .before .before .before .before .before .before .before .wait .ensures (c .before .before .before .before .before .before .before .before .before .before .before .before .before .args .clocks .now) (c .before .before .before .before .before .before .before .before .before .before .before .before .before .args .views .now) (c .before .before .before .before .before .before .before .before .before .before .before .before .before .args .tally .now)) (whole-of (s .run) (c .before .before .before .before .before .before .before .before .before .before .before .before .before .pre .0 .fit) (c .before .before .before .before .before .before .rest-arg2 .given .0) (c .before .before .before .before .rest-arg4 .given .0)) _ (c .before .before .before .rest .ensures) (c .before .before .if2 .taken) _ (c .leap .ensures (c .before .before .before .before .before .before .before .before .before .before .before .before .before .args .views .now))
 
 tick-once-requires : tie.Need-tick-once-requires
 tick-once-requires c κs =

@@ -5,12 +5,10 @@ use Prim.Native.Nat.{ℕ, _*_, _-_, _≤_}
 use native.Mathlib.Omega.{arith}
 use lib.ListN.{length}
 use borrow.Author.Needs.{needs, zero≤}
-use Rattle.base.specs.Scan.{some}
-use Rattle.base.specs.ScanLaws.{some-start, some-on, some-here}
+use Rattle.base.specs.ScanLaws.{some-not}
 use Rattle.model.specs.State.{stateOf, runFrom}
 use Rattle.model.specs.Moves.{entries}
 use Rattle.types.specs.declared.Run.{Run}
-use Rattle.liveness.proofs.Answers.{no-yes}
 use Rattle.pacemaker.proofs.LimitLaws.{within}
 use Rattle.simulator.specs.Inner.{arrivedBelow, endsAt}
 use Rattle.simulator.proofs.Sending.{sent-few}
@@ -24,38 +22,35 @@ use Rattle.simulator.proofs.moves.count_entry.Reads as count-entry-read
 use Rattle.simulator.proofs.ticks.arrive.Reads as arrive-reads
 
 abbrev Inv-loop : tie.InvT-loop
-Inv-loop head clocks views n sent₀ q₀ sent q = (q ≤ head .plan .n) × (some (endsAt (runFrom head clocks views)) q ≡ false) × ((t ws : List ℕ) → sent ≡ length (arrivedBelow (stateOf (runFrom head clocks views) t ws) q .sent)) × (sent ≤ 2 * q)
+Inv-loop head clocks views n sent₀ q₀ sent q = (q ≤ head .plan .n) × ((t ws : List ℕ) → sent ≡ length (arrivedBelow (stateOf (runFrom head clocks views) t ws) q .sent)) × (sent ≤ 2 * q)
 
 abbrev μ-loop : tie.MeasureT-loop
 μ-loop head clocks views n sent₀ q₀ sent q = head .plan .n - q
 
 loop-holds : tie.Need-loop-holds Inv-loop μ-loop
 unfolding entries
-loop-holds c = (zero≤, some-start _, λ t ws. refl, zero≤)
+loop-holds c = (zero≤, λ t ws. refl, zero≤)
 
 mul-t11 : tie.Need-mul-t11 Inv-loop μ-loop
-mul-t11 c = omega (arith, c .loop-test .taken, within (c .before .before .args .head .plan) (c .before .before .pre .0 .plan) .n-most)
+mul-t11 c = omega (arith, c .loop-test .taken, within (c .before .before .args .head .plan) (c .before .before .pre .fit .plan) .n-most)
 
 element-copy-out-t14 : tie.Need-element-copy-out-t14 Inv-loop μ-loop
-element-copy-out-t14 c = omega (arith, c .loop-test .taken, within (c .before .before .args .head .plan) (c .before .before .pre .0 .plan) .n-most)
+element-copy-out-t14 c = omega (arith, c .loop-test .taken, within (c .before .before .args .head .plan) (c .before .before .pre .fit .plan) .n-most)
 
 mul-t15 : tie.Need-mul-t15 Inv-loop μ-loop
-mul-t15 c = omega (arith, c .before .loop-test .taken, within (c .before .before .before .args .head .plan) (c .before .before .before .pre .0 .plan) .n-most)
+mul-t15 c = omega (arith, c .before .loop-test .taken, within (c .before .before .before .args .head .plan) (c .before .before .before .pre .fit .plan) .n-most)
 
 element-copy-out-t18 : tie.Need-element-copy-out-t18 Inv-loop μ-loop
-element-copy-out-t18 c = omega (arith, c .before .loop-test .taken, within (c .before .before .before .args .head .plan) (c .before .before .before .pre .0 .plan) .n-most)
+element-copy-out-t18 c = omega (arith, c .before .loop-test .taken, within (c .before .before .before .args .head .plan) (c .before .before .before .pre .fit .plan) .n-most)
 
 arrive-requires : tie.Need-arrive-requires Inv-loop μ-loop
-arrive-requires c κs = (c .before .before .loop-test .taken, λ e. seat-sound (runFrom (c .before .before .before .before .args .head) (c .before .before .before .before .args .clocks .now) (c .before .before .before .before .args .views .now)) _ (c .before .before .before .before .pre .0) e)
-
-returns : tie.Need-returns Inv-loop μ-loop
-returns c = record { ends = sym (some-here (endsAt (runFrom (c .before .before .before .before .before .before .args .head) (c .before .before .before .before .before .before .args .clocks .now) (c .before .before .before .before .before .before .args .views .now))) _ (c .before .before .before .before .before .loop .q) (c .before .before .before .before .loop-test .taken) (sym (c .before .arrive .ensures .ends) ∙ c .if1 .taken)); sent = λ e. no-yes e; few = zero≤ }
+arrive-requires c κs = (c .before .before .loop-test .taken, λ e. seat-sound (runFrom (c .before .before .before .before .args .head) (c .before .before .before .before .args .clocks .now) (c .before .before .before .before .args .views .now)) _ (c .before .before .before .before .pre .fit) e)
 
 count-entry-requires : tie.Need-count-entry-requires Inv-loop μ-loop
-count-entry-requires c κs = omega (arith, within (c .before .before .before .before .before .before .args .head .plan) (c .before .before .before .before .before .before .pre .0 .plan) .n-least)
+count-entry-requires c κs = omega (arith, within (c .before .before .before .before .before .args .head .plan) (c .before .before .before .before .before .pre .fit .plan) .n-least)
 
 add-sent : tie.Need-add-sent Inv-loop μ-loop
-add-sent c = omega (arith, c .before .before .before .before .before .before .loop .inv .3, c .before .before .before .before .before .loop-test .taken, within (c .before .before .before .before .before .before .before .args .head .plan) (c .before .before .before .before .before .before .before .pre .0 .plan) .n-most, c .count-entry .ensures, sent-few (c .before .before .before .before .before .before .before .args .head .plan) (c .before .before .before .before .before .before .before .args .head .faulty) (c .before .before .before .before .before .before .loop .q) (c .before .before .arrive .result .sends))
+add-sent c = omega (arith, c .before .before .before .before .before .loop .inv .2, c .before .before .before .before .loop-test .taken, within (c .before .before .before .before .before .before .args .head .plan) (c .before .before .before .before .before .before .pre .fit .plan) .n-most, c .count-entry .ensures, sent-few (c .before .before .before .before .before .before .args .head .plan) (c .before .before .before .before .before .before .args .head .faulty) (c .before .before .before .before .before .loop .q) (c .before .arrive .result .sends))
 
 add-q : tie.Need-add-q Inv-loop μ-loop
 add-q c = search needs
@@ -65,23 +60,20 @@ loop-less c = search needs
 
 loop-again : tie.Need-loop-again Inv-loop μ-loop
 loop-again c =
-    let r : Run = runFrom (c .before .before .before .before .before .before .before .args .head) (c .before .before .before .before .before .before .before .args .clocks .now) (c .before .before .before .before .before .before .before .args .views .now) in
-    let most : r .plan .n ≤ length (r .clocks) = c .before .before .before .before .before .before .before .pre .1 .clocks in (
+    let r : Run = runFrom (c .before .before .before .before .before .before .args .head) (c .before .before .before .before .before .before .args .clocks .now) (c .before .before .before .before .before .before .args .views .now) in
+    let on : c .before .arrive .result .ends ≡ false = c .before .arrive .ensures .ends ∙ some-not (endsAt r) (r .plan .n) (c .before .before .before .before .before .loop .q) (c .before .before .before .before .before .before .pre .goes-on) (c .before .before .before .before .loop-test .taken) in (
       omega arith,
-      some-on (endsAt r) (c .before .before .before .before .before .before .loop .q) (c .before .before .before .before .before .before .loop .inv .1) (sym (c .before .before .arrive .ensures .ends) ∙ c .before .if1 .left),
-      (λ t ws. omega (arith, c .before .before .before .before .before .before .loop .inv .2 t ws, c .count-entry .ensures, sent-length (stateOf r t ws) most (c .before .before .before .before .before .before .loop .q) (c .before .before .before .before .before .loop-test .taken) (c .before .before .arrive .result) (c .before .before .arrive .ensures) (c .before .if1 .left))),
-      omega (arith, c .before .before .before .before .before .before .loop .inv .3, c .count-entry .ensures, sent-few (r .plan) (r .faulty) (c .before .before .before .before .before .before .loop .q) (c .before .before .arrive .result .sends)),
+      (λ t ws. omega (arith, c .before .before .before .before .before .loop .inv .1 t ws, c .count-entry .ensures, sent-length (stateOf r t ws) (c .before .before .before .before .before .before .pre .whole .clocks) (c .before .before .before .before .before .loop .q) (c .before .before .before .before .loop-test .taken) (c .before .arrive .result) (c .before .arrive .ensures) on)),
+      omega (arith, c .before .before .before .before .before .loop .inv .2, c .count-entry .ensures, sent-few (r .plan) (r .faulty) (c .before .before .before .before .before .loop .q) (c .before .arrive .result .sends)),
     )
 
-returns-2 : tie.Need-returns-2 Inv-loop μ-loop
-returns-2 c =
+returns : tie.Need-returns Inv-loop μ-loop
+returns c =
     let r : Run = runFrom (c .before .before .args .head) (c .before .before .args .clocks .now) (c .before .before .args .views .now) in
-    let e : c .before .loop .q ≡ r .plan .n = omega arith in
-    record {
-      ends = sym (ap (some (endsAt r)) (sym e) ∙ c .before .loop .inv .1);
-      sent = λ z t ws. c .before .loop .inv .2 t ws ∙ ap (λ (k : ℕ). length (arrivedBelow (stateOf r t ws) k .sent)) e;
-      few = omega (arith, c .before .loop .inv .3, within (r .plan) (c .before .before .pre .0 .plan) .n-most);
-    }
+    let e : c .before .loop .q ≡ r .plan .n = omega arith in (
+      (λ t ws. c .before .loop .inv .1 t ws ∙ ap (λ (k : ℕ). length (arrivedBelow (stateOf r t ws) k .sent)) e),
+      omega (arith, c .before .loop .inv .2, within (r .plan) (c .before .before .pre .fit .plan) .n-most),
+    )
 
 pub foretell-spec : {M : Type 1} → statement M
 foretell-spec =
@@ -95,10 +87,9 @@ foretell-spec =
     mul-t15
     element-copy-out-t18
     arrive-requires
-    returns
     count-entry-requires
     add-sent
     add-q
     loop-less
     loop-again
-    returns-2)
+    returns)

@@ -1,4 +1,4 @@
-use Rattle.simulator.proofs.Leaping.{quiet-reacts}
+use Rattle.simulator.proofs.Striding.{quiet-reacts}
 use Rattle.simulator.proofs.Fitness.{end-most}
 use Rattle.pacemaker.proofs.LimitLaws.{sound}
 use native.Mathlib.Omega.{arith}

@@ -1,7 +1,7 @@
-use Rattle.simulator.proofs.Leaping.{strides-none, strides-also, strides-rest, strides-ready}
+use Rattle.simulator.proofs.Striding.{strides-none, strides-also, strides-rest, strides-ready}
 use Rattle.simulator.proofs.Once.{ticks-ended, run-ended, run-done}
 use Rattle.simulator.proofs.Fitness.{fit-of, room-of}
-use Rattle.simulator.specs.Leaps.{Strides}
+use Rattle.simulator.specs.Strides.{Strides}
 use Rattle.simulator.specs.Inner.{ranTo}
 use Rattle.model.specs.Events.{ticks}
 use Rattle.model.specs.State.{State, stateOf, runFrom}

@@ -1,0 +1,201 @@
+-- What calls in turn leave: the words of what the definitions leave, and many events in one call leave what as many calls leave. Assumes nothing.
+use mathlib.Core.Path.{_≡_, refl, sym, ap, _∙_, subst}
+use mathlib.Core.Bool.{Bool, true, false}
+use mathlib.Core.List.{List, [], _∷_, _++_, map}
+use Prim.Native.Nat.{ℕ, zero, suc, _+_, _-_, _*_, _≤_}
+use native.Mathlib.Omega.{arith}
+use lib.Dec.{ltb}
+use lib.ListN.{length, getD, take, drop, length-append}
+use lib.Seq.{drop-at}
+use Rattle.base.specs.Choice.{cond-yes, or-second}
+use Rattle.base.specs.Tests.{T-true, T-false, by-cond}
+use Rattle.types.specs.declared.Event.{Event}
+use Rattle.types.specs.declared.Run.{Run}
+use Rattle.types.specs.Messages.{lacksForm}
+use Rattle.model.specs.State.{State, After, stateOf, checkOf, ticksOf, accepted}
+use Rattle.model.specs.Events.{applied}
+use Rattle.model.specs.Lists.{after}
+use Rattle.liveness.specs.Promises.{Tabled}
+use Rattle.liveness.proofs.History.{event-time}
+use Rattle.liveness.proofs.Promises.{refused-stays, list-law, events-last}
+use Rattle.words.specs.declared.Numbers.{Numbers}
+use Rattle.words.specs.Events.{eventWords, eventOf, eventAs, fourNumbers}
+use Rattle.words.specs.Batches.{wordsApplied}
+use Rattle.types.specs.Runs.{settledAs}
+use Rattle.fever.specs.Layout.{runLength, timeWord, heldWord, runIn, runWords, runOver, neitherSettled}
+use Rattle.fever.specs.Contracts.{Lent, lentOf, lentState, Called, called, told, applyingWords, CalledAll, calledAll, toldAll, applyingAll, AppliesEvents}
+use Rattle.fever.specs.Promises.{numbersOf, Call, one, many, Answers, InTurn, lentAfter, numbersIn, eventsOf, EveryCallAnswered, NoEventNothing, answersOf, ManyInTurn}
+use Rattle.fever.proofs.ReadBack.{run-back, run-words-back}
+use Rattle.fever.proofs.Calling.{applying-told, all-told}
+use Rattle.fever.proofs.KeepsTables.{after-tabled, read-tabled}
+
+-- ---- what the words have that one call leaves and the next gets
+
+-- no fewer than a run has, a settled word, and what stands behind the run's own
+pub record Laid (more : List ℕ) (x : Lent) : Type 0 where
+  pub long : runLength ≤ length (x .run)
+  pub sorted : neitherSettled (x .run) ≡ false
+  pub behind : drop runLength (x .run) ≡ more
+
+-- and that they are those of s
+pub record Left (more : List ℕ) (s : State) (x : Lent) : Type 0 where
+  pub state : lentState x ≡ s
+  pub laid : Laid more x
+
+settled-sorted : (b : Bool) → ltb 1 (settledAs b) ≡ false
+settled-sorted true = refl
+settled-sorted false = refl
+
+words-length : (r : Run) → Tabled r → length (runWords r) ≡ runLength
+words-length r h = omega (arith, length-append (r .clocks) (r .views), h .clocks, h .views)
+
+-- the words of a run that a call left
+pub run-left : (more ws : List ℕ) (s : State) → drop runLength ws ≡ more → Tabled (s .run) → Left more s (lentOf (runOver ws (s .run)) (s .tally) (s .network))
+run-left more ws s e h =
+    let r = s .run in
+    let whole : length (runOver ws r) ≡ length (runWords r) + length (drop runLength ws) = length-append (runWords r) (drop runLength ws) in
+    record {
+      state = ap (λ (z : Run). stateOf z (s .tally) (s .network)) (run-back r (drop runLength ws) (h .clocks) (h .views));
+      laid = record {
+        long = omega (arith, whole, words-length r h);
+        sorted = settled-sorted (r .settled);
+        behind = drop-at (runWords r) (drop runLength ws) runLength (words-length r h) ∙ e;
+      };
+    }
+
+-- there is only one way to lay them out
+left-whole : (more : List ℕ) (s : State) (x : Lent) → Left more s x → x ≡ lentOf (runWords (s .run) ++ more) (s .tally) (s .network)
+left-whole more s x l =
+    ap (λ (ws : List ℕ). lentOf ws (x .tally) (x .network)) (sym (run-words-back (x .run) (l .laid .long) (l .laid .sorted)) ∙ ap (λ (ws : List ℕ). runWords (runIn (x .run)) ++ ws) (l .laid .behind))
+    ∙ ap (λ (z : State). lentOf (runWords (z .run) ++ more) (z .tally) (z .network)) (l .state)
+
+-- ---- one call
+
+-- of an event: what the definitions tell of it
+pub call-told : (more : List ℕ) (k : Numbers) (x : Lent) (c : Called) → Laid more x → Answers (one k) x c → c ≡ told (x .run) (applied (eventAs k) (lentState x))
+call-told more k x c h f = f ∙ sym (applying-told (eventAs k) x (h .long) (h .sorted))
+
+told-left : (more : List ℕ) (x : Lent) (e : Event) → Laid more x → Left more (applied e (lentState x) .state) (told (x .run) (applied e (lentState x)) .lent)
+told-left more x e h =
+    let a = applied e (lentState x) in
+    by-cond (λ (ws : List ℕ). Left more (a .state) (lentOf ws (a .state .tally) (a .state .network))) (accepted (a .answer)) _ (x .run)
+    (λ y. run-left more (x .run) (a .state) (h .behind) (events-last e (lentState x) (read-tabled (x .run) (h .long)) .1))
+    (λ f. subst (λ (s : State). Left more s (lentOf (x .run) (s .tally) (s .network))) (sym (refused-stays e (lentState x) (T-false (accepted (a .answer)) f)))
+    (record { state = refl; laid = h }))
+
+-- of many: the words of what they leave
+words-after : (ws : List ℕ) (s : State) → wordsApplied ws s .state ≡ after s (map eventAs (numbersOf ws))
+unfolding wordsApplied after numbersOf
+words-after [] s = refl
+words-after (a ∷ []) s = refl
+words-after (a ∷ b ∷ []) s = refl
+words-after (a ∷ b ∷ c ∷ []) s = refl
+words-after (a ∷ b ∷ c ∷ d ∷ ws) s = words-after ws (applied (eventOf a b c d) s .state)
+
+pub many-told : (more events : List ℕ) (x : Lent) (r : ℕ) (y : Lent) (left : List ℕ) → Laid more x → AppliesEvents events x r y left
+    → calledAll r y left ≡ toldAll (x .run) (wordsApplied events (lentState x))
+many-told more events x r y left h f = f ∙ sym (all-told events x (h .long) (h .sorted))
+
+many-left : (more events : List ℕ) (x : Lent) → Laid more x → let y = wordsApplied events (lentState x) in
+    Left more (after (lentState x) (map eventAs (numbersOf events))) (toldAll (x .run) y .lent)
+many-left more events x h =
+    let s = after (lentState x) (map eventAs (numbersOf events)) in
+    subst (λ (z : State). Left more s (lentOf (runOver (x .run) (z .run)) (z .tally) (z .network))) (sym (words-after events (lentState x)))
+    (run-left more (x .run) s (h .behind) (after-tabled (lentState x) (map eventAs (numbersOf events)) (read-tabled (x .run) (h .long))))
+
+-- of either kind
+call-left : (more : List ℕ) (k : Call) (x : Lent) (c : Called) → Laid more x → Answers k x c → Left more (after (lentState x) (map eventAs (numbersIn k))) (c .lent)
+unfolding after
+call-left more (one k) x c h f =
+    subst (λ (b : Called). Left more (applied (eventAs k) (lentState x) .state) (b .lent)) (sym (call-told more k x c h f)) (told-left more x (eventAs k) h)
+call-left more (many events) x c h f =
+    subst (λ (b : CalledAll). Left more (after (lentState x) (map eventAs (numbersOf events))) (b .lent)) (sym (many-told more events x (c .answer) (c .lent) (f .0) h (f .1)))
+    (many-left more events x h)
+
+-- ---- calls in turn
+
+answered-left : (more : List ℕ) (s : State) (k : Call) (x : Lent) (c : Called) → Answers k x c → Left more s x → Left more (after s (map eventAs (numbersIn k))) (c .lent)
+answered-left more s k x c f l = subst (λ (a : State). Left more (after a (map eventAs (numbersIn k))) (c .lent)) (l .state) (call-left more k x c (l .laid) f)
+
+pub calls-left : (more : List ℕ) (s : State) (x : Lent) (ks : List Call) (cs : List Called) → InTurn x ks cs → Left more s x → (i : ℕ)
+    → Left more (after s (eventsOf (take i ks))) (lentAfter x cs i)
+unfolding after eventsOf
+calls-left more s x ks cs f l zero = l
+calls-left more s x [] [] f l (suc i) = l
+calls-left more s x [] (c ∷ cs) f l (suc i) = absurd f
+calls-left more s x (k ∷ ks) [] f l (suc i) = absurd f
+calls-left more s x (k ∷ ks) (c ∷ cs) f l (suc i) =
+    subst (λ (a : State). Left more a (lentAfter (c .lent) cs i)) (sym (list-law s (map eventAs (numbersIn k)) (eventsOf (take i ks))))
+    (calls-left more (after s (map eventAs (numbersIn k))) (c .lent) ks cs (f .1) (answered-left more s k x c (f .0) l) i)
+
+-- ---- calls that may be made, and those that do nothing
+
+pub every-call-answered : EveryCallAnswered
+every-call-answered x [] = ([], tt)
+every-call-answered x (one k ∷ ks) =
+    let c = applyingWords (eventAs k) x in
+    let r = every-call-answered (c .lent) ks in (c ∷ r .0, (refl, r .1))
+every-call-answered x (many events ∷ ks) =
+    let c = applyingAll events x in
+    let r = every-call-answered (c .lent) ks in (called (c .answer) (c .lent) ∷ r .0, ((c .events, refl), r .1))
+
+pub no-event-nothing : NoEventNothing
+unfolding applyingWords
+no-event-nothing k x c t g =
+    g ∙ sym (cond-yes _ _ _ _ (or-second (ltb (length (x .run)) runLength) (lacksForm (eventAs k)) (T-true (lacksForm (eventAs k)) t)) refl)
+
+-- ---- many events are as many calls
+
+-- a call tells an answer's numbers
+answer-told : (more : List ℕ) (x : Lent) (e : Event) (k : Called) → k ≡ told (x .run) (applied e (lentState x)) → Left more (applied e (lentState x) .state) (k .lent)
+    → (k .answer ≡ checkOf (applied e (lentState x) .answer)) × (getD (k .lent .run) timeWord 0 - getD (x .run) timeWord 0 ≡ ticksOf (applied e (lentState x) .answer))
+    × (getD (k .lent .run) heldWord 0 ≡ applied e (lentState x) .state .run .held)
+unfolding runIn
+answer-told more x e k t l =
+    let time : getD (k .lent .run) timeWord 0 ≡ applied e (lentState x) .state .run .time = ap (λ (s : State). s .run .time) (l .state) in
+    let gained : applied e (lentState x) .state .run .time ≡ getD (x .run) timeWord 0 + ticksOf (applied e (lentState x) .answer) = event-time e (lentState x) in
+    (ap (λ (c : Called). c .answer) t, omega arith, ap (λ (s : State). s .run .held) (l .state))
+
+drop-four : (n a b c d : ℕ) (ws : List ℕ) → drop (eventWords * suc n) (a ∷ b ∷ c ∷ d ∷ ws) ≡ drop (eventWords * n) ws
+drop-four n a b c d ws =
+    let e : eventWords * suc n ≡ suc (suc (suc (suc (eventWords * n)))) = omega arith in
+    ap (λ (m : ℕ). drop m (a ∷ b ∷ c ∷ d ∷ ws)) e
+
+-- so each event's words are what its call tells
+answers-same : (more ws : List ℕ) (x : Lent) (cs : List Called) → Laid more x → InTurn x (map one (numbersOf ws)) cs
+    → wordsApplied ws (lentState x) .words ≡ answersOf x (numbersOf ws) cs ++ drop (eventWords * length (numbersOf ws)) ws
+unfolding wordsApplied numbersOf
+answers-same more [] x cs h f = refl
+answers-same more (a ∷ []) x cs h f = refl
+answers-same more (a ∷ b ∷ []) x cs h f = refl
+answers-same more (a ∷ b ∷ c ∷ []) x cs h f = refl
+answers-same more (a ∷ b ∷ c ∷ d ∷ ws) x [] h f = absurd f
+answers-same more (a ∷ b ∷ c ∷ d ∷ ws) x (k ∷ cs) h f =
+    let y : After = applied (eventOf a b c d) (lentState x) in
+    let t : k ≡ told (x .run) y = call-told more (fourNumbers a b c d) x k h (f .0) in
+    let l : Left more (y .state) (k .lent) = subst (λ (z : Called). Left more (y .state) (z .lent)) (sym t) (told-left more x (eventOf a b c d) h) in
+    let w = answer-told more x (eventOf a b c d) k t l in
+    let rest : wordsApplied ws (y .state) .words ≡ answersOf (k .lent) (numbersOf ws) cs ++ drop (eventWords * length (numbersOf ws)) ws =
+    ap (λ (s : State). wordsApplied ws s .words) (sym (l .state)) ∙ answers-same more ws (k .lent) cs (l .laid) (f .1) in
+    rw (w .0, w .1, w .2, drop-four (length (numbersOf ws)) a b c d ws)
+    (ap (λ (z : List ℕ). a ∷ checkOf (y .answer) ∷ ticksOf (y .answer) ∷ y .state .run .held ∷ z) rest)
+
+one-by-one : (ns : List Numbers) → eventsOf (take (length ns) (map one ns)) ≡ map eventAs ns
+unfolding eventsOf
+one-by-one [] = refl
+one-by-one (k ∷ ns) = ap (λ (es : List Event). eventAs k ∷ es) (one-by-one ns)
+
+pub many-in-turn : ManyInTurn
+many-in-turn x events long sorted r after' left f cs g =
+    let more : List ℕ = drop runLength (x .run) in
+    let n : ℕ = length (numbersOf events) in
+    let s : State = after (lentState x) (map eventAs (numbersOf events)) in
+    let h : Laid more x = record { long = long; sorted = sorted; behind = refl } in
+    let t : calledAll r after' left ≡ toldAll (x .run) (wordsApplied events (lentState x)) = many-told more events x r after' left h f in
+    let calls : Left more s (lentAfter x cs n) = subst (λ (es : List Event). Left more (after (lentState x) es) (lentAfter x cs n)) (one-by-one (numbersOf events))
+    (calls-left more (lentState x) x (map one (numbersOf events)) cs g (record { state = refl; laid = h }) n) in
+    record {
+      answer = ap (λ (c : CalledAll). c .answer) t;
+      lent = ap (λ (c : CalledAll). c .lent) t ∙ left-whole more s _ (many-left more events x h) ∙ sym (left-whole more s (lentAfter x cs n) calls);
+      words = ap (λ (c : CalledAll). c .events) t ∙ answers-same more events x cs h g;
+    }

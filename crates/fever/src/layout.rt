@@ -1,0 +1,206 @@
+// Setups, runs and what was read, from words and into words.
+use lines::Read;
+use lines::Reading;
+use types::Answer;
+use types::AppliedHead;
+use types::Head;
+use types::Plan;
+use types::Setup;
+use words::Numbers;
+ghost use mathlib.Core.Path.{_≡_};
+ghost use mathlib.Core.List.{_++_};
+ghost use Prim.Native.Nat.{_+_, _≤_};
+ghost use lib.ListN.{length, drop};
+ghost use Rattle.types.specs.Quantities.{tableClocks};
+ghost use Rattle.model.specs.State.{runFrom, headOf, checkOf};
+ghost use Rattle.writer.specs.Stamps.{Room, Stamped};
+ghost use Rattle.fever.specs.Layout.{planIn, tableIn, setupLength, setupIn, runLength, runIn, runOver, readingLength, readNumbers, readingWords};
+ghost use Rattle.fever.specs.Contracts.{runLeft};
+
+pub(crate) const SETUP_WORDS: usize = 69;
+
+pub(crate) const RUN_WORDS: usize = 137;
+
+pub(crate) const READING_WORDS: usize = 73;
+
+// Which word of a run or a setup holds what, from the plan's four on.
+const FAULTY: usize = 4;
+
+const START_CLOCKS: usize = 5;
+
+const TIME: usize = 5;
+
+pub(crate) const SETTLED: usize = 6;
+
+const GST: usize = 7;
+
+const HELD: usize = 8;
+
+pub(crate) const CLOCKS: usize = 9;
+
+pub(crate) const VIEWS: usize = 73;
+
+// The clocks of a table.
+const TABLE: usize = 64;
+
+// The 64 words from a place on.
+pub(crate) fn table_in(words: &[u64], at: usize) -> [u64; 64]
+    requires { ⌜ at + tableClocks ≤ length (now words) ⌝ }
+    ensures { λ r. ⌜ r ≡ tableIn at (now (words .entry)) ⌝ }
+{
+    let mut table = [0; 64];
+    let mut i = 0;
+    while i < TABLE {
+        table[i] = words[at + i];
+        i += 1;
+    }
+    table
+}
+
+// The plan of a run or a setup.
+fn plan_in(words: &[u64]) -> Plan
+    requires { ⌜ 4 ≤ length (now words) ⌝ }
+    ensures { λ r. ⌜ r ≡ planIn (now (words .entry)) ⌝ }
+{
+    Plan {
+        n: words[0],
+        delta: words[1],
+        gamma: words[2],
+        views: words[3],
+    }
+}
+
+// The setup in the first 69 words.
+pub(crate) fn setup_in(words: &[u64]) -> Setup
+    requires { ⌜ setupLength ≤ length (now words) ⌝ }
+    ensures { λ r. ⌜ r ≡ setupIn (now (words .entry)) ⌝ }
+{
+    let plan = plan_in(words);
+    let clocks = table_in(words, START_CLOCKS);
+    Setup {
+        plan: plan,
+        faulty: words[FAULTY],
+        clocks: clocks,
+    }
+}
+
+// The run in the first 137 words, but for its tables.
+pub(crate) fn head_in(words: &[u64]) -> Head
+    requires { ⌜ runLength ≤ length (now words) ⌝ }
+    ensures { λ r. ⌜ r ≡ headOf (runIn (now (words .entry))) ⌝ }
+{
+    let plan = plan_in(words);
+    Head {
+        plan: plan,
+        faulty: words[FAULTY],
+        time: words[TIME],
+        settled: types::settled_as(words[SETTLED] == 1),
+        gst: words[GST],
+        held: words[HELD] as usize,
+    }
+}
+
+// The values from a place on. Answers the place behind them.
+pub(crate) fn put_words(words: &mut [u64], at: usize, values: &[u64]) -> usize
+    requires { ⌜ Room (now words) at (now values) ⌝ }
+    ensures { λ r. ⌜ Stamped (now (words .entry)) at (now (values .entry)) r (now (words .exit)) ⌝ }
+{
+    let mut k = 0;
+    while k < values.len() {
+        words[at + k] = values[k];
+        k += 1;
+    }
+    at + k
+}
+
+// The table, apart from any words: so it is put among them as a whole, and not word by word.
+fn own_table(table: &[u64; 64]) -> [u64; 64]
+    ensures { λ r. ⌜ r ≡ now (table .entry) ⌝ }
+{
+    *table
+}
+
+// The first 137 words become those of the run whose tables are lent beside its head.
+pub(crate) fn put_run(words: &mut [u64], head: Head, clocks: &[u64; 64], views: &[u64; 64])
+    requires { ⌜ runLength ≤ length (now words) ⌝ }
+    ensures { λ r. ⌜ now (words .exit) ≡ runOver (now (words .entry)) (runFrom head (now (clocks .entry)) (now (views .entry))) ⌝ }
+{
+    let numbers = [
+        head.plan.n,
+        head.plan.delta,
+        head.plan.gamma,
+        head.plan.views,
+        head.faulty,
+        head.time,
+        types::settled_as(head.settled == 1),
+        head.gst,
+        head.held as u64,
+    ];
+    let next = put_words(words, 0, &numbers);
+    let own_clocks = own_table(clocks);
+    let last = put_words(words, next, &own_clocks);
+    let own_views = own_table(views);
+    put_words(words, last, &own_views);
+}
+
+// What a call left of the run, if it was accepted. Answers the check that refused it or ended its ticks, or 0.
+pub(crate) fn put_outcome(
+    words: &mut [u64],
+    outcome: AppliedHead,
+    clocks: &[u64; 64],
+    views: &[u64; 64],
+) -> u64
+    requires { ⌜ runLength ≤ length (now words) ⌝ }
+    ensures { λ r. ⌜ (r ≡ checkOf (outcome .answer)) × (now (words .exit) ≡
+        runLeft (now (words .entry)) (outcome .answer) (runFrom (outcome .head) (now (clocks .entry)) (now (views .entry)))) ⌝ }
+{
+    let head = outcome.head;
+    let answer = outcome.answer;
+    match answer {
+        Answer::Done(_, _) => {
+            put_run(words, head, clocks, views);
+            0
+        }
+        Answer::Stopped(_, _, check) => {
+            put_run(words, head, clocks, views);
+            check
+        }
+        Answer::Refused(check) => check,
+    }
+}
+
+// The numbers of what a line is read as.
+fn numbers_of(read: Read) -> Numbers
+    ensures { λ r. ⌜ r ≡ readNumbers read ⌝ }
+{
+    match read {
+        Read::Event(event) => words::numbers_of(event),
+        Read::Opening => words::bare(6, 0),
+        Read::NoForm => words::bare(0, 0),
+    }
+}
+
+// The first 73 words become those of a line that is one of the forms.
+pub(crate) fn put_reading(words: &mut [u64], reading: Reading) -> u64
+    requires { ⌜ readingLength ≤ length (now words) ⌝ }
+    ensures { λ r. ⌜ (r ≡ 0) × (now (words .exit) ≡ readingWords reading ++ drop readingLength (now (words .entry))) ⌝ }
+{
+    let read = reading.read;
+    let numbers = numbers_of(read);
+    let setup = reading.setup;
+    let heading = [
+        numbers.form,
+        numbers.kind,
+        numbers.view,
+        numbers.processor,
+        setup.plan.n,
+        setup.plan.delta,
+        setup.plan.gamma,
+        setup.plan.views,
+        setup.faulty,
+    ];
+    let clocks = setup.clocks;
+    let next = put_words(words, 0, &heading);
+    put_words(words, next, &clocks);
+    0
+}

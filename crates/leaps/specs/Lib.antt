@@ -1,0 +1,2 @@
+-- What the contracts cite, and that quiet ticks only add.
+pub mod Leaps

@@ -8,11 +8,12 @@
  * says, and is not NULL even where the length is 0; what is lent to one call does not overlap, what is only read included; and
  * nobody else writes it meanwhile. Beyond that every function takes any words, any lengths and any numbers.
  *
- * Open, apply, step and read answer a check's number where they refuse, the two that write answer 0 for check 1, the only one that
- * they make, and a call that refuses has changed nothing that was lent. A run of ticks that is stopped answers the check that ended
- * it, and the ticks before are done. Events applied together are answered each in its own words, refused or not; that call itself
- * refuses only where the words lent are those of no run. The contract of each function is in crates/fever/specs/Contracts.antt, the
- * layouts are in Layout.antt, and what is promised of calls in a row and of what they answer is in Promises.antt.
+ * Open, apply, step, read and generate answer a check's number where they refuse; `fever_write_event` and `fever_write_setup` answer 0
+ * for check 1, the only one that they make; and a call that refuses has changed nothing that was lent. A run of ticks that is stopped
+ * answers the check that ended it, and the ticks before are done. Events applied together are answered each in its own words, refused
+ * or not; that call itself refuses only where the words lent are those of no run. The contracts are in crates/fever/specs: those for
+ * loads in Loads.antt, the others in Contracts.antt, the layouts in Layout.antt, and what is promised of calls in a row and of what
+ * they answer in Promises.antt.
  *
  * The checks: 1 no such form, or too few elements lent; 2 to 8 refuse an opening; 9 to 18 an event; one processor uses 9, 10, 11 and
  * 17. The README lists them.
@@ -180,6 +181,42 @@ uint64_t fever_write_event(uint64_t form, uint64_t kind, uint64_t view, uint64_t
  * untouched.
  */
 uint64_t fever_write_setup(const uint64_t *setup, size_t setup_len, uint8_t *out, size_t out_len);
+
+/* ---- loads: schedules out of a seed number */
+
+/* what a load is made with, and where it stands */
+#define FEVER_LOAD_WORDS 6
+#define FEVER_LOAD_STEPS 0  /* how many steps it has */
+#define FEVER_LOAD_SETTLE 1 /* the step, from 0, before which it settles; none where that is not below the steps */
+#define FEVER_LOAD_SEED 2   /* the seed, and then the one that the next draw starts from */
+#define FEVER_LOAD_STEP 3   /* the next step */
+#define FEVER_LOAD_BYTES 4  /* the bytes that the call has written */
+#define FEVER_LOAD_FULL 5   /* 1 where the lent bytes were too few for the next line, 0 where the load has ended */
+
+/*
+ * Opens a run, as `fever_open` does, moves it by events that the seed chooses, and writes the line of the setup and of each event, whole
+ * lines only. Of the load its steps, settling step and seed are read; its seed, step, bytes and full are written. Run, tally and network are
+ * left as by the lines that were written: reading them in turn, with buffers as long, refuses none and leads to the same run. Bytes behind
+ * the last newline are untouched. Where the bytes are too few for the first line, the run is not opened: no byte is written, the load is
+ * full, and a load begins anew by this call, with more of them.
+ *
+ * Answers 0; or 1 where the setup has fewer than 69 words, the run fewer than 137 or the load fewer than 6, else the check, 2 to 8, that
+ * refuses the opening; and then nothing that was lent has changed.
+ */
+uint64_t fever_generate(const uint64_t *setup, size_t setup_len, uint64_t *run, size_t run_len, uint64_t *tally, size_t tally_len,
+                        uint64_t *network, size_t network_len, uint64_t *load, size_t load_len, uint8_t *out, size_t out_len);
+
+/*
+ * Goes on with a load that is full and whose opening was written, with other bytes or the same: by its steps, settling step, seed and
+ * step. The lines of the calls in turn are those of one call with bytes enough. Bytes are asked for before an event is tried, so the
+ * line that had no room may turn out to be that of an event that a check refuses; and 1,440 bytes hold every line: a call that is
+ * lent as many and writes none has ended the load.
+ *
+ * Answers 0; or 1 where the run has fewer than 137 words or the load fewer than 6; 9 where the run is unsound but for its time, a settled
+ * word above 1 among it; and then nothing that was lent has changed.
+ */
+uint64_t fever_generate_more(uint64_t *run, size_t run_len, uint64_t *tally, size_t tally_len, uint64_t *network, size_t network_len,
+                             uint64_t *load, size_t load_len, uint8_t *out, size_t out_len);
 
 #ifdef __cplusplus
 }

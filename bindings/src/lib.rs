@@ -2,10 +2,10 @@
 //!
 //! A run is opened from a [`Setup`] and moved by one [`Event`] after the other, alone or many in a call; tally and network are lent
 //! by the caller. [`step`] moves one [`Processor`] alone. Lines of a schedule are read and written by [`read_line`], [`write_event`]
-//! and [`write_setup`].
+//! and [`write_setup`]. [`generate`] writes a whole schedule that a seed chooses, and [`generate_more`] goes on with it.
 //!
-//! [`open`], [`apply`], [`apply_all`] and [`step`] name the first check whose sentence holds where they refuse, [`read_line`] and
-//! the two that write answer `None`; what is refused has changed nothing. A run of ticks that is stopped names the check that ended
+//! [`open`], [`apply`], [`apply_all`], [`step`], [`generate`] and [`generate_more`] name the first check whose sentence holds where
+//! they refuse, [`read_line`] and the two that write a line answer `None`; what is refused has changed nothing. A run of ticks that is stopped names the check that ended
 //! it and the ticks done.
 //!
 //! ```
@@ -32,6 +32,7 @@
 
 mod events;
 mod lines;
+mod loads;
 mod processors;
 #[allow(unsafe_code)]
 pub mod raw;
@@ -41,5 +42,6 @@ mod tests;
 
 pub use events::{Event, Kind, Message};
 pub use lines::{read_line, write_event, write_setup, Line};
+pub use loads::{generate, generate_more, Generated, Load};
 pub use processors::{step, Input, Processor, Sends, Stepped};
 pub use runs::{apply, apply_all, open, Answer, Plan, Run, Setup};

@@ -11,6 +11,8 @@ pub const EVENT_WORDS: usize = 4;
 pub const PROCESSOR_WORDS: usize = 4;
 /// The words that a line is read into.
 pub const READING_WORDS: usize = 73;
+/// The words of a load: steps, settling step, seed, the next step, bytes written, whether the bytes were too few.
+pub const LOAD_WORDS: usize = 6;
 /// The clocks or views of a table.
 pub const TABLE: usize = 64;
 /// No line of an event or a setup has more bytes, its newline included.
@@ -77,6 +79,32 @@ mod archive {
         pub fn fever_write_setup(
             setup: *const u64,
             setup_len: usize,
+            out: *mut u8,
+            out_len: usize,
+        ) -> u64;
+        pub fn fever_generate(
+            setup: *const u64,
+            setup_len: usize,
+            run: *mut u64,
+            run_len: usize,
+            tally: *mut u64,
+            tally_len: usize,
+            network: *mut u64,
+            network_len: usize,
+            load: *mut u64,
+            load_len: usize,
+            out: *mut u8,
+            out_len: usize,
+        ) -> u64;
+        pub fn fever_generate_more(
+            run: *mut u64,
+            run_len: usize,
+            tally: *mut u64,
+            tally_len: usize,
+            network: *mut u64,
+            network_len: usize,
+            load: *mut u64,
+            load_len: usize,
             out: *mut u8,
             out_len: usize,
         ) -> u64;
@@ -194,4 +222,59 @@ pub fn write_event(form: u64, kind: u64, view: u64, processor: u64, out: &mut [u
 pub fn write_setup(setup: &[u64], out: &mut [u8]) -> u64 {
     // SAFETY: as in `open`.
     unsafe { archive::fever_write_setup(setup.as_ptr(), setup.len(), out.as_mut_ptr(), out.len()) }
+}
+
+/// `fever_generate`: 0, and the load's words say how many bytes were written and whether they were too few; else the check that
+/// refuses the setup.
+pub fn generate(
+    setup: &[u64],
+    run: &mut [u64],
+    tally: &mut [u64],
+    network: &mut [u64],
+    load: &mut [u64],
+    out: &mut [u8],
+) -> u64 {
+    // SAFETY: as in `open`.
+    unsafe {
+        archive::fever_generate(
+            setup.as_ptr(),
+            setup.len(),
+            run.as_mut_ptr(),
+            run.len(),
+            tally.as_mut_ptr(),
+            tally.len(),
+            network.as_mut_ptr(),
+            network.len(),
+            load.as_mut_ptr(),
+            load.len(),
+            out.as_mut_ptr(),
+            out.len(),
+        )
+    }
+}
+
+/// `fever_generate_more`: 0, as [`generate`] answers it; else 1 where run or load have too few words, 9 where the run is unsound but
+/// for its time.
+pub fn generate_more(
+    run: &mut [u64],
+    tally: &mut [u64],
+    network: &mut [u64],
+    load: &mut [u64],
+    out: &mut [u8],
+) -> u64 {
+    // SAFETY: as in `open`.
+    unsafe {
+        archive::fever_generate_more(
+            run.as_mut_ptr(),
+            run.len(),
+            tally.as_mut_ptr(),
+            tally.len(),
+            network.as_mut_ptr(),
+            network.len(),
+            load.as_mut_ptr(),
+            load.len(),
+            out.as_mut_ptr(),
+            out.len(),
+        )
+    }
 }

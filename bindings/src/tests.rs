@@ -1,7 +1,8 @@
-//! Document 01's schedule and settings, refused and short calls, and lines, through the archive.
+//! Document 01's schedule and settings, refused and short calls, lines and loads, through the archive.
 
 use crate::*;
 
+mod loads;
 mod together;
 
 /// The buffers that the simulate program lends.

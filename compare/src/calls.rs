@@ -1,5 +1,5 @@
 //! One call of the library and the same of the reference, from the same words:
-//! answers, runs and every word compared, lent or not.
+//! answers, runs and every word and byte compared, lent or not.
 
 use crate::difference::{first_word, told, Difference};
 use crate::lent::Lent;
@@ -8,10 +8,11 @@ use crate::scene::Scene;
 use crate::words::{self, Numbers, RUN_WORDS, TICK, TIME};
 use fever::raw;
 use reference::Run;
-use std::fmt::Write;
+use std::fmt::{Debug, Write};
 
-/// All that a call may alter: a run with its lent words, and events.
-#[derive(Clone, PartialEq, Eq, Debug)]
+/// All that a call may alter: a run with its lent words, events, and a load
+/// with the bytes for its lines.
+#[derive(Clone, Default, PartialEq, Eq, Debug)]
 pub struct State {
     /// The run's words.
     pub run: Lent<u64>,
@@ -22,6 +23,20 @@ pub struct State {
     /// Events to be applied together, four words each; no other call is lent
     /// them.
     pub events: Lent<u64>,
+    /// The words of a load; no other call is lent them, nor the bytes.
+    pub load: Lent<u64>,
+    /// The bytes that its lines are written into.
+    pub out: Lent<u8>,
+}
+
+/// What a call is lent of a state.
+struct Borrowed<'a> {
+    run: &'a mut [u64],
+    tally: &'a mut [u64],
+    network: &'a mut [u64],
+    events: &'a mut [u64],
+    load: &'a mut [u64],
+    out: &'a mut [u8],
 }
 
 /// A call that takes a run.
@@ -33,6 +48,10 @@ pub enum Call {
     Apply(Numbers),
     /// Applying the events of the state together.
     ApplyAll,
+    /// Opening a setup, given by its words, and beginning the state's load.
+    Generate(Vec<u64>),
+    /// Going on with the state's load.
+    GenerateMore,
 }
 
 impl State {
@@ -51,36 +70,56 @@ impl State {
         }
     }
 
-    /// The words that a call is lent: run, tally, network, events.
-    fn lent(&mut self) -> [&mut [u64]; 4] {
-        let Self {
-            run,
-            tally,
-            network,
-            events,
-        } = self;
-        [run, tally, network, events].map(Lent::front_mut)
+    fn borrowed(&mut self) -> Borrowed<'_> {
+        Borrowed {
+            run: self.run.front_mut(),
+            tally: self.tally.front_mut(),
+            network: self.network.front_mut(),
+            events: self.events.front_mut(),
+            load: self.load.front_mut(),
+            out: self.out.front_mut(),
+        }
     }
 
     /// Makes a call of the reference.
     pub fn refer(&mut self, call: &Call) -> u64 {
-        let [run, tally, network, events] = self.lent();
+        let Borrowed {
+            run,
+            tally,
+            network,
+            events,
+            load,
+            out,
+        } = self.borrowed();
         match call {
             Call::Open(setup) => reference_calls::open(setup, run, tally, network),
             Call::Apply(numbers) => reference_calls::apply(run, *numbers, tally, network),
             Call::ApplyAll => reference_calls::apply_all(run, tally, network, events),
+            Call::Generate(setup) => {
+                reference_calls::generate(setup, run, tally, network, load, out)
+            }
+            Call::GenerateMore => reference_calls::generate_more(run, tally, network, load, out),
         }
     }
 
     /// Makes a call of the library.
     pub fn prove(&mut self, call: &Call) -> u64 {
-        let [run, tally, network, events] = self.lent();
+        let Borrowed {
+            run,
+            tally,
+            network,
+            events,
+            load,
+            out,
+        } = self.borrowed();
         match call {
             Call::Open(setup) => raw::open(setup, run, tally, network),
             &Call::Apply([form, kind, view, processor]) => {
                 raw::apply(run, form, kind, view, processor, tally, network)
             }
             Call::ApplyAll => raw::apply_all(run, tally, network, events),
+            Call::Generate(setup) => raw::generate(setup, run, tally, network, load, out),
+            Call::GenerateMore => raw::generate_more(run, tally, network, load, out),
         }
     }
 
@@ -110,44 +149,56 @@ impl State {
         Ok(answer)
     }
 
-    /// What stands in it, each with its name.
-    const fn named(&self) -> [(&str, &Lent<u64>); 4] {
+    /// The words that stand in it, each with their name.
+    const fn named(&self) -> [(&str, &Lent<u64>); 5] {
         [
             ("run", &self.run),
             ("tally", &self.tally),
             ("network", &self.network),
             ("events", &self.events),
+            ("load", &self.load),
         ]
     }
 
-    /// The first word in which two states differ.
+    /// The first word or byte in which two states differ.
     fn told_apart(&self, reference: &Self) -> Option<String> {
         let mut both = self.named().into_iter().zip(reference.named());
         both.find_map(|((name, proved), (_, reference))| {
-            let place = first_word(proved.all(), reference.all())?;
-            Some(format!(
-                "word {place} of the {name} differs ({} are lent)\nproved: {:?}\nreference: {:?}",
-                proved.front().len(),
-                proved.all().get(place),
-                reference.all().get(place)
-            ))
+            lent_apart("word", name, proved, reference)
         })
+        .or_else(|| lent_apart("byte", "lines", &self.out, &reference.out))
     }
 
     /// The difference that a call on this state shows.
-    fn shows(&self, call: &Call, told: &str) -> Difference {
+    pub fn shows(&self, call: &Call, told: &str) -> Difference {
         let mut text = format!("{call:?}\n");
         for (name, lent) in self.named() {
             let (all, length) = (lent.all(), lent.front().len());
             // Writing to a string does not fail.
             let _ = writeln!(text, "{name}, {length} words lent, then others:\n{all:?}");
         }
+        let (all, length) = (self.out.all(), self.out.front().len());
+        let _ = writeln!(text, "{length} bytes lent, then others:\n{all:?}");
         Difference {
             what: format!("a call of the library: {told}"),
             name: "difference.call".to_owned(),
             contents: text.into_bytes(),
         }
     }
+}
+
+/// Where what is lent first differs, and both there.
+fn lent_apart<T>(unit: &str, name: &str, proved: &Lent<T>, reference: &Lent<T>) -> Option<String>
+where
+    T: Copy + PartialEq + Debug,
+{
+    let place = first_word(proved.all(), reference.all())?;
+    Some(format!(
+        "{unit} {place} of the {name} differs ({} are lent)\nproved: {:?}\nreference: {:?}",
+        proved.front().len(),
+        proved.all().get(place),
+        reference.all().get(place)
+    ))
 }
 
 #[cfg(test)]
@@ -160,7 +211,7 @@ mod tests {
             run: lent(RUN_WORDS),
             tally: lent(24),
             network: lent(64),
-            events: lent(0),
+            ..State::default()
         }
     }
 
@@ -194,9 +245,28 @@ mod tests {
     }
 
     #[test]
+    fn both_sides_make_a_load() {
+        let mut state = unopened();
+        state.load = Lent::new(&[3, 0, 409, 7, 7, 7], &[7]);
+        state.out = Lent::new(b"xxxxxxxxxxxxxxxxxxxxxxxxxxxxxxxxxxxxxxx", b"yy");
+        let Call::Open(setup) = opening() else { return };
+        assert_eq!(state.both(&Call::Generate(setup)).ok(), Some(0));
+        let line = b"(open 4 2 4 6 0 (0 0 0 0))\n(settle)\nxxxyy";
+        assert_eq!((state.out.all(), state.load.all()[4]), (&line[..], 36));
+        assert_eq!(state.both(&Call::GenerateMore).ok(), Some(0));
+        assert_eq!(
+            state.load.all()[2..],
+            [3_819_887_198_217_498_758, 3, 39, 0, 7]
+        );
+    }
+
+    #[test]
     fn a_word_that_differs_is_named() {
         let (one, mut other) = (unopened(), unopened());
         assert_eq!(one.told_apart(&other), None);
+        other.out = Lent::new(b"ab", b"c");
+        let told = one.told_apart(&other).expect("they differ");
+        assert!(told.contains("byte 0 of the lines"), "{told}");
         other.network.front_mut()[3] = 7;
         let told = one.told_apart(&other).expect("they differ");
         assert!(told.contains("word 3 of the network"), "{told}");

@@ -1,5 +1,6 @@
 //! What was met: printed at the end, so that one sees which checks were.
 
+use crate::load_counts::Loads;
 use reference::Answer;
 use std::fmt::{self, Display, Formatter};
 
@@ -27,6 +28,8 @@ pub struct Counts {
     pub due: u64,
     /// The calls that apply events together.
     pub together: Together,
+    /// The calls for loads.
+    pub loads: Loads,
 }
 
 /// Counts of calls that apply events together.
@@ -129,6 +132,7 @@ impl Counts {
         add_by_check(&mut self.met, &other.met);
         add_by_check(&mut self.stopped, &other.stopped);
         self.together.add(&other.together);
+        self.loads.add(&other.loads);
     }
 
     /// The checks from 1 to 18 that were met less often.
@@ -201,19 +205,22 @@ impl Display for Counts {
         if self.together.calls > 0 {
             writeln!(out, "  {}", self.together)?;
         }
+        if !self.loads.is_empty() {
+            write!(out, "  {}", self.loads)?;
+        }
         Ok(())
     }
 }
 
 /// Adds other counts per check.
-fn add_by_check(times: &mut [u64; 19], more: &[u64; 19]) {
+pub(crate) fn add_by_check(times: &mut [u64; 19], more: &[u64; 19]) {
     for (times, more) in times.iter_mut().zip(more) {
         *times += more;
     }
 }
 
 /// Those that are not 0.
-fn by_check(times: &[u64; 19]) -> String {
+pub(crate) fn by_check(times: &[u64; 19]) -> String {
     let some = times.iter().enumerate().filter(|(_, &times)| times > 0);
     let told: Vec<String> = some
         .map(|(check, times)| format!("{check}: {times}"))

@@ -1,5 +1,6 @@
-//! The proved simulator and the reference, run side by side: schedules through
-//! the program, raw calls through the library, and what each of them costs.
+//! The proved simulator and the reference, run side by side: schedules and loads
+//! through the programs, raw calls through the library, and what each of them
+//! costs.
 //!
 //! Both sides render document 01. Where they differ, one of them is wrong; what
 //! is found is saved as a schedule or a call that shows it again.
@@ -7,13 +8,14 @@
 //! The program `compare` compares: without words as the gate does, always the
 //! same; with `--rounds N --seed S` for longer; with `--replay FILE` one
 //! schedule. The program `bench`, built with `--release`, prints ratios of
-//! speeds. Both need the proved program and library in the repository's
+//! speeds. Both need the proved programs and library in the repository's
 //! `target`, and `./fever compare` and `./fever bench` put them there first.
 
 #![deny(missing_docs)]
 #![forbid(unsafe_code)]
 
 pub mod adversary;
+pub mod by_generator;
 pub mod by_library;
 pub mod by_program;
 pub mod calls;
@@ -23,12 +25,14 @@ pub mod difference;
 pub mod draws;
 pub mod lent;
 pub mod lies;
+pub mod load_counts;
 pub mod measure;
 pub mod openings;
 pub mod options;
 pub mod pending;
 pub mod program;
 pub mod reference_calls;
+pub mod retell;
 pub mod scene;
 pub mod schedules;
 pub mod shorten;

@@ -1,8 +1,10 @@
-//! The proved program, run on an input.
+//! The proved programs: one run on an input, one called with words.
 
+use std::ffi::OsStr;
 use std::io::{self, Read, Write};
+use std::os::unix::ffi::OsStrExt;
 use std::path::{Path, PathBuf};
-use std::process::{Command, Stdio};
+use std::process::{Command, ExitStatus, Stdio};
 use std::sync::mpsc::{self, RecvTimeoutError};
 use std::thread;
 use std::time::Duration;
@@ -25,6 +27,11 @@ pub fn directory() -> PathBuf {
 /// The proved program.
 pub fn proved() -> PathBuf {
     root().join("target/bin/simulate")
+}
+
+/// The proved program that makes loads.
+pub fn generator() -> PathBuf {
+    root().join("target/bin/generate")
 }
 
 /// What a program made of an input.
@@ -82,6 +89,52 @@ fn run_within(
     })
 }
 
+/// What came of calling a program with words.
+#[derive(Clone, PartialEq, Eq, Debug)]
+pub struct Called {
+    /// What it wrote to standard output.
+    pub out: Vec<u8>,
+    /// What it wrote to standard error.
+    pub errors: Vec<u8>,
+    /// How it ended.
+    pub status: ExitStatus,
+}
+
+/// Bytes as the words of a call.
+pub fn as_words(words: &[Vec<u8>]) -> impl Iterator<Item = &OsStr> {
+    words.iter().map(|word| OsStr::from_bytes(word))
+}
+
+/// Calls a program with words, none of which has a zero byte. One that hangs
+/// is ended, and that is an error.
+pub fn call(program: &Path, words: &[Vec<u8>]) -> io::Result<Called> {
+    let failed = |kind, what| io::Error::new(kind, format!("{}: {what}", program.display()));
+    let mut child = Command::new(program)
+        .args(as_words(words))
+        .stdin(Stdio::null())
+        .stdout(Stdio::piped())
+        .stderr(Stdio::piped())
+        .spawn()
+        .map_err(|error| failed(error.kind(), error.to_string()))?;
+    let (stdout, stderr) = (child.stdout.take(), child.stderr.take());
+    let errors = thread::spawn(|| stderr.map_or_else(Default::default, |err| heard(err, PATIENCE)));
+    let (out, hangs) = stdout.map_or_else(Default::default, |out| heard(out, PATIENCE));
+    if hangs {
+        child.kill()?;
+    }
+    let status = child.wait()?;
+    let (errors, _) = errors.join().unwrap_or_default();
+    if hangs {
+        let what = format!("nothing for {PATIENCE:?} after {} bytes", out.len());
+        return Err(failed(io::ErrorKind::TimedOut, what));
+    }
+    Ok(Called {
+        out,
+        errors,
+        status,
+    })
+}
+
 /// What is heard until the end, or until nothing comes for too long; and
 /// whether it was that.
 fn heard(mut from: impl Read + Send + 'static, patience: Duration) -> (Vec<u8>, bool) {
@@ -105,7 +158,7 @@ fn heard(mut from: impl Read + Send + 'static, patience: Duration) -> (Vec<u8>, 
 
 #[cfg(test)]
 mod tests {
-    use super::{run, run_within};
+    use super::{call, run, run_within};
     use std::path::Path;
     use std::time::Duration;
 
@@ -123,6 +176,19 @@ mod tests {
         let printout = run(Path::new("false"), b"x", 1).expect("it runs");
         assert!(printout.failure.is_some());
         assert!(run(Path::new("no/such/program"), b"", 1).is_err());
+    }
+
+    #[test]
+    fn a_called_program_gets_its_words() {
+        let script = b"printf '%s|' \"$@\"; printf 'no' >&2; exit 3".to_vec();
+        let words = [&b"-c"[..], &script, b"sh", b"(a b)", b"", b"\xFF"].map(<[u8]>::to_vec);
+        let called = call(Path::new("sh"), &words).expect("it runs");
+        assert_eq!(called.out, b"(a b)||\xFF|");
+        assert_eq!(
+            (called.errors, called.status.code()),
+            (b"no".to_vec(), Some(3))
+        );
+        assert!(call(Path::new("no/such/program"), &[]).is_err());
     }
 
     #[test]

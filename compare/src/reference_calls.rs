@@ -2,7 +2,7 @@
 //! words in, a check number or a length out.
 
 use crate::words::{
-    self, Numbers, HELD, OPENING, READ_WORDS, RUN_WORDS, SETTLED, SETUP_WORDS, TIME,
+    self, Numbers, HELD, LOAD_WORDS, OPENING, READ_WORDS, RUN_WORDS, SETTLED, SETUP_WORDS, TIME,
 };
 use reference::{Answer, Input, Plan, Processor, Reading, Stepped};
 use std::panic::{catch_unwind, AssertUnwindSafe};
@@ -132,9 +132,63 @@ pub fn write_setup(setup: &[u64], out: &mut [u8]) -> u64 {
     written.unwrap_or(0) as u64
 }
 
+/// Opens a setup and begins its load.
+pub fn generate(
+    setup: &[u64],
+    run: &mut [u64],
+    tally: &mut [u64],
+    network: &mut [u64],
+    load: &mut [u64],
+    out: &mut [u8],
+) -> u64 {
+    if setup.len() < SETUP_WORDS || run.len() < RUN_WORDS || load.len() < LOAD_WORDS {
+        return 1;
+    }
+    let (setup, mut moved) = (words::setup_of(setup), words::run_of(run));
+    let mut made = words::load_of(load);
+    match reference::generate(&setup, &mut made, &mut moved, tally, network, out) {
+        Err(check) => check,
+        Ok(piece) => {
+            // Without a line the run is not opened, and its words may be those
+            // of no run.
+            if piece.bytes > 0 {
+                words::put_run(&moved, run);
+            }
+            words::put_load(&made, piece, load);
+            0
+        }
+    }
+}
+
+/// Goes on with a load.
+pub fn generate_more(
+    run: &mut [u64],
+    tally: &mut [u64],
+    network: &mut [u64],
+    load: &mut [u64],
+    out: &mut [u8],
+) -> u64 {
+    if run.len() < RUN_WORDS || load.len() < LOAD_WORDS {
+        return 1;
+    }
+    if run[SETTLED] > 1 {
+        return 9;
+    }
+    let (mut moved, mut made) = (words::run_of(run), words::load_of(load));
+    match reference::generate_more(&mut made, &mut moved, tally, network, out) {
+        Err(check) => check,
+        Ok(piece) => {
+            words::put_run(&moved, run);
+            words::put_load(&made, piece, load);
+            0
+        }
+    }
+}
+
 #[cfg(test)]
 mod tests {
     use super::*;
+    use crate::words::{BYTES, FULL, STEP};
 
     /// n=4, delta 2, gamma 4, 6 views, all clocks 0.
     fn setup() -> Vec<u64> {
@@ -183,6 +237,39 @@ mod tests {
         run[TIME] = 24;
         let answers = [4, 9, 0, 7, 5, 9, 0, 7, 6, 1, 0, 7, 1, 9, 0, 7, 5, 0, 9];
         assert_eq!(call(&mut run), (0, answers));
+    }
+
+    #[test]
+    fn loads() {
+        let (mut run, mut tally, mut network) = (vec![7; RUN_WORDS], vec![0; 24], vec![0; 64]);
+        let (mut load, mut out) = (vec![3, 0, 409, 7, 7, 7, 7], [b'x'; 60]);
+        let before = (run.clone(), load.clone());
+        let mut begin = |run: &mut [u64], load: &mut [u64], room: usize| {
+            let out = &mut out[..room];
+            generate(&setup(), run, &mut tally, &mut network, load, out)
+        };
+        assert_eq!(begin(&mut run[..136], &mut load, 60), 1);
+        assert_eq!(begin(&mut run, &mut load[..5], 60), 1);
+        assert_eq!((&run, &load), (&before.0, &before.1));
+        assert_eq!(begin(&mut run, &mut load, 26), 0);
+        assert_eq!((&run, &load[..]), (&before.0, &[3, 0, 409, 0, 0, 1, 7][..]));
+        assert_eq!(begin(&mut run, &mut load, 40), 0);
+        assert_eq!((load[STEP], load[BYTES], load[FULL]), (0, 36, 1));
+        assert_eq!(&out[..38], b"(open 4 2 4 6 0 (0 0 0 0))\n(settle)\nxx");
+        let mut go_on = |run: &mut [u64], load: &mut [u64]| {
+            generate_more(run, &mut tally, &mut network, load, &mut out)
+        };
+        assert_eq!(go_on(&mut run[..136], &mut load), 1);
+        assert_eq!(go_on(&mut run, &mut load[..5]), 1);
+        run[SETTLED] = 2;
+        assert_eq!(go_on(&mut run, &mut load), 9);
+        run[SETTLED] = 1;
+        assert_eq!(go_on(&mut run, &mut load), 0);
+        assert_eq!(
+            (run[TIME], load[STEP], load[BYTES], load[FULL]),
+            (2, 3, 39, 0)
+        );
+        assert!(out.starts_with(b"(tick 1)\n(tick 1)\n(deliver (view 0 0))\n"));
     }
 
     #[test]

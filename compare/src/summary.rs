@@ -3,10 +3,11 @@
 use crate::counts::Counts;
 use std::fmt::{self, Display, Formatter};
 
-/// The events that the gate's comparison has, at least.
+/// The events that the gate's comparison has besides those of loads, at least.
 const LEAST_EVENTS: u64 = 200_000;
 /// How often it meets each check on each way, and how often 16, 17 and 18 each
-/// end ticks there, at least; and all that is counted of events together.
+/// end ticks there, at least; and all that is counted of events together and of
+/// loads.
 const LEAST_MET: u64 = 5;
 
 /// What a comparison met.
@@ -16,6 +17,8 @@ pub struct Summary {
     pub rounds: u64,
     /// Through the program.
     pub program: Counts,
+    /// Through the program that makes loads.
+    pub generator: Counts,
     /// Through the library, part by part.
     pub library: Vec<(&'static str, Counts)>,
 }
@@ -24,6 +27,7 @@ impl Summary {
     /// All parts together.
     pub fn all(&self) -> Counts {
         let mut all = self.program.clone();
+        all.add(&self.generator);
         all.add(&self.library(|_| true));
         all
     }
@@ -39,12 +43,14 @@ impl Summary {
 
     /// What is missing of a comparison that says something: enough events,
     /// every check met on both ways and by events together, and every one that
-    /// ends ticks; all that is counted of calls for events together; demand 3
-    /// due whole as often as there are rounds.
+    /// ends ticks; all that is counted of calls for events together and for
+    /// loads; demand 3 due whole as often as there are rounds.
     pub fn missing(&self) -> Option<String> {
-        let library = self.library(|counts| counts.together.calls == 0);
+        let alone = |counts: &Counts| counts.together.calls == 0 && counts.loads.is_empty();
+        let library = self.library(alone);
         let together = self.library(|counts| counts.together.calls > 0);
-        let events = self.all().events;
+        let all = self.all();
+        let events = all.events - all.loads.events();
         if events < LEAST_EVENTS {
             return Some(format!("only {events} events"));
         }
@@ -64,6 +70,13 @@ impl Summary {
         if !together.together.met(LEAST_MET) {
             return Some(format!("events together, {}", together.together));
         }
+        if let Some(few) = self.generator.loads.program_lacks(LEAST_MET) {
+            return Some(format!("loads of the program, {few}"));
+        }
+        let loads = self.library(|counts| !counts.loads.is_empty()).loads;
+        if let Some(few) = loads.library_lacks(LEAST_MET) {
+            return Some(format!("loads of the library, {few}"));
+        }
         let (due, calls) = (self.program.due, library.due);
         (due < self.rounds || calls == 0).then(|| {
             format!("demand 3's second sentence was due {due} times, through the library {calls}")
@@ -75,6 +88,7 @@ impl Display for Summary {
     fn fmt(&self, out: &mut Formatter) -> fmt::Result {
         let program = &self.program;
         write!(out, "program, lines: {program}")?;
+        write!(out, "program, loads: {}", self.generator)?;
         for (name, counts) in &self.library {
             write!(out, "library, {name}: {counts}")?;
         }
@@ -91,6 +105,7 @@ impl Display for Summary {
 mod tests {
     use super::*;
     use crate::counts::Together;
+    use crate::load_counts::Loads;
 
     #[test]
     fn too_little_is_told() {
@@ -110,12 +125,22 @@ mod tests {
             behind: LEAST_MET,
             outlasted: LEAST_MET,
         };
-        let library = vec![("calls", program.clone()), ("together", together)];
+        let mut loads = Counts {
+            loads: Loads::met_everywhere(LEAST_MET),
+            ..Counts::default()
+        };
+        loads.events = loads.loads.events();
+        let library = vec![
+            ("calls", program.clone()),
+            ("loads", loads.clone()),
+            ("together", together),
+        ];
         program.due = 3;
         program.events = LEAST_EVENTS;
         let enough = Summary {
             rounds: 3,
             program,
+            generator: loads,
             library,
         };
         assert_eq!(enough.missing(), None);
@@ -130,10 +155,14 @@ mod tests {
         lacks(|summary| summary.library[0].1.met[17] = 1, "check 17");
         lacks(|summary| summary.program.stopped[18] = 0, "ended ticks");
         lacks(|summary| summary.library[0].1.met[13] = 0, "met, library");
-        lacks(|summary| summary.library[1].1.met[13] = 0, "met, events");
+        lacks(|summary| summary.library[2].1.met[13] = 0, "met, events");
         lacks(|summary| _ = summary.library.pop(), "met, events");
-        let spoil = |summary: &mut Summary| summary.library[1].1.together.outlasted = 0;
+        let spoil = |summary: &mut Summary| summary.library[2].1.together.outlasted = 0;
         lacks(spoil, "0 in which the time");
         lacks(|summary| summary.program.events = 1, "only 2 events");
+        let spoil = |summary: &mut Summary| summary.generator.loads.misused = 0;
+        lacks(spoil, "loads of the program, 0 calls");
+        let spoil = |summary: &mut Summary| summary.library[1].1.loads.unopened = 0;
+        lacks(spoil, "loads of the library, 0 without");
     }
 }

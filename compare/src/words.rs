@@ -1,6 +1,6 @@
 //! Runs, setups and events as the numbers that the library's calls take.
 
-use reference::{Event, Message, Plan, Run, Setup};
+use reference::{Event, Load, Message, Piece, Plan, Run, Setup};
 
 /// The words of a run: n, delta, gamma, views, faulty, time, settled, gst,
 /// held, 64 clocks and 64 views.
@@ -9,6 +9,21 @@ pub const RUN_WORDS: usize = 137;
 pub const SETUP_WORDS: usize = 69;
 /// The words of a line read: an event's four numbers and a setup.
 pub const READ_WORDS: usize = 4 + SETUP_WORDS;
+/// The words of a load: steps, settling step, seed, the next step, the bytes
+/// written, and whether they were too few.
+pub const LOAD_WORDS: usize = 6;
+/// Where a load keeps its steps.
+pub const STEPS: usize = 0;
+/// Where a load keeps its settling step.
+pub const SETTLE: usize = 1;
+/// Where a load keeps its seed.
+pub const SEED: usize = 2;
+/// Where a load keeps its next step.
+pub const STEP: usize = 3;
+/// Where a load keeps how many bytes were written.
+pub const BYTES: usize = 4;
+/// Where a load keeps whether the bytes were too few.
+pub const FULL: usize = 5;
 /// Where a run keeps its faulty processors.
 pub const FAULTY: usize = 4;
 /// Where a run keeps its time.
@@ -91,6 +106,25 @@ pub fn setup_words(setup: &Setup) -> [u64; SETUP_WORDS] {
     words
 }
 
+/// The load that its words stand for.
+pub fn load_of(words: &[u64]) -> Load {
+    Load {
+        steps: words[STEPS],
+        settle: words[SETTLE],
+        seed: words[SEED],
+        step: words[STEP],
+    }
+}
+
+/// Writes where a load stands over the first of these words, and what a call
+/// wrote of it.
+pub fn put_load(load: &Load, piece: Piece, words: &mut [u64]) {
+    words[SEED] = load.seed;
+    words[STEP] = load.step;
+    words[BYTES] = piece.bytes as u64;
+    words[FULL] = u64::from(piece.full);
+}
+
 /// The message of a kind.
 pub const fn message_of(kind: u64, view: u64, processor: u64) -> Option<Message> {
     match kind {
@@ -143,6 +177,16 @@ mod tests {
             setup_words(&setup_of(&words[..SETUP_WORDS]))[..],
             words[..SETUP_WORDS]
         );
+    }
+
+    #[test]
+    fn a_load_stands_in_its_words() {
+        let mut words = [9, 8, 7, 6, 5, 4, 3];
+        let mut load = load_of(&words);
+        (load.seed, load.step) = (load.seed + 1, load.step + 1);
+        let (bytes, full) = (50, true);
+        put_load(&load, Piece { bytes, full }, &mut words);
+        assert_eq!(words, [9, 8, 8, 7, 50, 1, 3]);
     }
 
     #[test]

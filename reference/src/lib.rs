@@ -1,8 +1,8 @@
 //! The Fever pacemaker step of one processor, and a simulator that moves n
 //! such processors through a schedule of events.
 //!
-//! Everything here renders document 01; comments quote the sentence a piece
-//! stands for. The words of the code for the words of that page: a processor
+//! Everything here renders document 01, and loads document 02's request 1/13;
+//! comments quote the sentence a piece stands for. The words of the code for the words of that page: a processor
 //! is one of the n numbered parties, the tally holds what was entered, heard
 //! and formed per view, the network holds the messages sent and not yet
 //! delivered, `faulty` is the 64-bit number marking the faulty processors,
@@ -17,7 +17,9 @@
 mod apply;
 pub mod check;
 mod effect;
+mod generator;
 mod limits;
+mod load;
 mod message;
 mod network;
 mod opening;
@@ -37,6 +39,8 @@ mod watch;
 mod writer;
 
 pub use apply::{apply, apply_sound};
+pub use generator::{run_generator, Ended};
+pub use load::{generate, generate_more, Load, Piece};
 pub use message::{Event, Message};
 pub use opening::open;
 pub use plan::Plan;

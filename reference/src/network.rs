@@ -51,6 +51,16 @@ pub(crate) fn push(network: &mut [u64], held: &mut u64, message: Message, time: 
     *held += 1;
 }
 
+/// The message of its words, whose kind is in range as a sound run's is.
+pub(crate) const fn message(&[kind, view, processor, _]: &[u64; WORDS]) -> Message {
+    match kind {
+        1 => Message::View(view, processor),
+        2 => Message::Vote(view, processor),
+        3 => Message::Vc(view, processor),
+        _ => Message::Qc(view, processor),
+    }
+}
+
 /// The earliest sending time of the messages held.
 pub(crate) fn earliest(network: &[u64], held: u64) -> Option<u64> {
     messages(network, held).iter().map(|words| words[3]).min()

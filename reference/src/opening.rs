@@ -50,7 +50,7 @@ fn start(setup: &Setup, run: &mut Run) {
 }
 
 /// The first of checks 2 to 8 that the opening fails.
-fn allowed(setup: &Setup, tally: &[u64], network: &[u64]) -> Result<(), u64> {
+pub(crate) fn allowed(setup: &Setup, tally: &[u64], network: &[u64]) -> Result<(), u64> {
     let plan = setup.plan;
     limits::all(plan, setup.faulty, tally, network)?;
     let correct = set::below(plan.n) & !setup.faulty;

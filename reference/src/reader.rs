@@ -34,6 +34,13 @@ pub fn read_line(line: &[u8]) -> Reading {
     }
 }
 
+/// The number that some bytes are, if they are one and nothing else.
+pub(crate) fn read_number(bytes: &[u8]) -> Option<u64> {
+    let mut rest = Rest { bytes };
+    let number = rest.number()?;
+    rest.bytes.is_empty().then_some(number)
+}
+
 /// The bytes of a line not yet read.
 struct Rest<'a> {
     bytes: &'a [u8],

@@ -25,8 +25,13 @@ pub(crate) fn fits(run: &Run, tally: &[u64], network: &[u64]) -> bool {
 /// The order of sending times and whether a held view message or view
 /// certificate names an initial view are no part of it.
 pub fn is_sound(run: &Run, tally: &[u64], network: &[u64]) -> bool {
+    run.time < run.plan.clock_limit() && is_sound_but_for_time(run, tally, network)
+}
+
+/// Whether nothing but "the time at or above" `views` times `gamma` can make
+/// the run unsound.
+pub(crate) fn is_sound_but_for_time(run: &Run, tally: &[u64], network: &[u64]) -> bool {
     fits(run, tally, network)
-        && run.time < run.plan.clock_limit()
         && run.gst <= run.time
         && (run.settled || run.gst == 0)
         && processors_are_sound(run)

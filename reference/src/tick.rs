@@ -106,7 +106,7 @@ fn tick(state: &mut State, pace: &mut Pace) -> Result<(), u64> {
 /// "A message is overdue when settled and now is at or past the later of its
 /// sending and settling times, plus `delta`": some message is, if the one
 /// first sent is.
-fn is_overdue(run: &Run, earliest: Option<u64>) -> bool {
+pub(crate) fn is_overdue(run: &Run, earliest: Option<u64>) -> bool {
     run.settled
         && earliest.is_some_and(|sent| run.time >= sent.max(run.gst).saturating_add(run.plan.delta))
 }

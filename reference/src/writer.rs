@@ -14,7 +14,7 @@ const LONGEST_EVENT: usize = "(deliver (view  ))\n".len() + 2 * 20;
 const LONGEST_OPENING: usize = "(open      ())\n".len() + 69 * 20 + 63;
 
 /// A line being put together; N bytes are enough for it.
-struct Line<const N: usize> {
+pub(crate) struct Line<const N: usize> {
     bytes: [u8; N],
     length: usize,
 }
@@ -46,13 +46,18 @@ impl<const N: usize> Line<N> {
         }
     }
 
+    /// The line so far.
+    pub(crate) fn bytes(&self) -> &[u8] {
+        &self.bytes[..self.length]
+    }
+
     /// Copies the whole line to the front of the lent bytes, or changes none
     /// of them if they are too few.
     fn copy_to(&self, out: &mut [u8]) -> Result<usize, u64> {
         let Some(front) = out.get_mut(..self.length) else {
             return Err(check::NO_FORM);
         };
-        front.copy_from_slice(&self.bytes[..self.length]);
+        front.copy_from_slice(self.bytes());
         Ok(self.length)
     }
 }
@@ -77,6 +82,13 @@ pub fn write_event(event: Event, out: &mut [u8]) -> Result<usize, u64> {
         }
     }
     line.copy_to(out)
+}
+
+/// The line of a delivery.
+pub(crate) fn delivery(message: Message) -> Line<LONGEST_EVENT> {
+    let mut line = Line::new();
+    carry(&mut line, b"(deliver ", message);
+    line
 }
 
 /// An event with the message inside it.

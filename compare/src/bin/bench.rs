@@ -2,17 +2,19 @@
 
 #![forbid(unsafe_code)]
 
-use compare::measure::{calls, lines, programs, ticks, Row};
+use compare::measure::{calls, lines, loads, programs, ticks, Row};
 use std::process::ExitCode;
 
 fn main() -> ExitCode {
     println!("speed of the proved code over the reference's: 1.00 is equal, more is faster");
     println!("(rows with 'cost' set one side beside itself: 1.00 is no growth)");
-    match programs::rows() {
-        Ok(rows) => print(&rows),
-        Err(error) => {
-            eprintln!("{error}");
-            return ExitCode::FAILURE;
+    for rows in [programs::rows, loads::rows] {
+        match rows() {
+            Ok(rows) => print(&rows),
+            Err(error) => {
+                eprintln!("{error}");
+                return ExitCode::FAILURE;
+            }
         }
     }
     print(&lines::rows());

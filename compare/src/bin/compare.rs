@@ -1,8 +1,9 @@
-//! Compares the proved simulator with the reference: through the program and
+//! Compares the proved simulator with the reference: through the programs and
 //! through the library. The first difference ends it.
 
 #![forbid(unsafe_code)]
 
+use compare::by_generator::{self, Programs};
 use compare::difference::Difference;
 use compare::options::{self, Options, USAGE};
 use compare::summary::Summary;
@@ -13,9 +14,14 @@ use std::process::ExitCode;
 
 fn main() -> ExitCode {
     let words: Vec<String> = std::env::args().skip(1).collect();
-    if !program::proved().is_file() {
-        eprintln!("target/bin/simulate is missing: `./fever compare` proves and builds it first");
-        return ExitCode::from(2);
+    for (name, path) in [
+        ("simulate", program::proved()),
+        ("generate", program::generator()),
+    ] {
+        if !path.is_file() {
+            eprintln!("target/bin/{name} is missing: `./fever compare` proves and builds it first");
+            return ExitCode::from(2);
+        }
     }
     match options::parse(&words) {
         None => {
@@ -44,11 +50,16 @@ fn compare(rounds: u64, seed: u64, gate: bool) -> ExitCode {
     }
 }
 
-/// Through the program, then through the library.
+/// Through the programs, then through the library.
 fn both_ways(rounds: u64, seed: u64) -> Result<Summary, Difference> {
+    let programs = Programs {
+        generator: &program::generator(),
+        simulator: &program::proved(),
+    };
     Ok(Summary {
         rounds,
-        program: by_program::compare(&program::proved(), seed, rounds)?,
+        program: by_program::compare(programs.simulator, seed, rounds)?,
+        generator: by_generator::compare(programs, seed, rounds)?,
         library: by_library::compare(seed, rounds)?,
     })
 }

@@ -2,6 +2,7 @@
 //! sound and unsound.
 
 pub mod lines;
+pub mod loads;
 pub mod openings;
 pub mod sound;
 pub mod spoil;
@@ -22,7 +23,7 @@ use crate::reference_calls::guarded;
 type Case = fn(&mut Draws, &mut Counts) -> Result<(), Difference>;
 
 /// The parts, and how many cases of each make one round.
-const PARTS: [(&str, Case, u64); 8] = [
+const PARTS: [(&str, Case, u64); 9] = [
     ("openings", openings::case, 400),
     ("sound runs", sound::case, 40),
     ("unsound runs", unsound::case, 60),
@@ -31,6 +32,7 @@ const PARTS: [(&str, Case, u64); 8] = [
     ("lines read", lines::reading, 1_500),
     ("lines written", lines::writing, 400),
     ("events together", together::case, 60),
+    ("loads", loads::case, 100),
 ];
 
 /// Compares so many rounds of every part, and answers the counts of each.

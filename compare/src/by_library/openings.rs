@@ -16,18 +16,23 @@ const MOST_VIEWS: u64 = 30;
 
 /// One opening.
 pub fn case(draws: &mut Draws, counts: &mut Counts) -> Result<(), Difference> {
-    let setup = match draws.below(4) {
-        0 => openings::accepted(draws, MOST_VIEWS),
-        1 | 2 => openings::refused(draws, MOST_VIEWS),
-        _ => wild(draws),
-    };
-    let mut state = lent_to(&setup, draws);
+    let (mut state, setup) = any(draws);
     let mut call = states::opening(&setup, draws);
     if let (Call::Open(words), true) = (&mut call, draws.per_mille(20)) {
         words.truncate(draws.place(SETUP_WORDS + 1));
     }
     sound::opened(&mut state, &call, counts)?;
     Ok(())
+}
+
+/// A setup that opens or not, and words enough for it or a few too few.
+pub fn any(draws: &mut Draws) -> (State, Setup) {
+    let setup = match draws.below(4) {
+        0 => openings::accepted(draws, MOST_VIEWS),
+        1 | 2 => openings::refused(draws, MOST_VIEWS),
+        _ => wild(draws),
+    };
+    (lent_to(&setup, draws), setup)
 }
 
 /// A setup that would open, but for one number that may be anything.
@@ -56,7 +61,7 @@ fn lent_to(setup: &Setup, draws: &mut Draws) -> State {
         run: Lent::untouched(RUN_WORDS, draws),
         tally: Lent::untouched(tally + more, draws),
         network: Lent::untouched(network + beyond, draws),
-        events: Lent::default(),
+        ..State::default()
     };
     match draws.below(30) {
         0 => state.tally.lend(few),

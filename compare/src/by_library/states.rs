@@ -30,7 +30,7 @@ pub fn lent_to(setup: &Setup, draws: &mut Draws) -> State {
         run: Lent::untouched(RUN_WORDS, draws),
         tally: Lent::untouched(tally as usize, draws),
         network: Lent::untouched((8 * n + beyond) as usize, draws),
-        events: Lent::default(),
+        ..State::default()
     }
 }
 

@@ -110,7 +110,7 @@ mod tests {
             run: lent(RUN_WORDS),
             tally: lent(24),
             network: lent(32),
-            events: lent(0),
+            ..State::default()
         };
         let mut words = vec![4, 2, 4, 6];
         words.resize(SETUP_WORDS, 0);

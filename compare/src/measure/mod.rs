@@ -4,6 +4,7 @@
 
 pub mod calls;
 pub mod lines;
+pub mod loads;
 mod plain;
 pub mod programs;
 pub mod ticks;

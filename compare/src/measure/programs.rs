@@ -16,7 +16,7 @@ pub const LINES: u64 = 60_000;
 
 /// One row per number of processors.
 pub fn rows() -> Result<Vec<Row>> {
-    let reference = build_reference()?;
+    let reference = reference("reference_simulate")?;
     [4, 16, 64]
         .into_iter()
         .map(|n| row(n, &program::proved(), &reference))
@@ -34,7 +34,12 @@ fn row(n: u64, proved: &Path, reference: &Path) -> Result<Row> {
     if printed(proved)? != printed(reference)? {
         return Err(Error::other("the programs print different things"));
     }
-    let times = try_in_turn(|| timed_run(proved, &file), || timed_run(reference, &file))?;
+    let on_file = |path: &Path| {
+        let mut command = Command::new(path);
+        command.stdin(File::open(&file)?);
+        timed_run(&mut command)
+    };
+    let times = try_in_turn(|| on_file(proved), || on_file(reference))?;
     let what = format!("program, n = {n}: {}", told(&trace));
     Ok(Row::new(what, times.ratio()))
 }
@@ -60,11 +65,9 @@ pub fn told(trace: &Trace) -> String {
     )
 }
 
-/// The time that a program needs for a file.
-fn timed_run(path: &Path, file: &Path) -> Result<Duration> {
-    let input = File::open(file)?;
-    let mut command = Command::new(path);
-    command.stdin(input).stdout(Stdio::null());
+/// The time that a program needs, what it prints thrown away.
+pub fn timed_run(command: &mut Command) -> Result<Duration> {
+    command.stdout(Stdio::null());
     let mut ended = None;
     let time = timed(|| ended = Some(command.status()));
     match ended {
@@ -74,8 +77,9 @@ fn timed_run(path: &Path, file: &Path) -> Result<Duration> {
     }
 }
 
-/// Builds the reference's program with optimisation, and answers where it is.
-fn build_reference() -> Result<PathBuf> {
+/// Builds the reference's programs with optimisation, and answers where the one
+/// of that name is.
+pub fn reference(name: &str) -> Result<PathBuf> {
     let package = program::root().join("reference");
     let target = package.join("target");
     let cargo = env::var_os("CARGO").unwrap_or_else(|| "cargo".into());
@@ -87,8 +91,8 @@ fn build_reference() -> Result<PathBuf> {
         .arg(&target)
         .status()?;
     if status.success() {
-        Ok(target.join("release/reference_simulate"))
+        Ok(target.join("release").join(name))
     } else {
-        Err(Error::other("the reference's program could not be built"))
+        Err(Error::other("the reference's programs could not be built"))
     }
 }

@@ -1,5 +1,5 @@
 -- What scans of the numbers below k say of each of them. Assumes nothing.
-use mathlib.Core.Path.{_≡_, refl, _∙_}
+use mathlib.Core.Path.{_≡_, refl, sym, subst, _∙_}
 use mathlib.Core.Bool.{Bool, true, false, _||_, cond}
 use mathlib.Core.Logic.{_⊎_, inl, inr}
 use mathlib.Core.List.{[], _∷_, _++_}
@@ -7,9 +7,11 @@ use Prim.Native.Nat.{ℕ, zero, suc, _+_, _≤_, _<_}
 use native.Mathlib.Omega.{arith}
 use native.Mathlib.Numerals.{add-one}
 use lib.Dec.{T, ltb, ltb→lt}
+use borrow.Author.Tests.{lt-ltb, le-ltb}
 use lib.ListN.{length, getD, length-append, List·getD-append}
 use lib.Seq.{getD-at}
 use Rattle.base.specs.Tests.{or-left, or-right, or-cases, T-true, T-false, le?, by-cond}
+use Rattle.base.specs.Choice.{or-first, or-second, or-neither}
 use Rattle.base.specs.Scan.{some, first, listed}
 
 -- one that passes is enough
@@ -74,6 +76,22 @@ first-le f (suc k) =
     by-cond (λ (x : ℕ). x ≤ suc k) (ltb (first f k) k) (first f k) (cond (f k) k (suc k))
     (λ t. omega (arith, first-le f k))
     (λ t. by-cond (λ (x : ℕ). x ≤ suc k) (f k) k (suc k) (λ u. omega arith) (λ u. omega arith))
+
+-- one passes exactly where the first is found
+pub some-first : (f : ℕ → Bool) (k : ℕ) → some f k ≡ ltb (first f k) k
+unfolding some first
+some-first f zero = refl
+some-first f (suc k) =
+    let ih : some f k ≡ ltb (first f k) k = some-first f k in
+    by-cond (λ (x : ℕ). (some f k || f k) ≡ ltb x (suc k)) (ltb (first f k) k) (first f k) (cond (f k) k (suc k))
+    (λ t. let l : first f k < suc k = omega (arith, ltb→lt (first f k) k t) in or-first (some f k) (f k) (ih ∙ T-true _ t) ∙ sym (lt-ltb _ _ l))
+    (λ n. by-cond (λ (x : ℕ). (some f k || f k) ≡ ltb x (suc k)) (f k) k (suc k)
+    (λ t. or-second (some f k) (f k) (T-true _ t) ∙ sym (lt-ltb k (suc k) (omega arith)))
+    (λ m. or-neither (some f k) (f k) (ih ∙ T-false _ n) (T-false _ m) ∙ sym (le-ltb (suc k) (suc k) (omega arith))))
+
+-- one that passes is found
+pub first-some : (f : ℕ → Bool) (k : ℕ) → T (some f k) → first f k < k
+first-some f k t = ltb→lt _ _ (subst T (some-first f k) t)
 
 pub length-listed : (f : ℕ → ℕ) (k : ℕ) → length (listed f k) ≡ k
 unfolding listed

@@ -2,3 +2,4 @@
 pub mod TallyWords
 pub mod NetworkWords
 pub mod Firsts
+pub mod Storing

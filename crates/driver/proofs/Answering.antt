@@ -19,21 +19,22 @@ use Rattle.types.specs.declared.Head.{Head}
 use Rattle.model.specs.State.{State, After, stateOf, runFrom}
 use Rattle.model.specs.Opening.{opening}
 use Rattle.words.specs.declared.Numbers.{Numbers}
-use Rattle.words.specs.Events.{eventWords, eventsIn, fourPut, numbersPut}
+use Rattle.words.specs.Events.{eventWords, eventsIn, numbersPut}
+use Rattle.words.proofs.Single.{four-numbers}
 use Rattle.words.specs.Batches.{Worded}
 use Rattle.lines.specs.declared.Read.{Read}
 use Rattle.lines.specs.declared.Read.the-variants as Read
 use Rattle.lines.specs.declared.Next.{Next}
 use Rattle.lines.specs.declared.Next.the-variants.{Line, Unfinished}
 use Rattle.lines.specs.declared.Reading.{Reading}
-use Rattle.lines.specs.Contracts.{noSetup, line}
+use Rattle.lines.specs.Contracts.{noSetup, line, Put}
 use Rattle.lines.specs.Printout.{answerForm, printedMost}
 use Rattle.lines.specs.Splitting.{nextLine}
 use Rattle.reader.specs.Lines.{reading}
 use Rattle.printout.specs.declared.Served.{Served}
 use Rattle.printout.specs.Printout.{Standing, leaving, Reply, staysOpen, openingReply, readReply, reply, lineReply, printedLine}
 use Rattle.printout.specs.Contracts.{placeAt, Advance, Begun, fed}
-use Rattle.driver.specs.Inner.{sessionFrom, Put, replying, Passes, dueLine, NotDue, Turns}
+use Rattle.driver.specs.Inner.{sessionFrom, replying, Passes, dueLine, NotDue, Turns}
 use Rattle.driver.specs.Batches.{readNumbers, gathered, NoOpening, replied, Gathers, worded, wordsAnswered, printedUpTo, advanced}
 use Rattle.driver.proofs.Serving.{turn-passed}
 use Rattle.driver.proofs.Gathering.{no-setup, plain-read}
@@ -82,10 +83,6 @@ line-opened k s x a out tally network r after h q p =
     (ap replying (ap (λ (z : Read). readReply z (a .setup) x) (sym q) ∙ ap (λ (z : Reading). reply z x) h)) p
 
 -- four words of one line
-one-gathered : (k : Numbers) → numbersPut (0 ∷ 0 ∷ 0 ∷ 0 ∷ []) 0 k ≡ k .form ∷ k .kind ∷ k .view ∷ k .processor ∷ []
-unfolding fourPut
-one-gathered k = refl
-
 one-replied : (r : Read) (x : Standing) → replied (r ∷ []) x ≡ replying (readReply r noSetup x)
 one-replied r x = let y : Reply = readReply r noSetup x in
     ap (λ (t : List ℕ). record { place = placeAt (y .standing) []; text = t }) (append-nil (printedLine y))
@@ -98,7 +95,7 @@ line-batched n s opened st a k ws out tally network r after h o q w p =
     let plain : NoOpening (a .read ∷ []) = plain-read (a .read) o in
     passes-as n _ _ out tally network r after
     (ap (λ (z : List ℕ). advanced opened (eventsIn z) (wordsAnswered opened z st))
-    (w ∙ one-gathered k ∙ ap (λ (z : Numbers). z .form ∷ z .kind ∷ z .view ∷ z .processor ∷ []) q)
+    (w ∙ four-numbers k ∙ ap (λ (z : Numbers). z .form ∷ z .kind ∷ z .view ∷ z .processor ∷ []) q)
     ∙ sym (batched (a .read ∷ []) opened st plain) ∙ one-replied (a .read) x
     ∙ ap replying (sym (no-setup (a .read) (a .setup) x plain) ∙ ap (λ (z : Reading). reply z x) h)) p
 

@@ -7,29 +7,24 @@ use native.Mathlib.Omega.{arith}
 use native.Mathlib.Numerals.{add-one}
 use lib.ListN.{length, getD}
 use borrow.Rule.Slice.PartMut.{midOf, putMid}
-use Rattle.types.specs.declared.Message.{Message}
-use Rattle.types.specs.declared.Message.the-variants.{View, Vote, Vc, Qc}
 use Rattle.types.specs.declared.Event.{Event}
 use Rattle.types.specs.declared.Event.the-variants.{Deliver, Sign, Show, Settle, Tick}
 use Rattle.types.specs.declared.Answer.{Answer}
 use Rattle.types.specs.declared.Answer.the-variants.{Refused}
-use Rattle.types.specs.Messages.{kindOf, viewIn, processorIn}
-use Rattle.buffers.specs.declared.Stored.the-variants.{Holds}
-use Rattle.buffers.specs.Kinds.{storedAs}
 use Rattle.model.specs.State.{State, After, checkOf, ticksOf, refused}
 use Rattle.model.specs.Events.{checks, applied}
 use Rattle.liveness.proofs.Promises.{answers-told}
 use Rattle.words.specs.declared.Numbers.{Numbers}
-use Rattle.words.specs.Events.{eventWords, carriedAs, eventOf, eventAs, eventNumbers}
+use Rattle.words.specs.Events.{eventWords, eventOf, eventNumbers}
 use Rattle.words.specs.Batches.{Worded, answered, wordsApplied}
+use Rattle.words.proofs.Single.{event-back}
 use Rattle.lines.specs.declared.Read.{Read}
 use Rattle.lines.specs.declared.Read.the-variants as Read
-use Rattle.lines.specs.Contracts.{line}
+use Rattle.lines.specs.Contracts.{line, Put}
 use Rattle.lines.specs.Printout.{answerForm, printedMost}
 use Rattle.lines.proofs.Printing.{answer-length}
 use Rattle.printout.specs.Printout.{leaving, printedAnswer, ticksPrinted, eventReply}
 use Rattle.printout.specs.Contracts.{placeAt, behind}
-use Rattle.driver.specs.Inner.{Put}
 use Rattle.driver.proofs.Texts.{Told, told-fits, told-more}
 use Rattle.driver.specs.Batches.{gathered, NoOpening, replied, worded, openAs, closedAs, printedAs, printedAt, printedUpTo, advanced, Batched}
 
@@ -69,21 +64,6 @@ module _ {opened : Bool} {ws out : List ℕ} {i at : ℕ} {e : List ℕ} (t : To
   answer-told same = told-more t l h w (answer-length a) (ap (printedUpTo opened ws) (add-one i) ∙ ap (λ (z : Answer). printedUpTo opened ws i ++ line (answerForm z)) (sym q)) same
 
 -- ---- one line more
-
--- the numbers of an event are those of no other
-stored-back : (m : Message) → storedAs (kindOf m) (viewIn m) (processorIn m) ≡ Holds m
-stored-back (View w p) = refl
-stored-back (Vote w p) = refl
-stored-back (Vc w p) = refl
-stored-back (Qc w p) = refl
-
-event-back : (e : Event) → eventAs (eventNumbers e) ≡ e
-unfolding eventOf
-event-back (Deliver m) = ap (carriedAs 1) (stored-back m)
-event-back (Sign m) = ap (carriedAs 2) (stored-back m)
-event-back (Show m) = ap (carriedAs 3) (stored-back m)
-event-back Settle = refl
-event-back (Tick m) = refl
 
 -- what is printed for an event in an open run, from its words
 event-printed : (e : Event) (s : State) → let a = applied e s in

@@ -18,6 +18,7 @@ use Rattle.types.specs.declared.Setup.{Setup}
 use Rattle.lines.specs.Contracts.{noSetup}
 use Rattle.lines.specs.Splitting.{nextLine}
 use Rattle.lines.proofs.Splitting.{line-inside}
+use Rattle.lines.proofs.Putting.{left-over, rest-lent}
 use Rattle.reader.specs.Lines.{reading, skimmed, skimmed-read}
 use Rattle.words.specs.declared.Numbers.{Numbers}
 use Rattle.words.specs.Events.{eventsIn, fourNumbers, numbersPut}
@@ -28,7 +29,7 @@ use Rattle.printout.proofs.Feeding.{fed-append}
 use Rattle.driver.specs.declared.Noted.{Noted}
 use Rattle.driver.specs.Inner.{replying}
 use Rattle.driver.specs.Batches.{readNumbers, gathered, NoOpening, replied, Notes, Gathers}
-use Rattle.driver.proofs.Serving.{rest-lent, left-over, fed-read}
+use Rattle.driver.proofs.Serving.{fed-read}
 
 -- ---- one line
 

@@ -11,12 +11,13 @@ use borrow.Rule.Slice.PartMut.{midOf, putMid, same-len-mid}
 use Rattle.lines.specs.declared.Next.the-variants.{Unfinished}
 use Rattle.lines.specs.Printout.{printedMost}
 use Rattle.lines.specs.Splitting.{beforeNewline, nextLine}
+use Rattle.lines.proofs.Putting.{left-over, rest-back, rest-lent}
 use Rattle.printout.specs.declared.Session.{Session}
 use Rattle.printout.specs.declared.Served.{Served}
 use Rattle.printout.specs.Printout.{Standing, standingOf}
 use Rattle.printout.specs.Contracts.{Begun, Feeds, Serves}
 use Rattle.driver.specs.Inner.{Turns}
-use Rattle.driver.proofs.Serving.{rest-lent, rest-back, left-over, feeds-none, feeds-then}
+use Rattle.driver.proofs.Serving.{feeds-none, feeds-then}
 
 -- the first `used` of the bytes at hand led here
 pub record Going (x : Standing) (late : Bool) (bytes out tally network after : List ℕ) (s : Session) (passed : Bool) (used printed : ℕ) : Type 0 where

@@ -1,14 +1,13 @@
 -- Lines answered one after the other. Assumes nothing.
-use mathlib.Core.Path.{_≡_, refl, sym, ap, ap₂, _∙_, subst}
+use mathlib.Core.Path.{_≡_, refl, sym, ap, _∙_, subst}
 use mathlib.Core.Logic.{_⊎_}
 use mathlib.Core.Bool.{Bool, true, false}
 use Prim.Native.Nat.{ℕ, _+_, _-_, _≤_, _<_}
 use native.Mathlib.Omega.{arith}
 use native.Mathlib.Numerals.{add-one}
-use mathlib.Core.List.{List, [], _++_, append-assoc, append-nil}
-use lib.ListN.{length, take, drop, length-append, length-drop, drop-of-length-le}
-use borrow.Rule.Slice.PartMut.{midOf, putMid, post-is}
-use lib.Seq.{take-at, drop-at, drop-drop, length-take-le, take-all}
+use mathlib.Core.List.{List, [], _++_}
+use lib.ListN.{length, take, drop, length-append}
+use lib.Seq.{length-take-le, take-all}
 use borrow.Author.Tests.{le-leb, lt-leb}
 use Rattle.base.specs.Choice.{cond-yes, cond-no}
 use Rattle.lines.specs.declared.Next.{Next}
@@ -17,46 +16,14 @@ use Rattle.lines.specs.declared.Reading.{Reading}
 use Rattle.lines.specs.Printout.{printedMost}
 use Rattle.lines.specs.Splitting.{lineMost, beforeNewline, nextLine}
 use Rattle.lines.proofs.Splitting.{found}
+use Rattle.lines.proofs.Putting.{put-none, put-then, put-inside}
+use Rattle.lines.specs.Contracts.{Put}
 use Rattle.printout.specs.declared.Session.{Session}
 use Rattle.printout.specs.declared.Served.{Served}
 use Rattle.printout.specs.Printout.{Standing, standingOf, reply, refusedReply, lineReply}
 use Rattle.printout.specs.Contracts.{Place, placeAt, lineEnded, Advance, behind, fed, Begun, Feeds}
-use Rattle.driver.specs.Inner.{Put, replying, Passes, Turns}
+use Rattle.driver.specs.Inner.{replying, Passes, Turns}
 use Rattle.printout.proofs.Feeding.{fed-append, within, fed-within, told, fed-line}
-
--- ---- one text behind another
-
-pub put-none : (out : List ℕ) → Put [] out 0 out
-put-none out = record { bytes = refl; text = refl }
-
-pub put-then : {v w out e f : List ℕ} {k m : ℕ} → Put v out k e → Put w (drop k e) m f → Put (v ++ w) out (k + m) (take k e ++ f)
-put-then {v} {w} {out} {e} {f} {k} {m} a b =
-    let t : take k e ≡ v = ap (take k) (a .text) ∙ take-at v (drop k out) k (sym (a .bytes)) in
-    let d : drop k e ≡ drop k out = ap (drop k) (a .text) ∙ drop-at v (drop k out) k (sym (a .bytes)) in
-    record {
-      bytes = omega (arith, a .bytes, b .bytes, length-append v w);
-      text = ap₂ (λ (x y : List ℕ). x ++ y) t (b .text ∙ ap (λ (x : List ℕ). w ++ x) (ap (drop m) d ∙ drop-drop m k out)) ∙ sym (append-assoc v w (drop (k + m) out));
-    }
-
-pub put-inside : (words out : List ℕ) (k : ℕ) (after : List ℕ) → Put words out k after → length after ≡ length out → k ≤ length out
-put-inside words out k after p h = omega (arith, p .bytes, ap length (p .text), length-append words (drop k out))
-
--- lent from k on, and put back
-pub rest-lent : (k : ℕ) (e : List ℕ) → midOf k (length e - k) e ≡ drop k e
-rest-lent k e = take-all (length e - k) (drop k e) (omega (arith, length-drop k e))
-
--- how many are left
-pub left-over : (k : ℕ) (l : List ℕ) → length (midOf k (length l - k) l) ≡ length l - k
-left-over k l = ap length (rest-lent k l) ∙ length-drop k l
-
-pub rest-back : (k : ℕ) (e f : List ℕ) → k ≤ length e → putMid k (length e - k) e f ≡ take k e ++ f
-rest-back k e f h =
-    let l : length e ≤ length e = omega arith in
-    ap (λ (z : List ℕ). take k e ++ (f ++ z)) (post-is k (length e) e h ∙ drop-of-length-le e l) ∙ ap (λ (z : List ℕ). take k e ++ z) (append-nil f)
-
-pub put-part : {v w out e f : List ℕ} {k m : ℕ} → Put v out k e → k ≤ length e → Put w (midOf k (length e - k) e) m f → Put (v ++ w) out (k + m) (putMid k (length e - k) e f)
-put-part {v} {w} {out} {e} {f} {k} {m} a h b =
-    subst (Put (v ++ w) out (k + m)) (sym (rest-back k e f h)) (put-then a (subst (λ (d : List ℕ). Put w d m f) (rest-lent k e) b))
 
 -- ---- one piece behind another
 

@@ -15,39 +15,19 @@ use Rattle.types.specs.declared.Answer.the-variants as Answer
 use Rattle.types.specs.declared.Run.{Run}
 use Rattle.types.specs.Quantities.{tableClocks}
 use Rattle.model.specs.State.{isCorrect, viewOf, clockOf}
-use Rattle.lines.specs.declared.Written.{Written}
 use Rattle.lines.specs.declared.Written.the-variants.{Bytes, Refused}
-use Rattle.lines.specs.Contracts.{line, Writes, writtenAs, writtenIn}
+use Rattle.lines.specs.Contracts.{line, Put}
 use Rattle.lines.specs.Printout.{answerForm, processorForm, printedMost}
 use Rattle.lines.specs.Splitting.{remainder}
 use Rattle.lines.proofs.Printing.{answer-length, processor-length}
+use Rattle.lines.proofs.Putting.{left-over, put-inside, put-none, put-part}
 use Rattle.printout.specs.declared.Session.{Session}
 use Rattle.printout.specs.declared.Served.{Served}
 use Rattle.printout.specs.Printout.{Standing, standingOf, lineReply, printedLine, processorLines, closing, printedFrom}
 use Rattle.printout.specs.Contracts.{Prints, AnswersLine, Begun, closingMost, Closes}
-use Rattle.driver.specs.Inner.{Put, replying, Passes}
-use Rattle.driver.proofs.Serving.{put-none, put-inside, left-over, put-part}
+use Rattle.driver.specs.Inner.{replying, Passes}
 
--- ---- what the writer wrote, where it has room
-
-room-written : (form out after : List ℕ) (r : Written) → Writes false form out r after → length (line form) ≤ length out
-    → (r ≡ Bytes (length (line form))) × (after ≡ line form ++ drop (length (line form)) out)
-unfolding writtenAs writtenIn
-room-written form out after r w h =
-    let n : ltb (length out) (length (line form)) ≡ false = le-ltb _ _ h in (rw n at (w .0), rw n at (w .1))
-
-pub put-written : (form out after : List ℕ) (r : Written) (k : ℕ) → Writes false form out r after → length (line form) ≤ length out → r ≡ Bytes k → Put (line form) out k after
-put-written form out after r k w h e =
-    let u = room-written form out after r w h in
-    let q : Bytes k ≡ Bytes (length (line form)) = sym e ∙ u .0 in
-    let n : k ≡ length (line form) = cc in
-    record { bytes = n; text = u .1 ∙ ap (λ (i : ℕ). line form ++ drop i out) (sym n) }
-
-pub never-refused : (form out after : List ℕ) (r : Written) (c : ℕ) → Writes false form out r after → length (line form) ≤ length out → r ≡ Refused c → ⊥
-never-refused form out after r c w h e =
-    let q : Refused c ≡ Bytes (length (line form)) = sym e ∙ room-written form out after r w h .0 in
-    let z : _≡_ {A = ℕ} 0 1 = cc in
-    omega arith
+-- ---- what has room
 
 pub answer-room : (a : Answer) (out : List ℕ) → printedMost ≤ length out → length (line (answerForm a)) ≤ length out
 answer-room a out h = omega (arith, answer-length a)

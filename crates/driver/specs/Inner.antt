@@ -3,13 +3,14 @@ use Prim.Native.Nat.{ℕ, _+_, _≤_, _<_}
 use mathlib.Core.Path.{_≡_}
 use mathlib.Core.Logic.{_⊎_}
 use mathlib.Core.Bool.{Bool, true, false, cond}
-use mathlib.Core.List.{List, [], _++_}
+use mathlib.Core.List.{List, []}
 use lib.ListN.{length, take, drop}
 use lib.Dec.{ltb}
 use Rattle.types.specs.declared.Head.{Head}
 use Rattle.model.specs.State.{runFrom}
 use Rattle.lines.specs.declared.Next.{Next}
 use Rattle.lines.specs.declared.Next.the-variants.{Line, Unfinished}
+use Rattle.lines.specs.Contracts.{Put}
 use Rattle.lines.specs.Printout.{printedMost}
 use Rattle.lines.specs.Splitting.{nextLine}
 use Rattle.printout.specs.declared.Session.{Session}
@@ -31,11 +32,6 @@ abbrev pub servedAs : Turned → List ℕ → List ℕ → Served
 servedAs r clocks views = record { session = sessionFrom (r .opened) (r .head) clocks views; late = r .late; used = r .used; printed = r .printed }
 
 -- ---- what is owed
-
--- that the words stand at the start of the lent bytes, k being their length, and the others are untouched
-pub record Put (words out : List ℕ) (k : ℕ) (after : List ℕ) : Type 0 where
-  pub bytes : k ≡ length words
-  pub text : after ≡ words ++ drop k out
 
 -- where a line with such a reply leads, and what is printed for it
 abbrev pub replying : Reply → Advance

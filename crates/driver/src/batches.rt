@@ -15,10 +15,10 @@ ghost use Prim.Native.Nat.{_*_, _≤_, _<_};
 ghost use lib.ListN.{length};
 ghost use Rattle.model.specs.State.{stateOf, runFrom};
 ghost use Rattle.lines.specs.Printout.{printedMost};
+ghost use Rattle.lines.specs.Contracts.{Put};
 ghost use Rattle.liveness.specs.Promises.{answerFrom};
 ghost use Rattle.words.specs.Events.{eventsIn};
 ghost use Rattle.printout.specs.Printout.{endsTicks, ticksPrinted};
-ghost use Rattle.driver.specs.Inner.{Put};
 ghost use Rattle.driver.specs.Batches.{readNumbers, Notes, Gathers, linesMost, worded, wordsAnswered, openAs, closedAs, printedAt, printedUpTo};
 
 // The most lines of a batch, and its words.

@@ -10,10 +10,9 @@ ghost use Prim.Native.Nat.{_*_, _≤_};
 ghost use lib.ListN.{length};
 ghost use lib.Dec.{ltb};
 ghost use Rattle.types.specs.Quantities.{tableClocks, correct};
-ghost use Rattle.lines.specs.Contracts.{line};
+ghost use Rattle.lines.specs.Contracts.{line, Put};
 ghost use Rattle.lines.specs.Printout.{answerForm, processorForm, printedMost};
 ghost use Rattle.printout.specs.Printout.{processorLines, closing};
-ghost use Rattle.driver.specs.Inner.{Put};
 
 // An answer.
 pub(crate) fn print_answer(answer: Answer, out: &mut [u8]) -> usize

@@ -17,10 +17,11 @@ use Rattle.types.specs.declared.Setup.{Setup}
 use Rattle.types.specs.declared.Head.{Head}
 use Rattle.types.specs.declared.AppliedHead.{AppliedHead}
 use Rattle.types.specs.Messages.{lacksForm}
-use Rattle.model.specs.State.{State, After, stateOf, runFrom, headOf, checkOf, ticksOf, accepted, refused, leftBehind}
-use Rattle.model.specs.Opening.{opening}
+use Rattle.model.specs.State.{State, After, stateOf, runFrom, headOf, checkOf, ticksOf, accepted, refused, done, leftBehind}
+use Rattle.model.specs.Opening.{opened, openingChecks, opening}
 use Rattle.model.specs.Events.{checks, applied}
 use Rattle.liveness.specs.Promises.{answerFrom}
+use Rattle.liveness.proofs.Judging.{by-judged}
 use Rattle.liveness.proofs.Promises.{answers-told, refused-stays}
 use Rattle.simulator.specs.Contracts.{AppliesAll}
 use Rattle.words.specs.Events.{eventOf}
@@ -29,6 +30,10 @@ use Rattle.fever.specs.Layout.{tableIn, setupLength, setupIn, runLength,
 use Rattle.fever.specs.Contracts.{Lent, lentOf, lentState, Called, called, runLeft, told, openingWords, applyingWords, calledAll, toldAll, applyingAll}
 use Rattle.types.specs.Runs.{head-back}
 use Rattle.fever.proofs.ReadBack.{run-words-back}
+
+-- of two, the one that may pass
+pub or-true : (a b : Bool) → a ≡ false → T (a || b) → T b
+or-true a b e t = subst (λ (c : Bool). T (c || b)) e t
 
 -- an event with a check and no ticks was refused
 pub unaccepted : (e : Event) (s : State) → 0 < checkOf (applied e s .answer) → ticksOf (applied e s .answer) ≡ 0 → accepted (applied e s .answer) ≡ false
@@ -46,7 +51,7 @@ pub record Parts (ws : List ℕ) (h : Head) (clocks views : List ℕ) : Type 0 w
   pub clocks-in : clocks ≡ tableIn clocksWord ws
   pub views-in : views ≡ tableIn viewsWord ws
 
-parts-whole : (ws : List ℕ) (h : Head) (clocks views : List ℕ) → Parts ws h clocks views → runFrom h clocks views ≡ runIn ws
+pub parts-whole : (ws : List ℕ) (h : Head) (clocks views : List ℕ) → Parts ws h clocks views → runFrom h clocks views ≡ runIn ws
 unfolding runIn
 parts-whole ws h clocks views p = rw (p .head, p .clocks-in, p .views-in) (head-back (runIn ws))
 
@@ -60,6 +65,12 @@ handed : (before ws t n clocks views : List ℕ) (o : AppliedHead) (b : After) (
 handed before ws t n clocks views o b r h w = rw (w .check, w .words) (ap (told before) h)
 
 -- ---- opening
+
+-- an opening is done or refused
+pub refused-opening : (u : Setup) (s : State) → checkOf (opening u s .answer) ≢ 0 → accepted (opening u s .answer) ≡ false
+unfolding opening
+refused-opening u s = by-judged (λ (a : After). checkOf (a .answer) ≢ 0 → accepted (a .answer) ≡ false) (refused s) (openingChecks u s) (done (opened u s))
+    (λ r n. refl) (λ c n. absurd (n refl))
 
 pub opening-short : (setup : List ℕ) (x : Lent) → length setup < setupLength → called 1 x ≡ openingWords setup x
 unfolding openingWords
@@ -105,9 +116,6 @@ unfolding applyingWords
 applying-told e x k s =
     by-cond (λ (c : Called). told (x .run) (applied e (lentState x)) ≡ c) (ltb (length (x .run)) runLength || lacksForm e) (called 1 x) _
     (λ t. lacking-told e x (T-true _ (or-true (ltb (length (x .run)) runLength) (lacksForm e) (le-ltb _ _ k) t))) (λ f. cond-no _ _ _ _ s refl)
-  where
-    or-true : (a b : Bool) → a ≡ false → T (a || b) → T b
-    or-true a b e t = subst (λ (c : Bool). T (c || b)) e t
 
 pub applying-done : (e : Event) (x : Lent) (c : Called) → runLength ≤ length (x .run) → getD (x .run) settledWord 0 ≤ 1 → c ≡ told (x .run) (applied e (lentState x)) → c ≡ applyingWords e x
 applying-done e x c k s h = h ∙ applying-told e x k (le-ltb _ _ s)

@@ -1,18 +1,20 @@
 -- The words that the library's calls leave after an opening are those of the definitions' list, so that demand 3 holds of them. Assumes nothing.
 use mathlib.Core.Path.{_≡_, refl, sym, ap, _∙_, subst}
 use mathlib.Core.Bool.{Bool, false, _||_, cond}
+use mathlib.Core.Logic.{_≢_}
 use mathlib.Core.List.{List, [], _∷_, _++_}
 use Prim.Native.Nat.{ℕ, _+_, _≤_}
 use native.Mathlib.Omega.{arith}
 use lib.Dec.{T, ltb}
 use lib.ListN.{length, take, drop, length-drop}
 use lib.Seq.{take-length}
-use Rattle.base.specs.Tests.{T-true, by-cond}
+use Rattle.base.specs.Tests.{T-true, fails, by-cond}
 use Rattle.types.specs.declared.Event.{Event}
 use Rattle.types.specs.declared.Setup.{Setup}
 use Rattle.model.specs.State.{State, After, checkOf, accepted, refused, done}
 use Rattle.model.specs.Moves.{made}
 use Rattle.model.specs.Opening.{blank, opened, openingChecks, opening}
+use Rattle.model.specs.Checks.{unsoundForGood}
 use Rattle.model.specs.Events.{applied}
 use Rattle.model.specs.Lists.{after, sinceSettling, ticksSince}
 use Rattle.liveness.proofs.Judging.{by-judged-each, neither, not-ltb}
@@ -20,12 +22,15 @@ use Rattle.liveness.specs.Promises.{Tabled}
 use Rattle.liveness.proofs.Promises.{list-law, stays-sound, settled-since}
 use Rattle.simulator.specs.Demands.{Demanded}
 use Rattle.simulator.proofs.Demands.{demand-three-of-code, handed-is-after, every-list-fed}
+use Rattle.workload.proofs.Lasting.{reachable-good}
 use Rattle.words.specs.Events.{eventOf, eventAs}
 use Rattle.words.specs.Batches.{wordsApplied}
-use Rattle.fever.specs.Layout.{setupLength, setupIn, runLength, runIn, runOver}
+use Rattle.fever.specs.Layout.{setupLength, setupIn, runLength, runIn, runOver, neitherSettled}
 use Rattle.fever.specs.Contracts.{Lent, lentOf, lentState, Called, called, told, openingWords, OpensWords, CalledAll}
-use Rattle.fever.specs.Promises.{Call, one, many, InTurn, lentAfter, eventsOf, DemandThreeOfLibrary, NeverNine, NoneNine, NeverNineOfMany, LibraryIsAfter, SettledTold, SettlingTold}
+use Rattle.fever.specs.Loads.{loadLength, CalledLoad, calledLoad, toldLoad, loadIn, generatingMore}
+use Rattle.fever.specs.Promises.{Call, one, many, more, InTurn, lentAfter, eventsOf, DemandThreeOfLibrary, NeverNine, NoneNine, NeverNineOfMany, LibraryIsAfter, SettledTold, SettlingTold}
 use Rattle.fever.proofs.KeepsTables.{opened-tabled}
+use Rattle.fever.proofs.Calling.{or-true}
 use Rattle.fever.proofs.Turns.{Left, call-told, many-told, calls-left, run-left}
 
 -- ---- the opening
@@ -56,7 +61,7 @@ began u s = by-judged-each (λ (a : After). checkOf (a .answer) ≡ 0 → Began 
     (λ p e. (tt, opened-tabled u s, opened-unsettled u s))
 
 -- the words that it leaves
-opening-left : (setup : List ℕ) (x : Lent) → openingWords setup x .answer ≡ 0
+pub opening-left : (setup : List ℕ) (x : Lent) → openingWords setup x .answer ≡ 0
     → let a = opening (setupIn setup) (lentState x) in Began a × Left (drop runLength (x .run)) (a .state) (openingWords setup x .lent) × (runLength ≤ length (x .run))
 unfolding openingWords
 opening-left setup x = by-cond (λ (c : Called). c .answer ≡ 0 → Began a × Left (drop runLength (x .run)) (a .state) (c .lent) × (runLength ≤ length (x .run)))
@@ -80,8 +85,8 @@ module _ (setup : List ℕ) (before opened' : Lent) (o : OpensWords setup before
   abbrev first : State
   first = opening (setupIn setup) (lentState before) .state
 
-  abbrev events : List Event
-  events = eventsOf (take i ks)
+  abbrev happened : List Event
+  happened = eventsOf first (take i ks)
 
   began-left : Began (opening (setupIn setup) (lentState before)) × Left (drop runLength (before .run)) first opened' × (runLength ≤ length (before .run))
   began-left =
@@ -91,7 +96,7 @@ module _ (setup : List ℕ) (before opened' : Lent) (o : OpensWords setup before
   is-accepted : T (accepted (opening (setupIn setup) (lentState before) .answer))
   is-accepted = began-left .0 .0
 
-  last-left : Left (drop runLength (before .run)) (after first events) (lentAfter opened' cs i)
+  last-left : Left (drop runLength (before .run)) (after first happened) (lentAfter opened' cs i)
   last-left = calls-left (drop runLength (before .run)) first opened' ks cs f (began-left .1) i
 
 pub library-is-after : LibraryIsAfter
@@ -120,20 +125,40 @@ demanded-after u s ok es =
 
 pub demand-three-of-library : DemandThreeOfLibrary
 demand-three-of-library setup before opened' o ks cs f i =
-    subst (λ (a : State). Demanded (setupIn setup) (lentState before) a (eventsOf (take i ks)) (lentState (lentAfter opened' cs i)))
+    subst (λ (a : State). Demanded (setupIn setup) (lentState before) a (eventsOf a (take i ks)) (lentState (lentAfter opened' cs i)))
     (sym (began-left setup before opened' o ks cs f i .1 .state))
-    (subst (Demanded (setupIn setup) (lentState before) (first setup before opened' o ks cs f i) (eventsOf (take i ks))) (sym (last-left setup before opened' o ks cs f i .state))
-    (demanded-after (setupIn setup) (lentState before) (is-accepted setup before opened' o ks cs f i) (eventsOf (take i ks))))
+    (subst (Demanded (setupIn setup) (lentState before) (first setup before opened' o ks cs f i) (happened setup before opened' o ks cs f i)) (sym (last-left setup before opened' o ks cs f i .state))
+    (demanded-after (setupIn setup) (lentState before) (is-accepted setup before opened' o ks cs f i) (happened setup before opened' o ks cs f i)))
+
+-- a load on a run that is sound but for its time
+more-not-nine : (x : Lent) (load out : List ℕ) → neitherSettled (x .run) ≡ false → unsoundForGood (lentState x) ≡ false → generatingMore x load out .answer ≢ 9
+unfolding generatingMore
+more-not-nine x load out sorted good = by-cond NotNine (ltb (length (x .run)) runLength || ltb (length load) loadLength) (calledLoad 1 x load out) _ (λ t e. absurd (omega (arith, e)))
+    (λ f. by-cond NotNine (neitherSettled (x .run) || unsoundForGood (lentState x)) (calledLoad 9 x load out) (toldLoad x load out (loadIn load (lentState x) (length out)))
+    (λ t. absurd (fails (unsoundForGood (lentState x)) good (or-true (neitherSettled (x .run)) (unsoundForGood (lentState x)) sorted t))) (λ t e. absurd (omega (arith, e))))
+  where
+    NotNine : CalledLoad → Type 0
+    NotNine c = c .answer ≢ 9
 
 pub never-nine : NeverNine
 never-nine setup before opened' o ks cs f i (one k) c g nine =
     let l = last-left setup before opened' o ks cs f i in
-    stays-sound (setupIn setup) (lentState before) (is-accepted setup before opened' o ks cs f i) (eventsOf (take i ks)) (eventAs k)
+    stays-sound (setupIn setup) (lentState before) (is-accepted setup before opened' o ks cs f i) (happened setup before opened' o ks cs f i) (eventAs k)
     (ap (λ (a : State). checkOf (applied (eventAs k) a .answer)) (sym (l .state)) ∙ sym (ap (λ (b : Called). b .answer) (call-told _ k (lentAfter opened' cs i) c (l .laid) g)) ∙ nine)
 never-nine setup before opened' o ks cs f i (many events) c g nine =
     let z : c .answer ≡ 0 = ap (λ (b : CalledAll). b .answer)
     (many-told _ events (lentAfter opened' cs i) (c .answer) (c .lent) (g .0) (last-left setup before opened' o ks cs f i .laid) (g .1)) in
     absurd (omega arith)
+never-nine setup before opened' o ks cs f i (more load out) c g nine =
+    let l = last-left setup before opened' o ks cs f i in
+    let good : unsoundForGood (lentState (lentAfter opened' cs i)) ≡ false = reachable-good (lentState (lentAfter opened' cs i)) (record {
+      setup = setupIn setup;
+      before = lentState before;
+      opens = is-accepted setup before opened' o ks cs f i;
+      events = happened setup before opened' o ks cs f i;
+      is = l .state;
+    }) in
+    more-not-nine (lentAfter opened' cs i) load out (l .laid .sorted) good (sym (ap (λ (b : CalledLoad). b .answer) (g .2)) ∙ nine)
 
 one-more : (s : State) (xs : List Event) (e : Event) → after s (xs ++ (e ∷ [])) ≡ applied e (after s xs) .state
 unfolding after
@@ -158,17 +183,17 @@ never-nine-of-many setup before opened' o ks cs f i events r after' left g =
     let l = last-left setup before opened' o ks cs f i in
     let t = many-told _ events (lentAfter opened' cs i) r after' left (l .laid) g in
     subst NoneNine (sym (ap (λ (b : CalledAll). b .events) t ∙ ap (λ (a : State). wordsApplied events a .words) (l .state)))
-    (none-nine (setupIn setup) (lentState before) (is-accepted setup before opened' o ks cs f i) (eventsOf (take i ks)) events)
+    (none-nine (setupIn setup) (lentState before) (is-accepted setup before opened' o ks cs f i) (happened setup before opened' o ks cs f i) events)
 
 pub settling-told : SettlingTold
 unfolding runIn
 settling-told setup before opened' o ks cs f i =
     let b = began-left setup before opened' o ks cs f i in
     let l = last-left setup before opened' o ks cs f i in
-    let s = settled-since (first setup before opened' o ks cs f i) (b .0 .2) (eventsOf (take i ks)) in
-    subst (λ (a : State). SettledTold (sinceSettling a (eventsOf (take i ks))) (lentAfter opened' cs i .run)) (sym (b .1 .state))
+    let s = settled-since (first setup before opened' o ks cs f i) (b .0 .2) (happened setup before opened' o ks cs f i) in
+    subst (λ (a : State). SettledTold (sinceSettling a (eventsOf a (take i ks))) (lentAfter opened' cs i .run)) (sym (b .1 .state))
     (record {
       settled = ap (λ (a : State). a .run .settled) (l .state) ∙ s .flag;
       ticks = λ y. ap (λ (a : State). a .run .time) (l .state) ∙ s .time y
-          ∙ sym (ap (λ (a : State). a .run .gst + ticksSince (sinceSettling (first setup before opened' o ks cs f i) (eventsOf (take i ks)))) (l .state));
+          ∙ sym (ap (λ (a : State). a .run .gst + ticksSince (sinceSettling (first setup before opened' o ks cs f i) (happened setup before opened' o ks cs f i))) (l .state));
     })

@@ -1,6 +1,7 @@
--- The promises of specs/Promises.antt, proved: those of calls in turn, of layouts and of writing are passed on from the files that show them. Assumes nothing.
+-- The promises of specs/Promises.antt, proved: those of calls in turn, of loads, of layouts and of writing are passed on from the files that show them. Assumes nothing.
 pub use Rattle.fever.proofs.Demands.{demand-three-of-library, never-nine, never-nine-of-many, library-is-after, settling-told}
 pub use Rattle.fever.proofs.Turns.{every-call-answered, no-event-nothing, many-in-turn}
+pub use Rattle.fever.proofs.LoadCalls.{lines-are-events, generates-after-opening, calls-after-load, refused-load-keeps, refused-more-keeps}
 pub use Rattle.fever.proofs.ReadBack.{run-back, run-words-back, setup-back, event-back, read-event-back, read-setup-back}
 pub use Rattle.fever.proofs.Writing.{bytes-told}
 use mathlib.Core.Path.{_≡_, refl, sym, ap, _∙_, subst}
@@ -16,20 +17,18 @@ use Rattle.base.specs.Tests.{passes?, T-true, T-false, fails, by-cond}
 use Rattle.types.specs.declared.Event.{Event}
 use Rattle.types.specs.declared.Answer.{Answer}
 use Rattle.types.specs.declared.Answer.the-variants.{Done, Stopped, Refused}
-use Rattle.types.specs.declared.Setup.{Setup}
 use Rattle.types.specs.Messages.{lacksForm}
-use Rattle.model.specs.State.{State, After, checkOf, ticksOf, heldOf, accepted, refused, done}
-use Rattle.model.specs.Opening.{opened, openingChecks, opening}
+use Rattle.model.specs.State.{State, After, checkOf, ticksOf, heldOf, accepted}
+use Rattle.model.specs.Opening.{opening}
 use Rattle.model.specs.Events.{applied}
 use Rattle.liveness.specs.Promises.{answerFrom}
-use Rattle.liveness.proofs.Judging.{by-judged}
 use Rattle.liveness.proofs.History.{event-time}
 use Rattle.liveness.proofs.Promises.{answers-told, refused-stays, refused-opening-stays}
 use Rattle.words.specs.Batches.{wordsApplied}
 use Rattle.fever.specs.Layout.{setupLength, setupIn, runLength, runIn, runOver, neitherSettled, timeWord, heldWord}
 use Rattle.fever.specs.Contracts.{Lent, lentOf, lentState, Called, called, told, openingWords, applyingWords, CalledAll, calledAll, toldAll, applyingAll}
 use Rattle.fever.specs.Promises.{RefusedOpeningKeeps, RefusedKeeps, RefusedAllKeeps, TicksTold}
-use Rattle.fever.proofs.Calling.{unaccepted}
+use Rattle.fever.proofs.Calling.{unaccepted, refused-opening}
 
 -- ---- refused calls
 
@@ -67,12 +66,6 @@ refused-keeps e x =
   where
     Keeps : Called → Type 0
     Keeps k = k .answer ≢ 0 → getD (k .lent .run) timeWord 0 ≡ getD (x .run) timeWord 0 → k .lent ≡ x
-
--- an opening is done or refused
-refused-opening : (u : Setup) (s : State) → checkOf (opening u s .answer) ≢ 0 → accepted (opening u s .answer) ≡ false
-unfolding opening
-refused-opening u s = by-judged (λ (a : After). checkOf (a .answer) ≢ 0 → accepted (a .answer) ≡ false) (refused s) (openingChecks u s) (done (opened u s))
-    (λ r n. refl) (λ c n. absurd (n refl))
 
 pub refused-opening-keeps : RefusedOpeningKeeps
 unfolding openingWords

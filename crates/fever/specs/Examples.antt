@@ -9,6 +9,10 @@ use Rattle.types.specs.declared.Event.the-variants.{Deliver, Sign, Show, Settle
 use Rattle.types.specs.declared.Message.the-variants.{View, Vote, Vc, Qc}
 use Rattle.model.specs.Lists.{sinceSettling, ticksDone, ticksSince}
 use Rattle.model.specs.Rows.{definitions, standard, table, zeroes, setupOf, fieldsOf, Row, agreeing, number, words}
+use Rattle.lines.specs.Decimal.{decimal}
+use Rattle.lines.specs.Forms.{messageForm, eventForm, setupForm}
+use Rattle.lines.specs.Promises.{scheduleOf}
+use Rattle.loads.specs.Loads.{ticking, chosen, loadFrom, furtherLoad, wholeLoad}
 use Rattle.lines.specs.Contracts.{eventReading, openingReading, noForm, writtenCheck}
 use Rattle.liveness.specs.Promises.{settlingBound}
 use Rattle.liveness.specs.Live as live
@@ -17,6 +21,7 @@ use Rattle.words.specs.Events.{eventOf, eventAs, fourNumbers, eventNumbers}
 use Rattle.words.specs.Batches.{wordsApplied}
 use Rattle.fever.specs.Layout.{setupIn, setupWords, runIn, timeWord, heldWord}
 use Rattle.fever.specs.Contracts.{Lent, lentOf, lentState, Called, openingWords, applyingWords, CalledAll, applyingAll, moveOf, recordLeft, messagesTold, readingLeft, writtenBy}
+use Rattle.fever.specs.Loads.{CalledLoad, generatingWords, generatingMore}
 use Rattle.fever.specs.Promises.{one, eventsOf}
 
 -- ---- calls
@@ -136,6 +141,55 @@ pub all-rows-hold : agreeing 0 allRows ≡ length allRows
 unfolding allRows openingWords applyingWords applyingAll wordsApplied setupIn runIn eventOf definitions
 all-rows-hold = refl
 
+-- ---- loads: 60 bytes have room for the setup's line and one event's, or for three events
+
+-- a call that answers r and leaves y, the load's words and the bytes
+abbrev pub loadLeaves : ℕ → Lent → List ℕ → List ℕ → CalledLoad → Row
+loadLeaves r y load bytes c =
+    ((c .answer ∷ []) ∷ c .lent .run ∷ c .lent .tally ∷ c .lent .network ∷ c .load ∷ c .bytes ∷ [], (r ∷ []) ∷ y .run ∷ y .tally ∷ y .network ∷ load ∷ bytes ∷ [])
+
+-- seed 1, of 8 steps, settling before step 3; and a word more than a load has
+abbrev pub eightSteps : List ℕ
+eightSteps = 8 ∷ 3 ∷ 1 ∷ 7 ∷ 7 ∷ 7 ∷ 7 ∷ []
+
+abbrev pub firstPiece : CalledLoad
+firstPiece = generatingWords (opensAt 0 zeroes) enough eightSteps (replicate 60 7)
+
+-- refused, it leaves what was lent
+abbrev pub noLoad : ℕ → List ℕ → Lent → List ℕ → Row
+noLoad r setup x load = loadLeaves r x load (replicate 60 7) (generatingWords setup x load (replicate 60 7))
+
+abbrev pub noMore : ℕ → Lent → List ℕ → Row
+noMore r x load = loadLeaves r x load (replicate 60 7) (generatingMore x load (replicate 60 7))
+
+pub loadRows : List Row
+loadRows =
+    -- what the calls for its lines leave; its seed, its step, the bytes written, and that more are needed
+    loadLeaves 0 (leftInTurn openedWords (map eventNumbers (Deliver (Vote 0 1) ∷ []))) (8 ∷ 3 ∷ 9396908728118811419 ∷ 1 ∷ 48 ∷ 1 ∷ 7 ∷ [])
+    (scheduleOf (setupForm (setupOf standard 0 zeroes) ∷ eventForm (Deliver (Vote 0 1)) ∷ []) ++ replicate 12 7) firstPiece
+    -- and it goes on
+    ∷ loadLeaves 0 (leftInTurn openedWords (map eventNumbers (Deliver (Vote 0 1) ∷ Deliver (View 0 3) ∷ Deliver (Vote 0 2) ∷ Settle ∷ [])))
+    (8 ∷ 3 ∷ 9232803539723513983 ∷ 3 ∷ 51 ∷ 1 ∷ 7 ∷ []) (scheduleOf (map eventForm (Deliver (View 0 3) ∷ Deliver (Vote 0 2) ∷ Settle ∷ [])) ++ replicate 9 7)
+    (generatingMore (firstPiece .lent) (firstPiece .load) (replicate 60 7))
+    -- no step is left: nothing is written but the load's words
+    ∷ loadLeaves 0 openedWords (8 ∷ 3 ∷ 1 ∷ 8 ∷ 0 ∷ 0 ∷ []) (replicate 60 7) (generatingMore openedWords (8 ∷ 3 ∷ 1 ∷ 8 ∷ 7 ∷ 7 ∷ []) (replicate 60 7))
+    -- a byte too few for the setup's line: words of no run stay
+    ∷ loadLeaves 0 enough (8 ∷ 3 ∷ 1 ∷ 0 ∷ 0 ∷ 1 ∷ 7 ∷ []) (replicate 26 7) (generatingWords (opensAt 0 zeroes) enough eightSteps (replicate 26 7))
+    -- refused: a word too few of the setup, the run or the load; a start clock too high; no run; a settled word that is of no run
+    ∷ noLoad 1 (take 68 (opensAt 0 zeroes)) enough eightSteps
+    ∷ noLoad 1 (opensAt 0 zeroes) (sevens 136 24 64) eightSteps
+    ∷ noLoad 1 (opensAt 0 zeroes) enough (take 5 eightSteps)
+    ∷ noLoad 7 (opensAt 0 (12 ∷ 12 ∷ 12 ∷ 12 ∷ [])) enough eightSteps
+    ∷ noMore 1 (sevens 136 24 64) eightSteps
+    ∷ noMore 1 openedWords (take 5 eightSteps)
+    ∷ noMore 9 (lentOf (replicate 137 1) (openedWords .tally) (openedWords .network)) eightSteps
+    ∷ noMore 9 oddly eightSteps
+    ∷ []
+
+pub load-rows-hold : agreeing 0 loadRows ≡ length loadRows
+unfolding loadRows generatingWords generatingMore wholeLoad furtherLoad loadFrom chosen ticking openingWords applyingWords setupIn runIn eventOf decimal messageForm eventForm setupForm definitions
+load-rows-hold = refl
+
 -- The settling half of the library's demand 3 speaks of something: the run past the bound of `liveness`, as calls, none of which is refused.
 
 abbrev pub liveOpening : Called
@@ -149,7 +203,7 @@ unfolding live.setup live.events openingWords applyingWords setupIn runIn eventO
 live-accepted = refl
 
 -- one tick more since settling than the bound
-pub live-past : ticksSince (sinceSettling (lentState (liveOpening .lent)) (eventsOf (take 62 (map one liveCalls)))) ≡ settlingBound (setupIn (setupWords live.setup)) + 1
+pub live-past : ticksSince (sinceSettling (lentState (liveOpening .lent)) (eventsOf (lentState (liveOpening .lent)) (take 62 (map one liveCalls)))) ≡ settlingBound (setupIn (setupWords live.setup)) + 1
 unfolding live.setup live.events openingWords setupIn runIn eventOf eventsOf sinceSettling ticksDone definitions
 live-past = refl
 

@@ -1,5 +1,6 @@
 -- What the contracts of the exported functions cite.
 pub mod Layout
 pub mod Contracts
+pub mod Loads
 pub mod Promises
 pub mod Examples

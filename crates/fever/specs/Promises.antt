@@ -6,26 +6,30 @@ use mathlib.Core.Logic.{_⊎_, _≢_}
 use mathlib.Core.List.{List, [], _∷_, _++_, map}
 use Prim.Native.Nat.{ℕ, zero, suc, _+_, _-_, _*_, _≤_, _<_}
 use lib.Dec.{T, eqb}
-use lib.ListN.{length, getD, take, drop}
+use lib.ListN.{length, getD, set, take, drop}
 use Rattle.types.specs.declared.Event.{Event}
 use Rattle.types.specs.declared.Setup.{Setup}
 use Rattle.types.specs.declared.Run.{Run}
 use Rattle.types.specs.Quantities.{tableClocks}
 use Rattle.types.specs.Messages.{lacksForm}
-use Rattle.model.specs.State.{After, ticksOf, heldOf, accepted}
+use Rattle.model.specs.State.{State, After, ticksOf, heldOf, accepted}
 use Rattle.model.specs.Opening.{opening}
 use Rattle.model.specs.Events.{applied}
 use Rattle.model.specs.Lists.{after, Since, sinceSettling, hasSettled, ticksSince}
 use Rattle.simulator.specs.Demands.{Demanded}
 use Rattle.lines.specs.declared.Reading.{Reading}
-use Rattle.lines.specs.Contracts.{eventReading, line, writtenAs, writtenCheck}
+use Rattle.lines.specs.Forms.{eventForm, setupForm}
+use Rattle.lines.specs.Contracts.{eventReading, line, writtenAs, writtenCheck, Put}
+use Rattle.lines.specs.Promises.{scheduleOf}
+use Rattle.loads.specs.Loads.{lineBytes}
 use Rattle.words.specs.declared.Numbers.{Numbers}
 use Rattle.words.specs.Events.{eventWords, eventOf, eventAs, fourNumbers, eventNumbers}
 use Rattle.fever.specs.Layout.{setupIn, setupWords, runLength, settledWord, timeWord, gstWord, heldWord, runIn, runWords, runOver, neitherSettled, readingWords}
 use Rattle.fever.specs.Contracts.{Lent, lentState, Called, called, told, openingWords, OpensWords, applyingWords, AppliesWords, calledAll, applyingAll, AppliesEvents, WritesLine}
+use Rattle.fever.specs.Loads.{stepWord, bytesWord, calledLoad, generatingWords, GeneratesWords, generatingMore, GeneratesMore, loadEvents}
 
--- ---- demand 3 of the library: calls of `fever_apply` and `fever_apply_all` after a `fever_open` that answered 0, each lent the words that the last
--- one left
+-- ---- demand 3 of the library: calls of `fever_apply`, `fever_apply_all` and `fever_generate_more` after a `fever_open` that answered 0, each lent the
+-- words that the last one left
 
 -- the events of words, four numbers each; up to three words behind them are none
 unfoldable pub numbersOf : List ℕ → List Numbers
@@ -35,15 +39,17 @@ numbersOf (a ∷ b ∷ []) = []
 numbersOf (a ∷ b ∷ c ∷ []) = []
 numbersOf (a ∷ b ∷ c ∷ d ∷ ws) = fourNumbers a b c d ∷ numbersOf ws
 
--- one event to `fever_apply`, or the words of many to `fever_apply_all`
+-- one event to `fever_apply`, the words of many to `fever_apply_all`, or the words of a load and bytes to `fever_generate_more`
 pub data Call : Type 0 where
   one : Numbers → Call
   many : List ℕ → Call
+  more : List ℕ → List ℕ → Call
 
 -- that the call with the words x lent answered and left c: its function's contract
 abbrev pub Answers : Call → Lent → Called → Type 0
 Answers (one k) x c = AppliesWords (k .form) (k .kind) (k .view) (k .processor) x (c .answer) (c .lent)
 Answers (many events) x c = (left : List ℕ) × AppliesEvents events x (c .answer) (c .lent) left
+Answers (more load out) x c = (load' : List ℕ) × (out' : List ℕ) × GeneratesMore x load out (c .answer) (c .lent) load' out'
 
 -- the calls ks in turn, with x lent to the first: cs is what each answered and left
 abbrev pub InTurn : Lent → List Call → List Called → Type 0
@@ -58,14 +64,17 @@ lentAfter x cs zero = x
 lentAfter x [] (suc i) = x
 lentAfter x (c ∷ cs) (suc i) = lentAfter (c .lent) cs i
 
--- the events of the calls: numbers that are no event are 0 ticks, which did nothing (`NoEventNothing`)
-abbrev pub numbersIn : Call → List Numbers
-numbersIn (one k) = k ∷ []
-numbersIn (many events) = numbersOf events
+-- the events of a call on the state s: numbers that are no event are 0 ticks, which did nothing (`NoEventNothing`); those of a load are those of the
+-- lines that it writes (`LinesAreEvents`)
+abbrev pub callEvents : Call → State → List Event
+callEvents (one k) s = eventAs k ∷ []
+callEvents (many events) s = map eventAs (numbersOf events)
+callEvents (more load out) s = loadEvents load out s
 
-unfoldable pub eventsOf : List Call → List Event
-eventsOf [] = []
-eventsOf (k ∷ ks) = map eventAs (numbersIn k) ++ eventsOf ks
+-- of the calls in turn, s being the state at the first
+unfoldable pub eventsOf : State → List Call → List Event
+eventsOf s [] = []
+eventsOf s (k ∷ ks) = callEvents k s ++ eventsOf (after s (callEvents k s)) ks
 
 -- Whatever words the setup has and whatever words are lent: if `fever_open` answers 0 and leaves `opened`, then P holds after every number of calls,
 -- of those calls and of the words that they left.
@@ -77,7 +86,7 @@ AfterCalls P =
 -- Demand 3's sentences, of the setup that the setup's words are and of the run, tally and network that the words left are.
 abbrev pub DemandThreeOfLibrary : Type 0
 DemandThreeOfLibrary =
-    AfterCalls (λ setup before opened ks last. Demanded (setupIn setup) (lentState before) (lentState opened) (eventsOf ks) (lentState last))
+    AfterCalls (λ setup before opened ks last. Demanded (setupIn setup) (lentState before) (lentState opened) (eventsOf (lentState opened) ks) (lentState last))
 
 -- No further call answers 9.
 abbrev pub NeverNine : Type 0
@@ -98,7 +107,7 @@ NeverNineOfMany =
 -- The words are those of the definitions' list, and the run has as many as were lent to the opening.
 pub record LeftBy (setup : List ℕ) (before : Lent) (ks : List Call) (last : Lent) : Type 0 where
   pub opens : T (accepted (opening (setupIn setup) (lentState before) .answer))
-  pub state : lentState last ≡ after (opening (setupIn setup) (lentState before) .state) (eventsOf ks)
+  pub state : let s = opening (setupIn setup) (lentState before) .state in lentState last ≡ after s (eventsOf s ks)
   pub run-words : length (last .run) ≡ length (before .run)
 
 abbrev pub LibraryIsAfter : Type 0
@@ -110,7 +119,7 @@ pub record SettledTold (since : Since) (ws : List ℕ) : Type 0 where
   pub ticks : hasSettled since ≡ true → getD ws timeWord 0 ≡ getD ws gstWord 0 + ticksSince since
 
 abbrev pub SettlingTold : Type 0
-SettlingTold = AfterCalls (λ setup before opened ks last. SettledTold (sinceSettling (lentState opened) (eventsOf ks)) (last .run))
+SettlingTold = AfterCalls (λ setup before opened ks last. SettledTold (sinceSettling (lentState opened) (eventsOf (lentState opened) ks)) (last .run))
 
 -- Every list of calls can be made, on any words.
 abbrev pub EveryCallAnswered : Type 0
@@ -119,6 +128,39 @@ EveryCallAnswered = (x : Lent) (ks : List Call) → (cs : List Called) × InTurn
 -- Four numbers that are no event, or an event without a form (0 ticks among them), answer 1 and change nothing.
 abbrev pub NoEventNothing : Type 0
 NoEventNothing = (k : Numbers) (x : Lent) (c : Called) → T (lacksForm (eventAs k)) → Answers (one k) x c → c ≡ called 1 x
+
+-- ---- loads
+
+-- What `fever_generate_more` wrote into the bytes are the lines of the events that it did, as many bytes as the load's word says.
+abbrev pub LinesAreEvents : Type 0
+LinesAreEvents =
+    (x : Lent) (load out : List ℕ) (after' : Lent) (load' out' : List ℕ) → GeneratesMore x load out 0 after' load' out'
+    → Put (scheduleOf (map eventForm (loadEvents load out (lentState x)))) out (getD load' bytesWord 0) out'
+
+-- `fever_generate`, where it has written a line, did what `fever_open` does and then, lent the words that this left and the bytes behind the setup's
+-- line, `fever_generate_more` from step 0.
+pub record OpensFirst (setup : List ℕ) (before : Lent) (load out : List ℕ) (after' : Lent) (load' out' : List ℕ) : Type 0 where
+  pub opened : Lent
+  pub opens : OpensWords setup before 0 opened
+  pub heads : take (lineBytes (setupForm (setupIn setup))) out' ≡ line (setupForm (setupIn setup))
+  pub goes-on : let k = lineBytes (setupForm (setupIn setup)) in
+      GeneratesMore opened (set load stepWord 0) (drop k out) 0 after' (set load' bytesWord (getD load' bytesWord 0 - k)) (drop k out')
+
+abbrev pub GeneratesAfterOpening : Type 0
+GeneratesAfterOpening =
+    (setup : List ℕ) (before : Lent) (load out : List ℕ) (after' : Lent) (load' out' : List ℕ)
+    → GeneratesWords setup before load out 0 after' load' out' → getD load' bytesWord 0 ≢ 0 → OpensFirst setup before load out after' load' out'
+
+-- So what holds after calls that follow a `fever_open`, demand 3 first, holds after calls that follow such a `fever_generate`, its own events being the
+-- first of theirs.
+abbrev pub AfterLoad : (List ℕ → Lent → Lent → List Call → Lent → Type 0) → Type 0
+AfterLoad P =
+    (setup : List ℕ) (before : Lent) (load out : List ℕ) (made : Lent) (load' out' : List ℕ)
+    → GeneratesWords setup before load out 0 made load' out' → getD load' bytesWord 0 ≢ 0 → (ks : List Call) (cs : List Called) → InTurn made ks cs
+    → (i : ℕ) → P setup before (openingWords setup before .lent) (more (set load stepWord 0) (drop (lineBytes (setupForm (setupIn setup))) out) ∷ take i ks) (lentAfter made cs i)
+
+abbrev pub CallsAfterLoad : Type 1
+CallsAfterLoad = (P : List ℕ → Lent → Lent → List Call → Lent → Type 0) → AfterCalls P → AfterLoad P
 
 -- ---- many events in one call are as many calls in turn
 
@@ -182,6 +224,16 @@ RefusedKeeps =
 -- many events of which the call answers anything but 0 have changed nothing, their own words included
 abbrev pub RefusedAllKeeps : Type 0
 RefusedAllKeeps = (events : List ℕ) (x : Lent) → applyingAll events x .answer ≢ 0 → applyingAll events x ≡ calledAll (applyingAll events x .answer) x events
+
+-- a load that answers anything but 0 has changed nothing, its own words and the bytes included
+abbrev pub RefusedLoadKeeps : Type 0
+RefusedLoadKeeps =
+    (setup : List ℕ) (x : Lent) (load out : List ℕ) → generatingWords setup x load out .answer ≢ 0
+    → generatingWords setup x load out ≡ calledLoad (generatingWords setup x load out .answer) x load out
+
+abbrev pub RefusedMoreKeeps : Type 0
+RefusedMoreKeeps =
+    (x : Lent) (load out : List ℕ) → generatingMore x load out .answer ≢ 0 → generatingMore x load out ≡ calledLoad (generatingMore x load out .answer) x load out
 
 -- the ticks that an accepted event did are the time gained, and the messages held stand in their word
 pub record TicksAre (x : Lent) (a : After) : Type 0 where

@@ -1,5 +1,6 @@
-// The library for C and Rust: the simulator, one processor's pacemaker, and lines, over numbers and lent words and bytes. Every function takes every
+// The library for C and Rust: the simulator, one processor's pacemaker, lines, and loads out of a seed number, over numbers and lent words and bytes. Every function takes every
 // argument; a refused call has changed nothing that was lent.
+mod generating;
 mod layout;
 mod steps;
 
@@ -11,6 +12,7 @@ ghost use mathlib.Core.List.{[], _∷_};
 ghost use Rattle.words.specs.Events.{eventOf};
 ghost use Rattle.fever.specs.Layout.{planIn};
 ghost use Rattle.fever.specs.Contracts.{lentOf, OpensWords, AppliesWords, AppliesEvents, moveOf, StepsWords, ReadsWords, StandsFor, WritesEvent, WritesSetup};
+ghost use Rattle.fever.specs.Loads.{GeneratesWords, GeneratesMore};
 
 // A setup is opened.
 #[no_mangle]
@@ -167,4 +169,73 @@ pub extern "C" fn fever_write_setup(setup: &[u64], out: &mut [u8]) -> u64
         return 0;
     }
     count_bytes(writer::write_setup(layout::setup_in(setup), out))
+}
+
+// A load is made, from its opening on.
+#[no_mangle]
+pub extern "C" fn fever_generate(
+    setup: &[u64],
+    run: &mut [u64],
+    tally: &mut [u64],
+    network: &mut [u64],
+    load: &mut [u64],
+    out: &mut [u8],
+) -> u64
+    ensures { λ r. ⌜ GeneratesWords (now (setup .entry)) (lentOf (now (run .entry)) (now (tally .entry)) (now (network .entry))) (now (load .entry)) (now (out .entry)) r
+        (lentOf (now (run .exit)) (now (tally .exit)) (now (network .exit))) (now (load .exit)) (now (out .exit)) ⌝ }
+{
+    if setup.len() < layout::SETUP_WORDS {
+        return 1;
+    }
+    if run.len() < layout::RUN_WORDS {
+        return 1;
+    }
+    if load.len() < generating::LOAD_WORDS {
+        return 1;
+    }
+    let made = workload::generate(
+        generating::run_in(run),
+        layout::setup_in(setup),
+        load[generating::STEPS],
+        load[generating::SETTLE],
+        load[generating::SEED],
+        tally,
+        network,
+        out,
+    );
+    generating::put_load(run, load, made)
+}
+
+// A load goes on where it stands.
+#[no_mangle]
+pub extern "C" fn fever_generate_more(
+    run: &mut [u64],
+    tally: &mut [u64],
+    network: &mut [u64],
+    load: &mut [u64],
+    out: &mut [u8],
+) -> u64
+    ensures { λ r. ⌜ GeneratesMore (lentOf (now (run .entry)) (now (tally .entry)) (now (network .entry))) (now (load .entry)) (now (out .entry)) r
+        (lentOf (now (run .exit)) (now (tally .exit)) (now (network .exit))) (now (load .exit)) (now (out .exit)) ⌝ }
+{
+    if run.len() < layout::RUN_WORDS {
+        return 1;
+    }
+    if load.len() < generating::LOAD_WORDS {
+        return 1;
+    }
+    if 1 < run[layout::SETTLED] {
+        return 9;
+    }
+    let made = workload::generate_more(
+        generating::run_in(run),
+        load[generating::SEED],
+        load[generating::STEP],
+        load[generating::STEPS],
+        load[generating::SETTLE],
+        tally,
+        network,
+        out,
+    );
+    generating::put_load(run, load, made)
 }

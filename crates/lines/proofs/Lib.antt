@@ -5,4 +5,5 @@ pub mod Splitting
 pub mod Schedules
 pub mod Readings
 pub mod Writings
+pub mod Putting
 pub mod Printing

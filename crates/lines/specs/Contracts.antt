@@ -77,3 +77,8 @@ writtenCheck (Refused r) = r
 abbrev pub writtenBytes : Written → ℕ
 writtenBytes (Bytes k) = k
 writtenBytes (Refused r) = 0
+
+-- that the words stand at the start of the lent bytes, k being their length, and the others are untouched
+pub record Put (words out : List ℕ) (k : ℕ) (after : List ℕ) : Type 0 where
+  pub bytes : k ≡ length words
+  pub text : after ≡ words ++ drop k out

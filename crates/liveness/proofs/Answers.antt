@@ -1,23 +1,26 @@
 -- What the answers to ticks say, that an answer is told by its numbers, and that a refused call changes nothing, of any run and buffers.
 -- Assumes nothing.
-use mathlib.Core.Path.{_≡_, refl, sym, _∙_, subst}
+use mathlib.Core.Path.{_≡_, refl, sym, ap, _∙_, subst}
 use mathlib.Core.Bool.{true, false}
 use mathlib.Core.Logic.{_≢_}
-use Prim.Native.Nat.{ℕ}
+use Prim.Native.Nat.{ℕ, zero, suc}
 use native.Mathlib.Omega.{arith}
 use lib.Dec.{T, eqb, eqb→eq}
-use Rattle.base.specs.Tests.{eq→eqb, by-cond}
+use Rattle.base.specs.Tests.{T-true, T-false, fails, eq→eqb, by-cond}
 use Rattle.types.specs.declared.Event.{Event}
 use Rattle.types.specs.declared.Event.the-variants.{Deliver, Sign, Show, Settle, Tick}
 use Rattle.types.specs.declared.Answer.{Answer}
 use Rattle.types.specs.declared.Answer.the-variants.{Done, Stopped, Refused}
 use Rattle.types.specs.Messages.{lacksForm}
 use Rattle.model.specs.State.{State, After, checkOf, ticksOf, accepted, refused, done}
+use Rattle.model.specs.Moves.{advanced, arrivals}
+use Rattle.model.specs.Checks.{unsound, overdue}
 use Rattle.model.specs.Opening.{opened, openingChecks, opening}
-use Rattle.model.specs.Events.{tickOnce, Ticks, ticks, ticksAnswer, tickRun, checks, effect, applied}
+use Rattle.model.specs.Events.{outcomeChecks, tickOnce, Ticks, continued, ticks, ticksAnswer, tickRun, checks, effect, applied}
 use Rattle.liveness.specs.Promises.{TickAnswer, TicksAnswered, answerFrom, AnswersTold, RefusedStays, RefusedOpeningStays}
+use Rattle.liveness.specs.Unread.{RefusedAsOverdue}
 use Rattle.liveness.proofs.Judging.{by-judged, by-judged-each, by-applied, by-applied-each}
-use Rattle.liveness.proofs.History.{TickCount, ticks-counted}
+use Rattle.liveness.proofs.History.{TickCount, ticks-counted, answered-check}
 
 pub no-yes : {A : Type 0} → true ≡ false → A
 no-yes e = absurd (subst T e tt)
@@ -48,6 +51,26 @@ ticks-answered m s positive is-sound = by-judged-each (λ (a : After). TickAnswe
         (Stopped (x .count) (x .state .run .held) (x .check))
         (λ u. (k .all-done (eqb→eq (x .check) 0 u), refl, k .gained))
         (λ u. stopped (λ e. t (eq→eqb (x .count) 0 e)) (λ e. u (eq→eqb (x .check) 0 e))))
+
+-- ---- a single tick
+
+once-overdue : (s : State) → eqb (checkOf (tickOnce s .answer)) 16 ≡ overdue s
+unfolding tickOnce
+once-overdue s = by-cond (λ (a : After). eqb (checkOf (a .answer)) 16 ≡ overdue s) (overdue s) (refused s 16) _
+    (λ t. sym (T-true (overdue s) t))
+    (λ t. let no' : false ≡ overdue s = sym (T-false (overdue s) t) in
+    by-judged-each (λ (a : After). eqb (checkOf (a .answer)) 16 ≡ overdue s) (refused s) (outcomeChecks (advanced s) (arrivals (advanced s))) _
+    (λ u. no', (λ u. no', tt)) (λ c. no'))
+
+one-check : (s : State) (r : ℕ) (x : Ticks) → x .check ≡ 0 → continued s r x .check ≡ r
+one-check s zero x e = e
+one-check s (suc r) x e = refl
+
+pub refused-as-overdue : RefusedAsOverdue
+unfolding applied effect tickRun ticks checks
+refused-as-overdue s is-sound = by-judged-each (λ (a : After). eqb (checkOf (a .answer)) 16 ≡ overdue s) (refused s) (checks (Tick 1) s) (effect (Tick 1) s)
+    (λ t. absurd t, (λ t. absurd (fails (unsound s) is-sound t), tt)) (λ c.
+    ap (λ (k : ℕ). eqb k 16) (answered-check (ticks 1 s) ∙ one-check s (checkOf (tickOnce s .answer)) (ticks 0 (tickOnce s .state)) refl) ∙ once-overdue s)
 
 -- ---- the numbers of an answer
 

@@ -42,6 +42,16 @@ pub by-judged {κ} : {A : Type 0} (Q : A → Type κ) (refusal : ℕ → A) (cs 
     → Q (judged refusal cs a)
 by-judged Q refusal cs a f g = by-judged-each Q refusal cs a (all-refusals (λ r. Q (refusal r)) cs f) g
 
+-- two judgements by the same checks: what holds of each pair of refusals, and of a and b where all pass, holds of them
+pub by-judged-two {κ} : {A B : Type 0} (Q : A → B → Type κ) (f : ℕ → A) (g : ℕ → B) (cs : List Check) (a : A) (b : B) → ((r : ℕ) → Q (f r) (g r))
+    → (Passes cs → Q a b) → Q (judged f cs a) (judged g cs b)
+by-judged-two Q f g [] a b refusals h = h tt
+by-judged-two Q f g (c ∷ cs) a b refusals h = go (c .1) (λ t. by-judged-two Q f g cs a b refusals (λ x. h (t, x)))
+  where
+    go : (d : Bool) → ((T d → ⊥) → Q (judged f cs a) (judged g cs b)) → Q (cond d (f (c .0)) (judged f cs a)) (cond d (g (c .0)) (judged g cs b))
+    go true later = refusals (c .0)
+    go false later = later (λ t. t)
+
 -- ---- checks behind checks
 
 pub judged-both : {A : Type 0} (refusal : ℕ → A) (xs ys : List Check) (a : A) → judged refusal (xs ++ ys) a ≡ judged refusal xs (judged refusal ys a)

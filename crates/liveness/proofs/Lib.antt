@@ -25,4 +25,7 @@ pub mod Answers
 pub mod Alike
 pub mod Settling
 pub mod Marks
+pub mod Bits
+pub mod Cutting
+pub mod Unread
 pub mod Promises

@@ -1,11 +1,12 @@
--- The promises of specs/Promises.antt, proved: those of any run are passed on from the files that show them. Assumes nothing.
+-- The promises of specs/Promises.antt and specs/Unread.antt, proved: those of any run are passed on from the files that show them. Assumes nothing.
 pub use Rattle.liveness.proofs.History.{list-law, ticks-are-time, ticks-add}
-pub use Rattle.liveness.proofs.Answers.{ticks-answered, answers-told, refused-stays, refused-opening-stays}
+pub use Rattle.liveness.proofs.Answers.{ticks-answered, refused-as-overdue, answers-told, refused-stays, refused-opening-stays}
 pub use Rattle.liveness.proofs.Alike.{opens-alike}
 pub use Rattle.liveness.proofs.Settling.{settled-since}
 pub use Rattle.liveness.proofs.Soundness.{unsound-parts}
 pub use Rattle.liveness.proofs.Keeping.{events-last}
 pub use Rattle.liveness.proofs.Marks.{marks-are-formed}
+pub use Rattle.liveness.proofs.Unread.{opens-within, beyond-unread}
 use mathlib.Core.Path.{_≡_, refl, sym, ap, _∙_, subst}
 use mathlib.Core.Bool.{Bool, true, false, _&&_, cond}
 use mathlib.Core.Logic.{_⊎_, inl, inr, _≢_}

@@ -1,3 +1,4 @@
 -- What is promised of the definitions, and a run to which it applies.
 pub mod Promises
+pub mod Unread
 pub mod Live

@@ -9,7 +9,7 @@ use Rattle.types.specs.declared.Event.{Event}
 use Rattle.types.specs.declared.Event.the-variants.{Deliver, Sign, Show, Settle, Tick}
 use Rattle.types.specs.declared.Answer.{Answer}
 use Rattle.types.specs.declared.Answer.the-variants.{Done, Stopped, Refused}
-use Rattle.model.specs.Rows.{definitions, planOf, standard, zeroes, setupOf, handedIn, Row, agreeing, number, words}
+use Rattle.model.specs.Rows.{definitions, planOf, standard, zeroes, setupOf, handedIn, Row, agreeing, number, truth, words}
 use Rattle.model.specs.State.{State, stateOf, runOf}
 use Rattle.lines.specs.Decimal.{decimal}
 use Rattle.lines.specs.Forms.{newline, messageForm, eventForm, setupForm}
@@ -19,7 +19,7 @@ use Rattle.lines.specs.Promises.{scheduleOf}
 use Rattle.reader.specs.Bytes.{classOf, classAt}
 use Rattle.reader.specs.Scan.{afterWord, numberAt}
 use Rattle.reader.specs.Lines.{kindFoundAt, messageAt, endingAt, deliverAt, signAt, showAt, ticksAt, eventAt, headingAt, tableAt, openingAt, reading}
-use Rattle.printout.specs.Printout.{Standing, standingOf, leaving, unopenedSession, atStart, ticksPrinted, printedAnswer, eventReply, openingReply, closing, printedFrom, printout}
+use Rattle.printout.specs.Printout.{Standing, standingOf, leaving, unopenedSession, atStart, ticksPrinted, printedAnswer, eventReply, openingReply, lineAccepted, closing, printedFrom, printout}
 
 -- names all that has to unfold for a printout to compute
 unfoldable pub printing : ℕ
@@ -152,6 +152,26 @@ refusals =
 pub refusals-hold : agreeing 0 refusals ≡ length refusals
 unfolding refusals printing
 refusals-hold = refl
+
+-- ---- accepted lines, by what is printed for them
+
+pub acceptances : List Row
+acceptances =
+    truth (lineAccepted (Done 0 8)) true
+    ∷ truth (lineAccepted (Done 3 0)) true
+    -- ticks that were stopped, after two, after one, and at the first
+    ∷ truth (lineAccepted (Stopped 2 8 16)) true
+    ∷ truth (lineAccepted (Stopped 1 10 18)) true
+    ∷ truth (lineAccepted (Stopped 0 8 16)) false
+    ∷ truth (lineAccepted (Stopped 0 16 17)) false
+    ∷ truth (lineAccepted (Stopped 0 10 18)) false
+    ∷ truth (lineAccepted (Refused 1)) false
+    ∷ truth (lineAccepted (Refused 16)) false
+    ∷ []
+
+pub acceptances-hold : agreeing 0 acceptances ≡ length acceptances
+unfolding acceptances printing
+acceptances-hold = refl
 
 -- ---- runs handed in
 

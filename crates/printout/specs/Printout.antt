@@ -3,7 +3,7 @@ use Prim.Native.Nat.{ℕ, zero, suc}
 use mathlib.Core.Bool.{Bool, true, false, _||_, cond}
 use mathlib.Core.List.{List, [], _∷_, _++_}
 use lib.ListN.{replicate}
-use lib.Dec.{eqb}
+use lib.Dec.{eqb, ltb}
 use Rattle.types.specs.declared.Event.{Event}
 use Rattle.types.specs.declared.Event.the-variants.{Deliver, Sign, Show, Settle, Tick}
 use Rattle.types.specs.declared.Answer.{Answer}
@@ -111,6 +111,12 @@ reply r x = readReply (r .read) (r .setup) x
 -- a line, without its newline
 abbrev pub lineReply : List ℕ → Standing → Reply
 lineReply s x = reply (reading s) x
+
+-- whether the line was accepted, by what is printed for it: a printed `(stopped 0 h r)` is a refused first tick
+abbrev pub lineAccepted : Answer → Bool
+lineAccepted (Done a h) = true
+lineAccepted (Stopped a h r) = ltb 0 a
+lineAccepted (Refused r) = false
 
 -- what is printed for it
 abbrev pub printedLine : Reply → List ℕ

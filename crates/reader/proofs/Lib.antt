@@ -3,6 +3,7 @@ pub mod BytesLaws
 pub mod ScanLaws
 pub mod TablesLaws
 pub mod Numbers
+pub mod Decimals
 pub mod Words
 pub mod Templates
 pub mod Messages

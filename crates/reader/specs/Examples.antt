@@ -8,8 +8,10 @@ use Rattle.model.specs.Rows.{standard, setupOf}
 use Rattle.lines.specs.Decimal.{decimal}
 use Rattle.lines.specs.Forms.{openBracket, closeBracket, oneBlank, openWord, tickWord, joined, carryingForm, signWord, showWord, clocksForm, messageForm, eventForm, setupForm}
 use Rattle.lines.specs.Contracts.{eventReading, openingReading, noForm}
+use Rattle.reader.specs.declared.Decimal.the-variants.{Is, NoDecimal}
 use Rattle.reader.specs.Bytes.{classOf, classAt}
 use Rattle.reader.specs.Scan.{afterWord, numberAt}
+use Rattle.reader.specs.Decimals.{decimalOf}
 use Rattle.reader.specs.Lines.{kindFoundAt, messageAt, endingAt, deliverAt, signAt, showAt, ticksAt, eventAt, headingAt, tableAt, openingAt, reading}
 
 abbrev settled : List ℕ
@@ -45,3 +47,16 @@ bad =
 pub bad-read : map reading bad ≡ map (λ s. noForm) bad
 unfolding bad reading eventAt openingAt headingAt tableAt deliverAt signAt showAt ticksAt endingAt messageAt kindFoundAt numberAt afterWord classOf classAt decimal eventForm messageForm setupForm
 bad-read = refl
+
+-- ---- texts that are one number, and texts that are none: nothing, a leading zero, a sign, a blank behind, a newline behind, a number too high
+
+pub numbers-read : map decimalOf (decimal 0 ∷ decimal 10 ∷ decimal 18446744073709551615 ∷ []) ≡ (Is 0 ∷ Is 10 ∷ Is 18446744073709551615 ∷ [])
+unfolding decimalOf numberAt decimal
+numbers-read = refl
+
+pub no-numbers : List (List ℕ)
+no-numbers = [] ∷ (48 ∷ 49 ∷ []) ∷ (48 ∷ 48 ∷ []) ∷ (43 ∷ 49 ∷ []) ∷ (45 ∷ 49 ∷ []) ∷ (49 ∷ 32 ∷ []) ∷ (49 ∷ 10 ∷ []) ∷ decimal (2 ^ 64) ∷ []
+
+pub none-read : map decimalOf no-numbers ≡ map (λ s. NoDecimal) no-numbers
+unfolding no-numbers decimalOf numberAt decimal
+none-read = refl

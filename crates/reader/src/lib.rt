@@ -13,6 +13,7 @@ ghost use Rattle.lines.specs.Forms.{openBracket, closeBracket, oneBlank};
 ghost use Rattle.lines.specs.Contracts.{noSetup, noForm, Reads};
 ghost use Rattle.reader.specs.Bytes.{classOf, classAt, digitRun, spelled};
 ghost use Rattle.reader.specs.Scan.{afterWord, fitting, numberAt};
+ghost use Rattle.reader.specs.Decimals.{decimalOf, ReadsDecimal};
 ghost use Rattle.reader.specs.Lines.{kindFoundAt, messageOf, saidKind, messageAt, endingAt, deliverAt, signAt, showAt, ticksAt, eventAt, headingAt, nextNumberAt, firstClockAt, tableEndAt, noTable, tableAt, openingAt, reading, skimmed};
 
 // ---- bytes
@@ -525,4 +526,31 @@ pub fn read_line(line: &[u8]) -> Reading
     ensures { λ r. ⌜ (r ≡ reading (now (line .entry))) × Reads (now (line .entry)) r ⌝ }
 {
     read_bytes(line)
+}
+
+// ---- a number by itself
+
+// What a whole text is read as: the number whose decimal it is, or none.
+pub enum Decimal {
+    Is(u64),
+    NoDecimal,
+}
+
+fn whole_number(text: &[u8]) -> Decimal
+    ensures { λ r. ⌜ r ≡ decimalOf (now (text .entry)) ⌝ }
+{
+    let Number::Value(n, end) = read_number(text, 0) else {
+        return Decimal::NoDecimal;
+    };
+    if end != text.len() {
+        return Decimal::NoDecimal;
+    }
+    Decimal::Is(n)
+}
+
+// The number that a text is the decimal of.
+pub fn read_decimal(text: &[u8]) -> Decimal
+    ensures { λ r. ⌜ (r ≡ decimalOf (now (text .entry))) × ReadsDecimal (now (text .entry)) r ⌝ }
+{
+    whole_number(text)
 }

@@ -17,3 +17,4 @@ pub mod Delivery
 pub mod Starting
 pub mod Demands
 pub mod Striding
+pub mod Single

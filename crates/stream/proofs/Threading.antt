@@ -10,13 +10,13 @@ use borrow.Rule.Slice.PartMut.{midOf}
 use Rattle.lines.specs.declared.Next.the-variants.{Unfinished}
 use Rattle.lines.specs.Printout.{printedMost}
 use Rattle.lines.specs.Splitting.{beforeNewline, nextLine}
+use Rattle.lines.proofs.Putting.{left-over, rest-lent}
 use Rattle.printout.specs.declared.Session.{Session}
 use Rattle.printout.specs.declared.Served.{Served}
 use Rattle.printout.specs.Printout.{Standing, standingOf, unopenedSession, tallyLent, networkLent}
 use Rattle.printout.specs.Contracts.{placeAt, Advance, fed, Begun, Serves}
 use Rattle.printout.proofs.Feeding.{fed-append}
 use Rattle.printout.proofs.Promises.{goes-on}
-use Rattle.driver.proofs.Serving.{rest-lent, left-over}
 use Rattle.stream.specs.declared.Progress.{Progress}
 use Rattle.stream.specs.Threads.{Leads, Threads, Reaches}
 use Rattle.stream.proofs.Keeping.{kept-bytes}

@@ -1,15 +1,16 @@
 -- How many bytes the forms have. Assumes nothing.
 use mathlib.Core.Path.{_≡_, refl}
-use Prim.Native.Nat.{ℕ, _+_, _<_}
+use Prim.Native.Nat.{ℕ, suc, _+_, _<_}
 use native.Mathlib.Omega.{arith}
-use mathlib.Core.List.{List}
+use mathlib.Core.List.{List, [], _∷_}
 use lib.ListN.{length, take, length-append}
 use Rattle.types.specs.declared.Plan.{Plan}
 use Rattle.types.specs.declared.Message.{Message}
 use Rattle.types.specs.declared.Event.the-variants.{Deliver, Sign, Show, Settle, Tick}
 use Rattle.types.specs.Messages.{viewIn, processorIn}
 use Rattle.lines.specs.Decimal.{decimal}
-use Rattle.lines.specs.Forms.{kindWord, messageForm, eventForm, furtherClocks, clocksForm, setupForm}
+use Rattle.lines.specs.Forms.{newline, kindWord, messageForm, eventForm, furtherClocks, clocksForm, setupForm}
+use Rattle.lines.specs.Contracts.{line}
 use Rattle.types.specs.Runs.{setupWith}
 use Rattle.writer.proofs.Clocks.{further-length, line-whole}
 
@@ -46,3 +47,7 @@ setup-bytes plan faulty cs k n delta gamma views set p l hk hn hd hg hv hs =
     let t : take (plan .n) cs ≡ cs = line-whole (plan .n) cs l in
     let f : length (furtherClocks cs) ≡ 1 + length (clocksForm cs) = further-length cs (omega arith) in
     simp length-append (rw t (omega arith))
+
+-- and with the newline
+pub line-bytes : (form : List ℕ) (j k : ℕ) → j + k ≡ length form → suc j + k ≡ length (line form)
+line-bytes form j k h = omega (arith, length-append form (newline ∷ []))

@@ -23,7 +23,7 @@ fn kind_length(message: Message) -> usize
 }
 
 // The bytes of a message's form: beside the word and the numbers two brackets and two blanks.
-fn message_length(message: Message) -> usize
+pub(crate) fn message_length(message: Message) -> usize
     ensures { λ r. ⌜ (r ≡ length (messageForm message)) × (r ≤ 48) ⌝ }
 {
     let view = pieces::width(message.view());

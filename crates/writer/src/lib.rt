@@ -18,7 +18,7 @@ ghost use Rattle.types.specs.Quantities.{nMost};
 ghost use Rattle.types.specs.Messages.{lacksForm};
 ghost use Rattle.lines.specs.Forms.{eventForm, setupForm, lacksSetupForm};
 ghost use Rattle.lines.specs.Printout.{answerForm, processorForm};
-ghost use Rattle.lines.specs.Contracts.{Writes};
+ghost use Rattle.lines.specs.Contracts.{line, Writes};
 ghost use Rattle.types.specs.Runs.{setupWith};
 
 // The line of an event.
@@ -35,6 +35,20 @@ pub fn write_event(event: Event, out: &mut [u8]) -> Written
     let end = events::put_event(out, event);
     pieces::put_byte(out, end, b'\n');
     Written::Bytes(length)
+}
+
+// The bytes of an event's line, whether it has a form or not. `event_length` is not asked, so that it has one caller and is compiled into it: each
+// call of a function with two would copy the event.
+pub fn event_bytes(event: Event) -> usize
+    ensures { λ r. ⌜ r ≡ length (line (eventForm event)) ⌝ }
+{
+    match event {
+        Event::Deliver(m) => 11 + events::message_length(m),
+        Event::Sign(m) => 8 + events::message_length(m),
+        Event::Show(m) => 8 + events::message_length(m),
+        Event::Settle => 9,
+        Event::Tick(m) => 8 + pieces::width(m),
+    }
 }
 
 // The line of a setup that has a form, of which the clocks that are lent are those of the line.

@@ -2,9 +2,12 @@
 
 mod checks;
 mod common;
+mod generator;
 mod limits;
 mod lines;
+mod loads;
 mod near_misses;
+mod pieces;
 mod printout;
 mod rules;
 mod schedules;

@@ -1,10 +1,11 @@
-use Rattle.driver.proofs.Texts.{put-written, never-refused, answer-room}
+use Rattle.driver.proofs.Texts.{answer-room}
 use borrow.Author.Needs.{needs}
 use Rattle.driver.proofs.printing.print_answer.Statement.{statement}
 use Rattle.driver.proofs.printing.print_answer.Tie as tie
 use Rattle.driver.proofs.printing.print_answer.Reads as reads
 use Rattle.driver.proofs.printing.print_answer.Lts as lts
 use Rattle.writer.proofs.write_answer.Reads as write-answer-reads
+use Rattle.lines.proofs.Putting.{never-refused, put-written}
 
 write-answer-requires : tie.Need-write-answer-requires
 write-answer-requires c κs = search needs

@@ -1,4 +1,4 @@
-use Rattle.driver.proofs.Texts.{put-yes, put-no, put-written, never-refused, processor-room}
+use Rattle.driver.proofs.Texts.{put-yes, put-no, processor-room}
 use mathlib.Core.Path.{sym, _∙_}
 use borrow.Author.Needs.{needs}
 use Rattle.driver.proofs.printing.print_processor.Statement.{statement}
@@ -7,6 +7,7 @@ use Rattle.driver.proofs.printing.print_processor.Reads as reads
 use Rattle.driver.proofs.printing.print_processor.Lts as lts
 use Rattle.types.proofs.Plan.correct.Reads as correct-reads
 use Rattle.writer.proofs.write_processor.Reads as write-processor-reads
+use Rattle.lines.proofs.Putting.{never-refused, put-written}
 
 correct-requires : tie.Need-correct-requires
 correct-requires c κs = search needs

@@ -1,0 +1,109 @@
+-- What a load chooses on a sound run: the delivery of a message held, a tick where none is overdue, or settling; each has a line. Assumes nothing.
+use mathlib.Core.Path.{_≡_, refl, sym, ap, subst}
+use mathlib.Core.Bool.{false, not, _&&_, _||_}
+use mathlib.Core.List.{List}
+use Prim.Native.Nat.{ℕ, _/_, _%_, _≤_, _<_}
+use native.Mathlib.Omega.{arith}
+use native.Mathlib.Nat.{mod-lt}
+use lib.Dec.{T, eqb, ltb, ltb→lt, T-not}
+use lib.ListN.{length}
+use borrow.Author.Tests.{lt-ltb}
+use Rattle.base.specs.Scan.{some, first}
+use Rattle.base.specs.ScanLaws.{first-some}
+use Rattle.base.specs.Tests.{T-and, T-right, T-false, eq→eqb, by-cond}
+use Rattle.types.specs.declared.Plan.{Plan}
+use Rattle.types.specs.declared.Message.{Message}
+use Rattle.types.specs.declared.Event.{Event}
+use Rattle.types.specs.declared.Event.the-variants.{Deliver, Settle, Tick}
+use Rattle.types.specs.Quantities.{viewsLeast, viewsMost, messageWords, turnStart}
+use Rattle.types.specs.Messages.{kindOf, viewIn, processorIn}
+use Rattle.model.specs.State.{State, kindAt, viewAt, processorAt, capacity}
+use Rattle.model.specs.Checks.{nOutside, delaysOutside, viewsOutside, planOutside, faultyOutside, buffersOutside, limitsBroken, isAt, timeUnsound, overdueAt, overdue}
+use Rattle.buffers.specs.declared.Stored.the-variants.{Holds}
+use Rattle.buffers.specs.Kinds.{stored}
+use Rattle.buffers.proofs.Storing.{stored-back}
+use Rattle.liveness.proofs.Judging.{neither, not-ltb}
+use Rattle.liveness.proofs.Flight.{Shows, shown-at}
+use Rattle.liveness.proofs.Link.{wire-length}
+use Rattle.liveness.proofs.Soundness.{SoundRun}
+use Rattle.liveness.proofs.Addressing.{Addressed}
+use Rattle.liveness.proofs.Carrying.{Carried, carried-of, carried-planned}
+use Rattle.lines.specs.Forms.{eventForm, EventLine}
+use Rattle.loads.specs.declared.Turn.{Turn}
+use Rattle.loads.specs.Draws.{nextSeed, draw}
+use Rattle.loads.specs.Loads.{Point, deliveryOf, delivery, refusedOverdue, ticking, delivers, chosen, stepTurn, settleDue, settleTurn, turn}
+
+-- the view limit of a run that passed check 9
+views-low : (s : State) → (T (limitsBroken s) → ⊥) → s .run .plan .views ≤ viewsMost
+views-low s no' =
+    let p : Plan = s .run .plan in
+    let l = neither (planOutside p || faultyOutside p (s .run .faulty)) (buffersOutside p (s .tally) (s .network)) no' in
+    let f = neither (planOutside p) (faultyOutside p (s .run .faulty)) (l .0) in
+    let v = neither (nOutside p || delaysOutside p) (viewsOutside p) (f .0) in
+    let m = neither (ltb (p .views) viewsLeast || ltb viewsMost (p .views)) (not (turnStart p (p .views))) (v .1) in
+    not-ltb _ _ (neither (ltb (p .views) viewsLeast) (ltb viewsMost (p .views)) (m .0) .1)
+
+-- ---- of a sound run
+
+module _ (s : State) (sound : SoundRun s) where
+  carried : Carried s
+  carried = carried-of s sound
+
+  -- what stands at a place within the messages held is a message, which names a view and a processor that there are
+  pub record Held (i : ℕ) : Type 0 where
+    pub message : Message
+    pub stored-as : stored (s .network) i ≡ Holds message
+    pub shows : T (isAt (s .network) message i)
+    pub addressed : Addressed (s .run .plan) (s .run .faulty) message
+
+  pub held : (i : ℕ) → i < s .run .held → Held i
+  held i l =
+      let x = carried in
+      let a = shown-at (x .messages) (x .wire .spare) i (omega (arith, x .wire .number)) in
+      let m : Message = a .0 .message in
+      let e : Shows (s .network) i (a .0) = subst (λ (ws : List ℕ). Shows ws i (a .0)) (sym (x .wire .words)) (a .2) in
+      let fits : i < length (s .network) / messageWords = omega (arith, wire-length (x .wire)) in
+      record {
+        message = m;
+        stored-as = rw (lt-ltb i (capacity (s .network)) fits, e .kind, e .view, e .processor) (stored-back m);
+        shows = T-and (eqb (kindAt (s .network) i) (kindOf m) && eqb (viewAt (s .network) i) (viewIn m)) (eqb (processorAt (s .network) i) (processorIn m))
+            (T-and (eqb (kindAt (s .network) i) (kindOf m)) (eqb (viewAt (s .network) i) (viewIn m)) (eq→eqb _ _ (e .kind)) (eq→eqb _ _ (e .view)))
+            (eq→eqb _ _ (e .processor));
+        addressed = x .fine (a .0) (a .1) .0;
+      }
+
+  pub held-delivery : (i : ℕ) (l : i < s .run .held) → delivery s i ≡ Deliver (held i l .message)
+  held-delivery i l = ap deliveryOf (held i l .stored-as)
+
+  message-line : (m : Message) → Addressed (s .run .plan) (s .run .faulty) m → EventLine (eventForm (Deliver m)) (Deliver m)
+  message-line m a =
+      let v = views-low s (sound .limits) in
+      let n = carried-planned s carried .n-most in
+      record { formed = refl; below = (omega (arith, a .view-low), (omega (arith, a .processor-low), tt)); bytes = refl }
+
+-- what holds of the delivery of each message held, and of a tick where none is overdue, holds of what is chosen
+pub by-chosen : (Q : Event → Type 0) (x : Point) → ((i : ℕ) → i < x .state .run .held → Q (delivery (x .state) i)) → (refusedOverdue (x .state) ≡ false → Q (Tick 1)) → Q (chosen x)
+unfolding chosen ticking overdue
+by-chosen Q x at tick =
+    let s : State = x .state in
+    let d : ℕ = draw (nextSeed (nextSeed (x .seed))) in
+    by-cond Q (delivers x) (delivery s (d % s .run .held)) (ticking s)
+    (λ t. let l : 0 < s .run .held = ltb→lt _ _ (T-right (ltb (draw (nextSeed (x .seed)) % 4) 2) (ltb 0 (s .run .held)) t) in at (d % s .run .held) (mod-lt d l))
+    (λ t. by-cond Q (refusedOverdue s) (delivery s (first (overdueAt s) (s .run .held))) (Tick 1)
+    (λ o. at (first (overdueAt s) (s .run .held)) (first-some (overdueAt s) (s .run .held)
+    (T-right (s .run .settled) (some (overdueAt s) (s .run .held)) (T-right (not (timeUnsound s)) (overdue s) o))))
+    (λ o. tick (T-false (refusedOverdue s) o)))
+
+-- and with settling, of what a load does next
+pub by-turn : (Q : Event → Type 0) (settle : ℕ) (x : Point) → ((i : ℕ) → i < x .state .run .held → Q (delivery (x .state) i)) → (refusedOverdue (x .state) ≡ false → Q (Tick 1))
+    → ((T (x .state .run .settled) → ⊥) → Q Settle) → Q (turn settle x .event)
+unfolding turn
+by-turn Q settle x at tick due = by-cond (λ (k : Turn). Q (k .event)) (settleDue settle x) (settleTurn x) (stepTurn x)
+    (λ t. due (T-not (x .state .run .settled) (T-right (eqb (x .step) settle) (not (x .state .run .settled)) t))) (λ t. by-chosen Q x at tick)
+
+pub turn-line : (settle : ℕ) (x : Point) → SoundRun (x .state) → EventLine (eventForm (turn settle x .event)) (turn settle x .event)
+turn-line settle x sound = by-turn (λ (e : Event). EventLine (eventForm e) e) settle x
+    (λ i l. subst (λ (e : Event). EventLine (eventForm e) e) (sym (held-delivery (x .state) sound i l))
+    (message-line (x .state) sound (held (x .state) sound i l .message) (held (x .state) sound i l .addressed)))
+    (λ o. record { formed = refl; below = (omega arith, tt); bytes = refl })
+    (λ u. record { formed = refl; below = tt; bytes = refl })

@@ -5,18 +5,18 @@
  *
  * Numbers are 64-bit. Memory is lent as a pointer and how many elements there are; nothing is kept between calls and nothing is
  * allocated. The caller sees to this: each pointer is aligned for its elements and points to as many initialised ones as its length
- * says, and is not NULL even where the length is 0; what is lent to one call does not overlap, what is only read included; and
- * nobody else writes it meanwhile. Beyond that every function takes any words, any lengths and any numbers.
+ * says, and is not NULL even where the length is 0; no two of the parts lent to one call overlap, unless the call only reads both;
+ * and nobody else writes any of them meanwhile. Beyond that every function takes any words, any lengths and any numbers.
  *
- * Open, apply, step, read and generate answer a check's number where they refuse; `fever_write_event` and `fever_write_setup` answer 0
- * for check 1, the only one that they make; and a call that refuses has changed nothing that was lent. A run of ticks that is stopped
- * answers the check that ended it, and the ticks before are done. Events applied together are answered each in its own words, refused
- * or not; that call itself refuses only where the words lent are those of no run. The contracts are in crates/fever/specs: those for
- * loads in Loads.antt, the others in Contracts.antt, the layouts in Layout.antt, and what is promised of calls in a row and of what
- * they answer in Promises.antt.
+ * Open, apply, step, read, generate and traffic answer a check's number where they refuse; `fever_write_event` and
+ * `fever_write_setup` answer 0 for check 1, the only one that they make; and a call that refuses has changed nothing that was lent. A
+ * run of ticks that is stopped answers the check that ended it, and the ticks before are done. Events applied together are answered
+ * each in its own words, refused or not; that call itself refuses only where the words lent are those of no run. The contracts are in
+ * crates/fever/specs: those for loads in Loads.antt, that of traffic in Traffic.antt, the others in Contracts.antt, the layouts in
+ * Layout.antt, and what is promised of calls in a row and of what they answer in Promises.antt.
  *
  * The checks: 1 no such form, or too few elements lent; 2 to 8 refuse an opening; 9 to 18 an event; one processor uses 9, 10, 11 and
- * 17. The README lists them.
+ * 17, a report of traffic 1 and 9. The README lists them.
  */
 #ifndef FEVER_H
 #define FEVER_H
@@ -30,18 +30,21 @@ extern "C" {
 
 /* ---- a run: the execution so far, without the two lent buffers */
 
-#define FEVER_RUN_WORDS 137
-#define FEVER_RUN_N 0        /* n, the processors */
-#define FEVER_RUN_DELTA 1    /* the delay */
-#define FEVER_RUN_GAMMA 2    /* the slot */
-#define FEVER_RUN_LIMIT 3    /* V, the view limit */
-#define FEVER_RUN_FAULTY 4   /* the faulty processors, bit p for processor p */
-#define FEVER_RUN_TIME 5     /* the ticks since the opening */
-#define FEVER_RUN_SETTLED 6  /* 1 once the network has settled, else 0 */
-#define FEVER_RUN_GST 7      /* when it settled, else 0 */
-#define FEVER_RUN_HELD 8     /* the messages in the network */
-#define FEVER_RUN_CLOCKS 9   /* 64 clocks, by processor */
-#define FEVER_RUN_VIEWS 73   /* 64 views, by processor */
+#define FEVER_RUN_WORDS 146
+#define FEVER_RUN_N 0           /* n, the processors */
+#define FEVER_RUN_DELTA 1       /* the delay */
+#define FEVER_RUN_GAMMA 2       /* the slot */
+#define FEVER_RUN_LIMIT 3       /* V, the view limit */
+#define FEVER_RUN_FAULTY 4      /* the faulty processors, bit p for processor p */
+#define FEVER_RUN_TIME 5        /* the ticks since the opening */
+#define FEVER_RUN_SETTLED 6     /* 1 once the network has settled, else 0 */
+#define FEVER_RUN_GST 7         /* when it settled, else 0 */
+#define FEVER_RUN_HELD 8        /* the messages in the network */
+#define FEVER_RUN_CLOCKS 9      /* 64 clocks, by processor */
+#define FEVER_RUN_VIEWS 73      /* 64 views, by processor */
+#define FEVER_RUN_SENT 137      /* four words, by kind from 1 to 4: the messages posted since the opening */
+#define FEVER_RUN_DELIVERED 141 /* four words, by kind: those delivered */
+#define FEVER_RUN_WAITS 145     /* the sum of the times that these were in flight */
 
 /* ---- a setup: what a run is opened with */
 
@@ -81,15 +84,15 @@ extern "C" {
 #define FEVER_QC 4   /* a quorum certificate */
 
 /*
- * Opens a run. Answers 0, or the check that refuses: 1 where the setup has fewer than 69 words or the run fewer than 137, else 2
- * to 8. Opened: the run's 137 words are the new run's, the first 4V words of the tally and the whole network are set anew. Refused:
+ * Opens a run. Answers 0, or the check that refuses: 1 where the setup has fewer than 69 words or the run fewer than 146, else 2
+ * to 8. Opened: the run's 146 words are the new run's, the first 4V words of the tally and the whole network are set anew. Refused:
  * nothing has changed. The run at hand is not judged: its words may hold anything.
  */
 uint64_t fever_open(const uint64_t *setup, size_t setup_len, uint64_t *run, size_t run_len, uint64_t *tally, size_t tally_len,
                     uint64_t *network, size_t network_len);
 
 /*
- * Applies an event. Answers 0 where it was done, else a check: 1 where the run has fewer than 137 words, the four numbers are no
+ * Applies an event. Answers 0 where it was done, else a check: 1 where the run has fewer than 146 words, the four numbers are no
  * event, there are 0 ticks or the form lacks the kind; 9 where the run is unsound, a settled word above 1 among it; or 10 to 18.
  *
  * Ticks may be stopped after some of them were done: the answer is then the check that the next tick would meet, and the run has
@@ -120,7 +123,7 @@ uint64_t fever_apply(uint64_t *run, size_t run_len, uint64_t form, uint64_t kind
  * Up to three words behind the last whole event stay as they are. Whether the run is sound is looked at in full once a call, so
  * events together cost less than one by one.
  *
- * Answers 0; or 1 where the run has fewer than 137 words, 9 where the settled word is above 1, and nothing that was lent has
+ * Answers 0; or 1 where the run has fewer than 146 words, 9 where the settled word is above 1, and nothing that was lent has
  * changed, the words of the events included.
  */
 uint64_t fever_apply_all(uint64_t *run, size_t run_len, uint64_t *tally, size_t tally_len, uint64_t *network, size_t network_len,
@@ -200,7 +203,7 @@ uint64_t fever_write_setup(const uint64_t *setup, size_t setup_len, uint8_t *out
  * the last newline are untouched. Where the bytes are too few for the first line, the run is not opened: no byte is written, the load is
  * full, and a load begins anew by this call, with more of them.
  *
- * Answers 0; or 1 where the setup has fewer than 69 words, the run fewer than 137 or the load fewer than 6, else the check, 2 to 8, that
+ * Answers 0; or 1 where the setup has fewer than 69 words, the run fewer than 146 or the load fewer than 6, else the check, 2 to 8, that
  * refuses the opening; and then nothing that was lent has changed.
  */
 uint64_t fever_generate(const uint64_t *setup, size_t setup_len, uint64_t *run, size_t run_len, uint64_t *tally, size_t tally_len,
@@ -212,11 +215,30 @@ uint64_t fever_generate(const uint64_t *setup, size_t setup_len, uint64_t *run, 
  * line that had no room may turn out to be that of an event that a check refuses; and 1,440 bytes hold every line: a call that is
  * lent as many and writes none has ended the load.
  *
- * Answers 0; or 1 where the run has fewer than 137 words or the load fewer than 6; 9 where the run is unsound but for its time, a settled
+ * Answers 0; or 1 where the run has fewer than 146 words or the load fewer than 6; 9 where the run is unsound but for its time, a settled
  * word above 1 among it; and then nothing that was lent has changed.
  */
 uint64_t fever_generate_more(uint64_t *run, size_t run_len, uint64_t *tally, size_t tally_len, uint64_t *network, size_t network_len,
                              uint64_t *load, size_t load_len, uint8_t *out, size_t out_len);
+
+/* ---- traffic: how much the processors of a run have sent, and how much of it has arrived */
+
+/* a word for each kind: view messages, votes, view certificates, quorum certificates */
+#define FEVER_TRAFFIC_WORDS 13
+#define FEVER_TRAFFIC_SENT 0      /* posted since the opening; messages to faulty processors are not */
+#define FEVER_TRAFFIC_DELIVERED 4 /* delivered since the opening */
+#define FEVER_TRAFFIC_HELD 8      /* in the network now, counted there */
+#define FEVER_TRAFFIC_WAITS 12    /* one word: the sum of delivery less sending time over the delivered ones */
+
+/*
+ * Tells the traffic of a run. Of a run that was opened here and moved by events only, sent is delivered plus held, kind by kind, and no
+ * sum has wrapped. In a run handed in the sums, words 137 to 145, may hold anything: no check looks at them, and they wrap at 2^64.
+ *
+ * Answers 0, and the first 13 words are set; or 1 where the run has fewer than 146 words or fewer than 13 are lent for the report, 9
+ * where the run is unsound, a settled word above 1 among it; and then no word has changed.
+ */
+uint64_t fever_traffic(const uint64_t *run, size_t run_len, const uint64_t *tally, size_t tally_len, const uint64_t *network,
+                       size_t network_len, uint64_t *report, size_t report_len);
 
 #ifdef __cplusplus
 }

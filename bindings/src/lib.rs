@@ -3,10 +3,11 @@
 //! A run is opened from a [`Setup`] and moved by one [`Event`] after the other, alone or many in a call; tally and network are lent
 //! by the caller. [`step`] moves one [`Processor`] alone. Lines of a schedule are read and written by [`read_line`], [`write_event`]
 //! and [`write_setup`]. [`generate`] writes a whole schedule that a seed chooses, and [`generate_more`] goes on with it.
+//! [`Run::traffic`] reports how many messages of each kind a run has sent, delivered and holds.
 //!
-//! [`open`], [`apply`], [`apply_all`], [`step`], [`generate`] and [`generate_more`] name the first check whose sentence holds where
-//! they refuse, [`read_line`] and the two that write a line answer `None`; what is refused has changed nothing. A run of ticks that is stopped names the check that ended
-//! it and the ticks done.
+//! [`open`], [`apply`], [`apply_all`], [`step`], [`generate`], [`generate_more`] and [`Run::traffic`] name the first check whose
+//! sentence holds where they refuse, [`read_line`] and the two that write a line answer `None`; what is refused has changed nothing. A
+//! run of ticks that is stopped names the check that ended it and the ticks done.
 //!
 //! ```
 //! use fever::{apply, apply_all, open, Answer, Event, Plan, Run, Setup};
@@ -23,6 +24,8 @@
 //! assert_eq!(answers[0], Answer::Done { ticks: 0, held: 8 });
 //! assert_eq!(answers[1], Answer::Stopped { ticks: 2, held: 8, check: 16 });
 //! assert_eq!(answers[2], Answer::Refused(15));
+//! let report = run.traffic(&tally, &network).expect("the run is sound");
+//! assert_eq!((report.sent.vote, report.delivered.vote, report.held.all()), (4, 0, 8));
 //! ```
 //!
 //! The functions of [`raw`] are those of the archive, over plain words.
@@ -39,9 +42,11 @@ pub mod raw;
 mod runs;
 #[cfg(test)]
 mod tests;
+mod traffic;
 
 pub use events::{Event, Kind, Message};
 pub use lines::{read_line, write_event, write_setup, Line};
 pub use loads::{generate, generate_more, Generated, Load};
 pub use processors::{step, Input, Processor, Sends, Stepped};
 pub use runs::{apply, apply_all, open, Answer, Plan, Run, Setup};
+pub use traffic::{Counts, Traffic};

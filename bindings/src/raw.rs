@@ -2,9 +2,33 @@
 //! numbers.
 
 /// The words of a run; words behind them are never touched.
-pub const RUN_WORDS: usize = 137;
+pub const RUN_WORDS: usize = 146;
+/// Where a run has its faulty processors, bit p for processor p.
+pub const RUN_FAULTY: usize = 4;
+/// Where a run has the ticks since the opening.
+pub const RUN_TIME: usize = 5;
+/// Where a run has 1 once the network has settled, else 0.
+pub const RUN_SETTLED: usize = 6;
+/// Where a run has when it settled, else 0.
+pub const RUN_GST: usize = 7;
+/// Where a run has how many messages are in the network.
+pub const RUN_HELD: usize = 8;
+/// Where a run has its 64 clocks, by processor.
+pub const RUN_CLOCKS: usize = 9;
+/// Where a run has its 64 views, by processor.
+pub const RUN_VIEWS: usize = 73;
+/// Where a run has how many messages were posted since the opening: four words, by kind from 1 to 4.
+pub const RUN_SENT: usize = 137;
+/// Where a run has how many were delivered: four words, by kind.
+pub const RUN_DELIVERED: usize = 141;
+/// Where a run has the sum of the times that these were in flight.
+pub const RUN_WAITS: usize = 145;
 /// The words of a setup.
 pub const SETUP_WORDS: usize = 69;
+/// Where a setup has its faulty processors, bit p for processor p.
+pub const SETUP_FAULTY: usize = 4;
+/// Where a setup has its 64 start clocks.
+pub const SETUP_CLOCKS: usize = 5;
 /// The words of an event in a list, and of the answer that takes their place.
 pub const EVENT_WORDS: usize = 4;
 /// The words of one processor's record.
@@ -13,109 +37,30 @@ pub const PROCESSOR_WORDS: usize = 4;
 pub const READING_WORDS: usize = 73;
 /// The words of a load: steps, settling step, seed, the next step, bytes written, whether the bytes were too few.
 pub const LOAD_WORDS: usize = 6;
+/// The words of a report of a run's traffic: messages sent, delivered and held, four by kind each, and the sum of waits.
+pub const TRAFFIC_WORDS: usize = 13;
+/// Where a report has the messages posted since the opening, by kind.
+pub const TRAFFIC_SENT: usize = 0;
+/// Where a report has those delivered, by kind.
+pub const TRAFFIC_DELIVERED: usize = 4;
+/// Where a report has those in the network now, by kind.
+pub const TRAFFIC_HELD: usize = 8;
+/// Where a report has the sum of waits.
+pub const TRAFFIC_WAITS: usize = 12;
+/// The kinds of messages: a word for each of them.
+pub const KINDS: usize = 4;
 /// The clocks or views of a table.
 pub const TABLE: usize = 64;
 /// No line of an event or a setup has more bytes, its newline included.
 pub const LINE_BYTES: usize = 1440;
 
-mod archive {
-    extern "C" {
-        pub fn fever_open(
-            setup: *const u64,
-            setup_len: usize,
-            run: *mut u64,
-            run_len: usize,
-            tally: *mut u64,
-            tally_len: usize,
-            network: *mut u64,
-            network_len: usize,
-        ) -> u64;
-        pub fn fever_apply(
-            run: *mut u64,
-            run_len: usize,
-            form: u64,
-            kind: u64,
-            view: u64,
-            processor: u64,
-            tally: *mut u64,
-            tally_len: usize,
-            network: *mut u64,
-            network_len: usize,
-        ) -> u64;
-        pub fn fever_apply_all(
-            run: *mut u64,
-            run_len: usize,
-            tally: *mut u64,
-            tally_len: usize,
-            network: *mut u64,
-            network_len: usize,
-            events: *mut u64,
-            events_len: usize,
-        ) -> u64;
-        pub fn fever_step(
-            n: u64,
-            delta: u64,
-            gamma: u64,
-            views: u64,
-            processor: *mut u64,
-            processor_len: usize,
-            input: u64,
-            view: u64,
-        ) -> u64;
-        pub fn fever_read_line(
-            line: *const u8,
-            line_len: usize,
-            words: *mut u64,
-            words_len: usize,
-        ) -> u64;
-        pub fn fever_write_event(
-            form: u64,
-            kind: u64,
-            view: u64,
-            processor: u64,
-            out: *mut u8,
-            out_len: usize,
-        ) -> u64;
-        pub fn fever_write_setup(
-            setup: *const u64,
-            setup_len: usize,
-            out: *mut u8,
-            out_len: usize,
-        ) -> u64;
-        pub fn fever_generate(
-            setup: *const u64,
-            setup_len: usize,
-            run: *mut u64,
-            run_len: usize,
-            tally: *mut u64,
-            tally_len: usize,
-            network: *mut u64,
-            network_len: usize,
-            load: *mut u64,
-            load_len: usize,
-            out: *mut u8,
-            out_len: usize,
-        ) -> u64;
-        pub fn fever_generate_more(
-            run: *mut u64,
-            run_len: usize,
-            tally: *mut u64,
-            tally_len: usize,
-            network: *mut u64,
-            network_len: usize,
-            load: *mut u64,
-            load_len: usize,
-            out: *mut u8,
-            out_len: usize,
-        ) -> u64;
-    }
-}
+mod archive;
 
 /// `fever_open`: 0, or the check that refuses the setup.
 pub fn open(setup: &[u64], run: &mut [u64], tally: &mut [u64], network: &mut [u64]) -> u64 {
-    // SAFETY: each pointer and length are those of a slice that lives through the call; no two slices overlap where one is `&mut`,
-    // and at most one is not; an empty slice's pointer is aligned and not null, and is not followed; the function stays within the
-    // lengths and keeps no pointer.
+    // SAFETY: each pointer and length are those of a slice that is borrowed through the call, so that nobody else writes it
+    // meanwhile; a `&mut` slice overlaps no other, so that two parts overlap only where the call reads both and writes neither; an
+    // empty slice's pointer is aligned and not null, and is not followed; the function stays within the lengths and keeps no pointer.
     unsafe {
         archive::fever_open(
             setup.as_ptr(),
@@ -190,8 +135,7 @@ pub fn step(
     input: u64,
     view: u64,
 ) -> u64 {
-    // SAFETY: pointer and length are those of a slice that lives through the call and overlaps no other, being `&mut`; an empty
-    // slice's pointer is aligned and not null, and is not followed; the function stays within the length and keeps no pointer.
+    // SAFETY: as in `open`.
     unsafe {
         archive::fever_step(
             n,
@@ -214,7 +158,7 @@ pub fn read_line(line: &[u8], words: &mut [u64]) -> u64 {
 
 /// `fever_write_event`: the bytes written, newline included, or 0.
 pub fn write_event(form: u64, kind: u64, view: u64, processor: u64, out: &mut [u8]) -> u64 {
-    // SAFETY: as in `step`.
+    // SAFETY: as in `open`.
     unsafe { archive::fever_write_event(form, kind, view, processor, out.as_mut_ptr(), out.len()) }
 }
 
@@ -275,6 +219,24 @@ pub fn generate_more(
             load.len(),
             out.as_mut_ptr(),
             out.len(),
+        )
+    }
+}
+
+/// `fever_traffic`: 0, and the report stands in its first 13 words; else no word has changed: 1 where run or report have too few, 9
+/// where the run is unsound.
+pub fn traffic(run: &[u64], tally: &[u64], network: &[u64], report: &mut [u64]) -> u64 {
+    // SAFETY: as in `open`; run, tally and network are only read, and may overlap each other.
+    unsafe {
+        archive::fever_traffic(
+            run.as_ptr(),
+            run.len(),
+            tally.as_ptr(),
+            tally.len(),
+            network.as_ptr(),
+            network.len(),
+            report.as_mut_ptr(),
+            report.len(),
         )
     }
 }

@@ -41,23 +41,25 @@ impl Setup {
     pub fn words(&self) -> [u64; raw::SETUP_WORDS] {
         let mut words = [0; raw::SETUP_WORDS];
         let plan = self.plan;
-        words[..5].copy_from_slice(&[plan.n, plan.delta, plan.gamma, plan.views, self.faulty]);
-        words[5..].copy_from_slice(&self.clocks);
+        let front = [plan.n, plan.delta, plan.gamma, plan.views, self.faulty];
+        words[..raw::SETUP_CLOCKS].copy_from_slice(&front);
+        words[raw::SETUP_CLOCKS..].copy_from_slice(&self.clocks);
         words
     }
 
     /// The setup of such words.
     pub fn from_words(words: &[u64; raw::SETUP_WORDS]) -> Setup {
         let mut clocks = [0; raw::TABLE];
-        clocks.copy_from_slice(&words[5..]);
+        clocks.copy_from_slice(&words[raw::SETUP_CLOCKS..]);
         Setup {
             plan: plan_in(words),
-            faulty: words[4],
+            faulty: words[raw::SETUP_FAULTY],
             clocks,
         }
     }
 }
 
+/// The plan that the words of a setup and of a run begin with.
 fn plan_in(words: &[u64]) -> Plan {
     Plan {
         n: words[0],
@@ -67,7 +69,7 @@ fn plan_in(words: &[u64]) -> Plan {
     }
 }
 
-/// The execution so far, without the lent buffers, as the archive's 137 words.
+/// The execution so far, without the lent buffers, as the archive's 146 words.
 #[derive(Clone, Debug, PartialEq, Eq, Hash)]
 pub struct Run([u64; raw::RUN_WORDS]);
 
@@ -99,42 +101,48 @@ impl Run {
 
     /// The processors.
     pub fn n(&self) -> u64 {
-        self.0[0]
+        self.plan().n
     }
 
     /// The faulty processors, bit p for processor p.
     pub fn faulty(&self) -> u64 {
-        self.0[4]
+        self.0[raw::RUN_FAULTY]
     }
 
     /// The ticks since the opening.
     pub fn time(&self) -> u64 {
-        self.0[5]
+        self.0[raw::RUN_TIME]
     }
 
     /// Whether the network has settled.
     pub fn settled(&self) -> bool {
-        self.0[6] == 1
+        self.0[raw::RUN_SETTLED] == 1
     }
 
     /// When it settled; 0 before.
     pub fn gst(&self) -> u64 {
-        self.0[7]
+        self.0[raw::RUN_GST]
     }
 
     /// The messages in the network.
     pub fn held(&self) -> u64 {
-        self.0[8]
+        self.0[raw::RUN_HELD]
     }
 
     /// The clock of a processor; 0 from 64 on.
     pub fn clock(&self, processor: usize) -> u64 {
-        self.0[9..73].get(processor).copied().unwrap_or(0)
+        self.in_table(raw::RUN_CLOCKS, processor)
     }
 
     /// The view of a processor; 0 from 64 on.
     pub fn view(&self, processor: usize) -> u64 {
-        self.0[73..].get(processor).copied().unwrap_or(0)
+        self.in_table(raw::RUN_VIEWS, processor)
+    }
+
+    /// What the table from a place on has for a processor; 0 from 64 on.
+    fn in_table(&self, from: usize, processor: usize) -> u64 {
+        let table = &self.0[from..from + raw::TABLE];
+        table.get(processor).copied().unwrap_or(0)
     }
 }
 

@@ -1,59 +1,87 @@
-//! The comparison through the program: whole schedules as text, printouts
-//! byte for byte, and demand 3 of the same events.
+//! The comparison through the programs that read schedules: whole schedules as
+//! text, printouts and reports byte for byte, demand 3 and the history of the
+//! same events.
 
 use crate::counts::Counts;
 use crate::damage;
 use crate::difference::{first_line, Difference};
 use crate::draws::Draws;
 use crate::pending;
-use crate::program::{self, Printout};
-use crate::reference_calls::guarded;
+use crate::readers::{compare_one, compare_report, shown_by, Readers};
+use crate::report;
 use crate::schedules;
-use crate::shorten::shorten;
 use crate::trace::{Complaint, Trace};
-use reference::simulate;
-use std::io;
 use std::mem;
-use std::path::Path;
 
 /// Drawn schedules of one round, besides those of other sorts.
 const DRAWN: u64 = 24;
 /// How many in a thousand schedules end their input. Clocks and views are
 /// printed at the end of an input only, so many of them are compared.
 const ENDING: u64 = 400;
+/// Inputs of one round that open nothing.
+const UNOPENED: u64 = 2;
 /// The sizes of the pieces in which inputs are handed over.
 const PIECES: [usize; 5] = [1 << 20, 65_536, 65_535, 4_801, 997];
 
 /// Compares so many rounds of inputs, each of one or more schedules. A later
 /// opening begins a new run, so one process answers all of an input.
-pub fn compare(program: &Path, seed: u64, rounds: u64) -> Result<Counts, Difference> {
+pub fn compare(readers: Readers, seed: u64, rounds: u64) -> Result<Counts, Difference> {
     let mut draws = Draws::new(seed);
     let mut counts = Counts::default();
     for round in 0..rounds {
         let mut drawn = draws.branch();
         for trace in inputs(&mut drawn, round) {
-            uncomplained(&trace)?;
             let piece = drawn.one_of(&PIECES);
             pending::leave("last.schedule", trace.text());
-            compare_one(program, trace.text(), piece)?;
+            compare_both(readers, &trace, piece)?;
             counts.add(trace.counts());
+            let openings = trace.counts().lists;
+            counts.traffic.printed(trace.traffic().as_ref(), openings);
         }
     }
     Ok(counts)
 }
 
 /// Compares one input, handed over in pieces of each size, and watches it.
-pub fn replay(program: &Path, input: &[u8]) -> Result<(), Difference> {
-    uncomplained(&Trace::of(input))?;
+pub fn replay(readers: Readers, input: &[u8]) -> Result<(), Difference> {
+    let trace = Trace::of(input);
     PIECES
         .into_iter()
-        .try_for_each(|piece| compare_one(program, input, piece))
+        .try_for_each(|piece| compare_both(readers, &trace, piece))
+}
+
+/// Compares the printouts and the reports of an input, and the report with what
+/// its history tells.
+fn compare_both(readers: Readers, trace: &Trace, piece: usize) -> Result<(), Difference> {
+    uncomplained(trace)?;
+    compare_one(readers.simulator, trace.text(), piece)?;
+    let report = compare_report(readers.reporter, trace.text(), piece)?;
+    told_by_history(trace, &report)
+}
+
+/// Whether a report has the lines that the history of its input tells.
+fn told_by_history(trace: &Trace, report: &[u8]) -> Result<(), Difference> {
+    let told = trace.traffic().as_ref().map(report::lines);
+    match first_line(report, "history", told.unwrap_or_default().as_bytes()) {
+        None => Ok(()),
+        Some((line, apart)) => {
+            let what = format!("a report told again differs: line {}\n{apart}", line + 1);
+            Err(shown_by(trace.text(), what))
+        }
+    }
 }
 
 /// The inputs of one round.
 fn inputs(draws: &mut Draws, round: u64) -> Vec<Trace> {
     let mut inputs = Vec::new();
     let mut trace = Trace::new();
+    for _ in 0..UNOPENED {
+        for _ in 0..draws.below(12) {
+            schedules::disturb(&mut trace, draws);
+        }
+        end(&mut trace, draws);
+        inputs.push(mem::take(&mut trace));
+    }
     // Before any opening, every event is refused by 9.
     for _ in 0..draws.below(4) {
         schedules::disturb(&mut trace, draws);
@@ -98,61 +126,6 @@ fn end(trace: &mut Trace, draws: &mut Draws) {
     trace.end(&bytes);
 }
 
-/// Compares the printouts of one input. An input on which the program hangs is
-/// kept whole, since it would be waited for with every shorter one.
-pub fn compare_one(program: &Path, input: &[u8], piece: usize) -> Result<(), Difference> {
-    let (what, contents) = match differs(program, input, piece) {
-        Ok(None) => return Ok(()),
-        Ok(Some(what)) => shortened(program, input, piece, what),
-        Err(error) => (error.to_string(), input.to_vec()),
-    };
-    Err(Difference {
-        what: format!("printouts differ: {what}"),
-        name: "difference.schedule".to_owned(),
-        contents,
-    })
-}
-
-/// What differs, and in which line, if in one.
-type Apart = (String, Option<usize>);
-
-/// A shorter input whose printouts differ, behind what differs there.
-fn shortened(program: &Path, input: &[u8], piece: usize, what: Apart) -> (String, Vec<u8>) {
-    let shows = |input: &[u8]| matches!(differs(program, input, piece), Ok(Some(_)));
-    let cut = what.1.map_or(input.len(), |line| end_of_line(input, line));
-    // What comes behind the first line that differs may be needed all the same.
-    let alone = shows(&input[..cut]);
-    let lines: Vec<&[u8]> = input[..if alone { cut } else { input.len() }]
-        .split_inclusive(|&byte| byte == b'\n')
-        .collect();
-    let contents = shorten(lines, 600, |lines| shows(&lines.concat())).concat();
-    let shorter = differs(program, &contents, piece).ok().flatten();
-    (shorter.unwrap_or(what).0, contents)
-}
-
-/// What differs in the printouts of an input.
-fn differs(program: &Path, input: &[u8], piece: usize) -> io::Result<Option<Apart>> {
-    let Printout { bytes, failure } = program::run(program, input, piece)?;
-    let Some(expected) = guarded(|| simulate(input)) else {
-        return Ok(Some(("the reference panicked".to_owned(), None)));
-    };
-    let (line, told) = match first_line(&bytes, &expected) {
-        Some(difference) => difference,
-        None => return Ok(failure.map(|failure| (failure, None))),
-    };
-    let failure = failure.map_or_else(String::new, |failure| format!(" ({failure})"));
-    let what = format!("line {}\n{told}{failure}", line + 1);
-    Ok(Some((what, Some(line))))
-}
-
-/// Where a line of an input, counted from 0, ends.
-fn end_of_line(input: &[u8], line: usize) -> usize {
-    let mut newlines = input.iter().enumerate().filter(|(_, byte)| **byte == b'\n');
-    newlines
-        .nth(line)
-        .map_or(input.len(), |(place, _)| place + 1)
-}
-
 /// The difference that a trace's complaint is, if it has one.
 fn uncomplained(trace: &Trace) -> Result<(), Difference> {
     let Some(Complaint { shown_by, what }) = trace.complaint() else {
@@ -175,19 +148,27 @@ mod tests {
     use super::*;
 
     #[test]
-    fn lines_end_where_their_newlines_are() {
-        assert_eq!(end_of_line(b"ab\nc\nd", 0), 3);
-        assert_eq!(end_of_line(b"ab\nc\nd", 1), 5);
-        assert_eq!(end_of_line(b"ab\nc\nd", 2), 6);
+    fn a_report_of_another_history_is_found_out() {
+        let trace = Trace::of(b"(open 4 2 4 6 0 (0 0 0 0))\n(tick 1)\n(deliver (vote 0 1))\n");
+        let good = trace.traffic().expect("a run is open");
+        let judged = |report: &str| told_by_history(&trace, report.as_bytes());
+        assert!(judged(&report::lines(&good)).is_ok());
+        let mut other = good;
+        (other.sums.sent[2], other.held[2]) = (1, 1);
+        let difference = judged(&report::lines(&other)).expect_err("none was sent");
+        let told = "line 3\nproved: (traffic vc 1 0 1)\nhistory: (traffic vc 0 0 0)";
+        assert!(difference.what.contains(told), "{}", difference.what);
+        assert_eq!(difference.contents, trace.text());
+        assert!(judged("").is_err());
+        assert!(told_by_history(&Trace::of(b"(settle)\n"), b"").is_ok());
     }
 
     #[test]
-    fn another_program_is_found_out_and_its_schedule_shortened() {
-        let input = b"(settle)\n".repeat(50);
-        let difference = compare_one(Path::new("cat"), &input, 100).expect_err("they differ");
-        assert_eq!(difference.contents, b"(settle)\n");
-        let told = "proved: (settle)\nreference: (refused 9)";
-        assert!(difference.what.contains(told), "{}", difference.what);
+    fn inputs_without_a_run_are_among_them() {
+        let inputs = (0..10).flat_map(|seed| inputs(&mut Draws::new(seed), 1));
+        let (open, closed): (Vec<Trace>, Vec<Trace>) = inputs.partition(Trace::opened);
+        assert!(open.len() > 50 && closed.len() > 10);
+        assert!(closed.iter().any(|trace| trace.counts().openings > 0));
     }
 
     #[test]

@@ -10,8 +10,8 @@ use fever::raw;
 use reference::Run;
 use std::fmt::{Debug, Write};
 
-/// All that a call may alter: a run with its lent words, events, and a load
-/// with the bytes for its lines.
+/// All that a call may alter: a run with its lent words, events, a load with
+/// the bytes for its lines, and a report.
 #[derive(Clone, Default, PartialEq, Eq, Debug)]
 pub struct State {
     /// The run's words.
@@ -27,6 +27,8 @@ pub struct State {
     pub load: Lent<u64>,
     /// The bytes that its lines are written into.
     pub out: Lent<u8>,
+    /// The words that a report is written into.
+    pub report: Lent<u64>,
 }
 
 /// What a call is lent of a state.
@@ -37,6 +39,7 @@ struct Borrowed<'a> {
     events: &'a mut [u64],
     load: &'a mut [u64],
     out: &'a mut [u8],
+    report: &'a mut [u64],
 }
 
 /// A call that takes a run.
@@ -52,6 +55,8 @@ pub enum Call {
     Generate(Vec<u64>),
     /// Going on with the state's load.
     GenerateMore,
+    /// Reporting the traffic of the run.
+    Traffic,
 }
 
 impl State {
@@ -78,6 +83,7 @@ impl State {
             events: self.events.front_mut(),
             load: self.load.front_mut(),
             out: self.out.front_mut(),
+            report: self.report.front_mut(),
         }
     }
 
@@ -90,6 +96,7 @@ impl State {
             events,
             load,
             out,
+            report,
         } = self.borrowed();
         match call {
             Call::Open(setup) => reference_calls::open(setup, run, tally, network),
@@ -99,6 +106,7 @@ impl State {
                 reference_calls::generate(setup, run, tally, network, load, out)
             }
             Call::GenerateMore => reference_calls::generate_more(run, tally, network, load, out),
+            Call::Traffic => reference_calls::traffic(run, tally, network, report),
         }
     }
 
@@ -111,6 +119,7 @@ impl State {
             events,
             load,
             out,
+            report,
         } = self.borrowed();
         match call {
             Call::Open(setup) => raw::open(setup, run, tally, network),
@@ -120,6 +129,7 @@ impl State {
             Call::ApplyAll => raw::apply_all(run, tally, network, events),
             Call::Generate(setup) => raw::generate(setup, run, tally, network, load, out),
             Call::GenerateMore => raw::generate_more(run, tally, network, load, out),
+            Call::Traffic => raw::traffic(run, tally, network, report),
         }
     }
 
@@ -150,13 +160,14 @@ impl State {
     }
 
     /// The words that stand in it, each with their name.
-    const fn named(&self) -> [(&str, &Lent<u64>); 5] {
+    const fn named(&self) -> [(&str, &Lent<u64>); 6] {
         [
             ("run", &self.run),
             ("tally", &self.tally),
             ("network", &self.network),
             ("events", &self.events),
             ("load", &self.load),
+            ("report", &self.report),
         ]
     }
 
@@ -171,7 +182,16 @@ impl State {
 
     /// The difference that a call on this state shows.
     pub fn shows(&self, call: &Call, told: &str) -> Difference {
-        let mut text = format!("{call:?}\n");
+        Difference {
+            what: format!("a call of the library: {told}"),
+            name: "difference.call".to_owned(),
+            contents: format!("{call:?}\n{}", self.text()).into_bytes(),
+        }
+    }
+
+    /// All that stands in it, to be looked at.
+    pub fn text(&self) -> String {
+        let mut text = String::new();
         for (name, lent) in self.named() {
             let (all, length) = (lent.all(), lent.front().len());
             // Writing to a string does not fail.
@@ -179,11 +199,7 @@ impl State {
         }
         let (all, length) = (self.out.all(), self.out.front().len());
         let _ = writeln!(text, "{length} bytes lent, then others:\n{all:?}");
-        Difference {
-            what: format!("a call of the library: {told}"),
-            name: "difference.call".to_owned(),
-            contents: text.into_bytes(),
-        }
+        text
     }
 }
 
@@ -258,6 +274,17 @@ mod tests {
             state.load.all()[2..],
             [3_819_887_198_217_498_758, 3, 39, 0, 7]
         );
+    }
+
+    #[test]
+    fn both_sides_report() {
+        let mut state = unopened();
+        state.report = Lent::new(&[7; 13], &[7]);
+        assert_eq!(state.both(&Call::Traffic).ok(), Some(9));
+        state.both(&opening()).expect("both open");
+        assert_eq!(state.both(&Call::Traffic).ok(), Some(0));
+        let report = [4, 4, 0, 0, 0, 0, 0, 0, 4, 4, 0, 0, 0, 7];
+        assert_eq!(state.report.all(), report);
     }
 
     #[test]

@@ -1,6 +1,7 @@
 //! What was met: printed at the end, so that one sees which checks were.
 
 use crate::load_counts::Loads;
+use crate::traffic_counts::TrafficCounts;
 use reference::Answer;
 use std::fmt::{self, Display, Formatter};
 
@@ -30,6 +31,8 @@ pub struct Counts {
     pub together: Together,
     /// The calls for loads.
     pub loads: Loads,
+    /// The messages, sums and reports.
+    pub traffic: TrafficCounts,
 }
 
 /// Counts of calls that apply events together.
@@ -133,6 +136,7 @@ impl Counts {
         add_by_check(&mut self.stopped, &other.stopped);
         self.together.add(&other.together);
         self.loads.add(&other.loads);
+        self.traffic.add(&other.traffic);
     }
 
     /// The checks from 1 to 18 that were met less often.
@@ -208,7 +212,7 @@ impl Display for Counts {
         if !self.loads.is_empty() {
             write!(out, "  {}", self.loads)?;
         }
-        Ok(())
+        write!(out, "{}", self.traffic)
     }
 }
 

@@ -42,39 +42,40 @@ pub fn told(answer: Option<u64>) -> String {
     answer.map_or_else(|| "it panicked".to_owned(), |answer| answer.to_string())
 }
 
-/// The first line in which two printouts differ, counted from 0, with both of
-/// them there; none if they are the same.
-pub fn first_line(proved: &[u8], reference: &[u8]) -> Option<(usize, String)> {
-    if proved == reference {
+/// The first line in which what a proved program printed differs from what is
+/// expected, counted from 0, with both of them there; none if they are the
+/// same. What is expected comes with the name of the one who tells it.
+pub fn first_line(proved: &[u8], teller: &str, expected: &[u8]) -> Option<(usize, String)> {
+    if proved == expected {
         return None;
     }
     let mut lines = proved.split_inclusive(|&byte| byte == b'\n');
-    let mut others = reference.split_inclusive(|&byte| byte == b'\n');
+    let mut others = expected.split_inclusive(|&byte| byte == b'\n');
     let mut place = 0;
     loop {
         let (line, other) = (lines.next(), others.next());
         if line != other {
-            return Some((place, told_apart(line, other)));
+            return Some((place, told_apart(line, teller, other)));
         }
         place += 1;
     }
 }
 
 /// Both lines, and the first word that differs.
-fn told_apart(proved: Option<&[u8]>, reference: Option<&[u8]>) -> String {
+fn told_apart(proved: Option<&[u8]>, teller: &str, expected: Option<&[u8]>) -> String {
     let text = |line: Option<&[u8]>| match line {
         Some(line) => String::from_utf8_lossy(line).trim_end().to_owned(),
         None => "nothing".to_owned(),
     };
-    let (proved, reference) = (text(proved), text(reference));
+    let (proved, expected) = (text(proved), text(expected));
     let word = first_word(
         proved.split(' ').collect::<Vec<_>>().as_slice(),
-        reference.split(' ').collect::<Vec<_>>().as_slice(),
+        expected.split(' ').collect::<Vec<_>>().as_slice(),
     );
     let word = word.map_or_else(String::new, |word| {
         format!(", apart from word {}", word + 1)
     });
-    format!("proved: {proved}\nreference: {reference}{word}")
+    format!("proved: {proved}\n{teller}: {expected}{word}")
 }
 
 /// The first place in which two lists differ.
@@ -95,6 +96,7 @@ mod tests {
 
     #[test]
     fn the_first_difference_is_found() {
+        let first_line = |proved: &[u8], other: &[u8]| first_line(proved, "reference", other);
         assert_eq!(first_line(b"a\nb\n", b"a\nb\n"), None);
         let (place, told) = first_line(b"a\n(done 0 8)\n", b"a\n(done 0 9)\n").expect("a line");
         assert_eq!(place, 1);

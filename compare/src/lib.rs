@@ -1,6 +1,6 @@
-//! The proved simulator and the reference, run side by side: schedules and loads
-//! through the programs, raw calls through the library, and what each of them
-//! costs.
+//! The proved simulator and the reference, run side by side: schedules, loads
+//! and reports through the programs, raw calls through the library, and what
+//! each of them costs.
 //!
 //! Both sides render document 01. Where they differ, one of them is wrong; what
 //! is found is saved as a schedule or a call that shows it again.
@@ -23,15 +23,21 @@ pub mod counts;
 pub mod damage;
 pub mod difference;
 pub mod draws;
+pub mod history;
+pub mod kinds;
 pub mod lent;
 pub mod lies;
+pub mod list;
 pub mod load_counts;
 pub mod measure;
 pub mod openings;
 pub mod options;
 pub mod pending;
 pub mod program;
+pub mod readers;
 pub mod reference_calls;
+pub mod report;
+pub mod report_counts;
 pub mod retell;
 pub mod scene;
 pub mod schedules;
@@ -39,5 +45,6 @@ pub mod shorten;
 pub mod summary;
 pub mod text;
 pub mod trace;
+pub mod traffic_counts;
 pub mod wild;
 pub mod words;

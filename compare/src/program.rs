@@ -24,14 +24,24 @@ pub fn directory() -> PathBuf {
     root().join("target/compare")
 }
 
-/// The proved program.
-pub fn proved() -> PathBuf {
-    root().join("target/bin/simulate")
+/// Where the proved program of a name is.
+fn proved(name: &str) -> PathBuf {
+    root().join("target/bin").join(name)
+}
+
+/// The proved program that runs schedules.
+pub fn simulator() -> PathBuf {
+    proved("simulate")
 }
 
 /// The proved program that makes loads.
 pub fn generator() -> PathBuf {
-    root().join("target/bin/generate")
+    proved("generate")
+}
+
+/// The proved program that reports the traffic of a schedule.
+pub fn reporter() -> PathBuf {
+    proved("traffic")
 }
 
 /// What a program made of an input.

@@ -6,8 +6,8 @@ use std::fmt::{self, Display, Formatter};
 /// The events that the gate's comparison has besides those of loads, at least.
 const LEAST_EVENTS: u64 = 200_000;
 /// How often it meets each check on each way, and how often 16, 17 and 18 each
-/// end ticks there, at least; and all that is counted of events together and of
-/// loads.
+/// end ticks there, at least; and all that is counted of events together, of
+/// loads and of traffic.
 const LEAST_MET: u64 = 5;
 
 /// What a comparison met.
@@ -44,7 +44,8 @@ impl Summary {
     /// What is missing of a comparison that says something: enough events,
     /// every check met on both ways and by events together, and every one that
     /// ends ticks; all that is counted of calls for events together and for
-    /// loads; demand 3 due whole as often as there are rounds.
+    /// loads, and of traffic; reports of loads; demand 3 due whole as often as
+    /// there are rounds.
     pub fn missing(&self) -> Option<String> {
         let alone = |counts: &Counts| counts.together.calls == 0 && counts.loads.is_empty();
         let library = self.library(alone);
@@ -73,9 +74,19 @@ impl Summary {
         if let Some(few) = self.generator.loads.program_lacks(LEAST_MET) {
             return Some(format!("loads of the program, {few}"));
         }
+        if let Some(few) = self.generator.traffic.reports.lacks(LEAST_MET) {
+            return Some(format!("reports of loads, {few}"));
+        }
         let loads = self.library(|counts| !counts.loads.is_empty()).loads;
         if let Some(few) = loads.library_lacks(LEAST_MET) {
             return Some(format!("loads of the library, {few}"));
+        }
+        if let Some(few) = self.program.traffic.program_lacks(LEAST_MET) {
+            return Some(format!("traffic of the program, {few}"));
+        }
+        let traffic = self.library(|_| true).traffic;
+        if let Some(few) = traffic.library_lacks(LEAST_MET) {
+            return Some(format!("traffic of the library, {few}"));
         }
         let (due, calls) = (self.program.due, library.due);
         (due < self.rounds || calls == 0).then(|| {
@@ -106,6 +117,7 @@ mod tests {
     use super::*;
     use crate::counts::Together;
     use crate::load_counts::Loads;
+    use crate::traffic_counts::TrafficCounts;
 
     #[test]
     fn too_little_is_told() {
@@ -116,9 +128,11 @@ mod tests {
         program.met[1..].fill(LEAST_MET);
         program.stopped[16..].fill(LEAST_MET);
         program.due = 1;
+        program.traffic = TrafficCounts::met_everywhere(LEAST_MET);
         let mut together = program.clone();
         together.events = 0;
         together.met[2..=8].fill(0);
+        together.traffic = TrafficCounts::default();
         together.together = Together {
             calls: 1,
             refused: [LEAST_MET; 19],
@@ -135,6 +149,7 @@ mod tests {
             ("loads", loads.clone()),
             ("together", together),
         ];
+        loads.traffic = TrafficCounts::met_everywhere(LEAST_MET);
         program.due = 3;
         program.events = LEAST_EVENTS;
         let enough = Summary {
@@ -164,5 +179,15 @@ mod tests {
         lacks(spoil, "loads of the program, 0 calls");
         let spoil = |summary: &mut Summary| summary.library[1].1.loads.unopened = 0;
         lacks(spoil, "loads of the library, 0 without");
+        let spoil = |summary: &mut Summary| summary.generator.traffic.reports.held[3] = 0;
+        lacks(spoil, "reports of loads, qc held");
+        let spoil = |summary: &mut Summary| summary.program.traffic.reports.nothing = 0;
+        lacks(spoil, "traffic of the program, 0 reports of nothing");
+        let spoil = |summary: &mut Summary| summary.program.traffic.bound_met = 0;
+        lacks(spoil, "traffic of the program, 0 views with 2n");
+        let spoil = |summary: &mut Summary| summary.library[0].1.traffic.wrapped.waits = 0;
+        lacks(spoil, "traffic of the library, 0 calls in which waits");
+        let spoil = |summary: &mut Summary| summary.library[0].1.traffic.bound_met = 0;
+        lacks(spoil, "traffic of the library, 0 views with 2n");
     }
 }

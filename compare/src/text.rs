@@ -3,6 +3,9 @@
 
 use reference::{Event, Message, Setup};
 
+/// The kinds from 1 to 4, as lines name them.
+pub const KINDS: [&str; 4] = ["view", "vote", "vc", "qc"];
+
 /// The line of an event, its newline not among it.
 pub fn event(event: Event) -> Vec<u8> {
     match event {
@@ -17,13 +20,8 @@ pub fn event(event: Event) -> Vec<u8> {
 
 /// "the message inside the form".
 fn inner(message: Message) -> String {
-    let word = match message {
-        Message::View(..) => "view",
-        Message::Vote(..) => "vote",
-        Message::Vc(..) => "vc",
-        Message::Qc(..) => "qc",
-    };
-    format!("({word} {} {})", message.view(), message.processor())
+    let kind = KINDS[message.kind() as usize - 1];
+    format!("({kind} {} {})", message.view(), message.processor())
 }
 
 /// The line of an opening with so many of its clocks.

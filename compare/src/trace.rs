@@ -1,12 +1,13 @@
 //! A schedule in the making: its text, and the run that the reference makes
-//! of it under the watch of demand 3.
+//! of it under the watch of demand 3, its sums beside those of its history.
 
 use crate::counts::Counts;
+use crate::list::List;
 use crate::reference_calls::guarded;
 use crate::scene::Scene;
 use crate::text;
-use reference::{apply, open, read_line, Answer, Event, Reading, Run, Setup, Watch};
-use reference::{NETWORK_WORDS, TALLY_WORDS};
+use reference::{apply, open, read_line, Answer, Event, Reading, Run, Setup};
+use reference::{Traffic, NETWORK_WORDS, TALLY_WORDS};
 use std::ops::Range;
 
 /// A schedule and what the reference has made of it so far.
@@ -15,8 +16,8 @@ pub struct Trace {
     run: Run,
     tally: Vec<u64>,
     network: Vec<u64>,
-    watch: Option<Watch>,
-    due: bool,
+    /// The events since the last accepted opening, if there was one.
+    list: Option<List>,
     /// Where the line of the last accepted opening begins.
     opening: usize,
     counts: Counts,
@@ -46,8 +47,7 @@ impl Trace {
             run: Run::unopened(),
             tally: vec![0; TALLY_WORDS],
             network: vec![0; NETWORK_WORDS],
-            watch: None,
-            due: false,
+            list: None,
             opening: 0,
             counts: Counts::default(),
             complaint: None,
@@ -77,7 +77,12 @@ impl Trace {
 
     /// Whether a run is open.
     pub const fn opened(&self) -> bool {
-        self.watch.is_some()
+        self.list.is_some()
+    }
+
+    /// The report of the run that is open, as its history tells it.
+    pub fn traffic(&self) -> Option<Traffic> {
+        self.list.as_ref().map(List::traffic)
     }
 
     /// The text so far.
@@ -90,7 +95,8 @@ impl Trace {
         &self.counts
     }
 
-    /// The first complaint, of demand 3 or of a panic, if there was one.
+    /// The first complaint, of demand 3, of the sums or of a panic, if there was
+    /// one.
     pub const fn complaint(&self) -> Option<&Complaint> {
         self.complaint.as_ref()
     }
@@ -139,9 +145,8 @@ impl Trace {
         self.counts.openings += 1;
         let answer = open(setup, &mut self.run, &mut self.tally, &mut self.network);
         if let Answer::Done { .. } = answer {
-            let (watch, kept) = Watch::opened(&self.run);
-            self.watch = Some(watch);
-            self.due = false;
+            let (list, kept) = List::opened(self.scene());
+            self.list = Some(list);
             self.opening = start;
             self.counts.lists += 1;
             self.complain_unless(kept);
@@ -151,18 +156,16 @@ impl Trace {
 
     fn answer_event(&mut self, event: Event) -> Answer {
         self.counts.events += 1;
-        let Some(watch) = &mut self.watch else {
+        let Some(list) = &mut self.list else {
             return Answer::Refused(9);
         };
         let answer = apply(&mut self.run, event, &mut self.tally, &mut self.network);
-        let mut kept = watch.after(event, &answer, &self.run, &self.tally);
-        if answer == Answer::Refused(9) {
-            kept = Err("a run that was opened is unsound".to_owned());
-        }
-        if !self.due && watch.ticks_since_settling() > watch.patience() {
-            self.due = true;
-            self.counts.due += 1;
-        }
+        let scene = Scene {
+            run: &self.run,
+            tally: &self.tally,
+            network: &self.network,
+        };
+        let kept = list.after(event, &answer, scene, &mut self.counts);
         self.complain_unless(kept);
         answer
     }
@@ -171,13 +174,14 @@ impl Trace {
     fn give_up(&mut self) -> Answer {
         self.complain("the reference panicked".to_owned());
         self.run = Run::unopened();
-        self.watch = None;
+        self.list = None;
         Answer::Refused(9)
     }
 
+    /// Complains of what is not kept.
     fn complain_unless(&mut self, kept: Result<(), String>) {
         if let Err(what) = kept {
-            self.complain(format!("the reference does not keep demand 3: {what}"));
+            self.complain(format!("of the reference, {what}"));
         }
     }
 
@@ -209,9 +213,22 @@ mod tests {
         assert_eq!((trace.counts().calls, trace.counts().events), (6, 3));
         assert!(trace.opened() && trace.complaint().is_none());
         assert!(trace.text().ends_with(b"x\n(tick 3)\n(settle)"));
+        let held = [4, 4, 0, 0];
+        assert_eq!(trace.traffic().map(|traffic| traffic.held), Some(held));
         let again = Trace::of(trace.text());
         assert_eq!(again.counts().calls, 6);
         assert!(again.text() == trace.text());
+    }
+
+    #[test]
+    fn sums_of_another_history_are_complained_of() {
+        let mut trace = Trace::of(b"(open 4 2 4 6 0 (0 0 0 0))\n(settle)\n");
+        assert!(trace.complaint().is_none());
+        trace.run.sums.waits = 7;
+        trace.event(Event::Tick(1));
+        let complaint = trace.complaint().expect("nothing was delivered");
+        let told = "of the reference, the history tells otherwise: ";
+        assert!(complaint.what.starts_with(told), "{}", complaint.what);
     }
 
     #[test]

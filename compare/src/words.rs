@@ -1,10 +1,11 @@
 //! Runs, setups and events as the numbers that the library's calls take.
 
-use reference::{Event, Load, Message, Piece, Plan, Run, Setup};
+use reference::{ByKind, Event, Load, Message, Piece, Plan, Run, Setup, Sums, Traffic};
 
 /// The words of a run: n, delta, gamma, views, faulty, time, settled, gst,
-/// held, 64 clocks and 64 views.
-pub const RUN_WORDS: usize = 137;
+/// held, 64 clocks, 64 views, four numbers of messages sent and four of those
+/// delivered, by kind, and the sum of waits.
+pub const RUN_WORDS: usize = 146;
 /// The words of a setup: n, delta, gamma, views, faulty and 64 clocks.
 pub const SETUP_WORDS: usize = 69;
 /// The words of a line read: an event's four numbers and a setup.
@@ -12,6 +13,9 @@ pub const READ_WORDS: usize = 4 + SETUP_WORDS;
 /// The words of a load: steps, settling step, seed, the next step, the bytes
 /// written, and whether they were too few.
 pub const LOAD_WORDS: usize = 6;
+/// The words of a report: four numbers of messages sent, delivered and held
+/// each, by kind, and the sum of waits.
+pub const TRAFFIC_WORDS: usize = 13;
 /// Where a load keeps its steps.
 pub const STEPS: usize = 0;
 /// Where a load keeps its settling step.
@@ -36,6 +40,12 @@ pub const HELD: usize = 8;
 pub const CLOCKS: usize = 9;
 /// Where a run keeps its first view.
 pub const VIEWS: usize = 73;
+/// Where a run keeps how many messages were sent, by kind.
+pub const SENT: usize = 137;
+/// Where a run keeps how many messages were delivered, by kind.
+pub const DELIVERED: usize = 141;
+/// Where a run keeps the sum of waits.
+pub const WAITS: usize = 145;
 /// The form number of ticks.
 pub const TICK: u64 = 5;
 /// The form number of an opening that was read.
@@ -61,6 +71,22 @@ fn table(words: &[u64], from: usize) -> [u64; 64] {
     table
 }
 
+/// Four words from a place on.
+fn by_kind(words: &[u64], from: usize) -> ByKind {
+    let mut numbers = [0; 4];
+    numbers.copy_from_slice(&words[from..from + 4]);
+    numbers
+}
+
+/// The sums in the words of a run.
+pub fn sums_of(words: &[u64]) -> Sums {
+    Sums {
+        sent: by_kind(words, SENT),
+        delivered: by_kind(words, DELIVERED),
+        waits: words[WAITS],
+    }
+}
+
 /// The run that its words stand for; any settled word but 0 is settled.
 pub fn run_of(words: &[u64]) -> Run {
     Run {
@@ -72,6 +98,7 @@ pub fn run_of(words: &[u64]) -> Run {
         held: words[8],
         clocks: table(words, CLOCKS),
         views: table(words, VIEWS),
+        sums: sums_of(words),
     }
 }
 
@@ -85,7 +112,35 @@ pub fn put_run(run: &Run, words: &mut [u64]) {
     ];
     words[..CLOCKS].copy_from_slice(&front);
     words[CLOCKS..VIEWS].copy_from_slice(&run.clocks);
-    words[VIEWS..RUN_WORDS].copy_from_slice(&run.views);
+    words[VIEWS..SENT].copy_from_slice(&run.views);
+    put_sums(&run.sums, words);
+}
+
+/// Writes sums over those of a run's words.
+pub fn put_sums(sums: &Sums, words: &mut [u64]) {
+    words[SENT..DELIVERED].copy_from_slice(&sums.sent);
+    words[DELIVERED..WAITS].copy_from_slice(&sums.delivered);
+    words[WAITS] = sums.waits;
+}
+
+/// The words of a report.
+pub fn traffic_words(Traffic { sums, held }: &Traffic) -> [u64; TRAFFIC_WORDS] {
+    let mut words = [sums.waits; TRAFFIC_WORDS];
+    words[..4].copy_from_slice(&sums.sent);
+    words[4..8].copy_from_slice(&sums.delivered);
+    words[8..12].copy_from_slice(held);
+    words
+}
+
+/// The report that its words stand for.
+pub fn traffic_of(words: &[u64]) -> Traffic {
+    let sums = Sums {
+        sent: by_kind(words, 0),
+        delivered: by_kind(words, 4),
+        waits: words[12],
+    };
+    let held = by_kind(words, 8);
+    Traffic { sums, held }
 }
 
 /// The setup that its words stand for.
@@ -177,6 +232,17 @@ mod tests {
             setup_words(&setup_of(&words[..SETUP_WORDS]))[..],
             words[..SETUP_WORDS]
         );
+    }
+
+    #[test]
+    fn a_report_stands_in_its_words() {
+        let words: Vec<u64> = (0..RUN_WORDS as u64).collect();
+        let sums = sums_of(&words);
+        let held = [1, 2, 3, 4];
+        let report = traffic_words(&Traffic { sums, held });
+        assert_eq!(report[..8], words[SENT..WAITS]);
+        assert_eq!(report[8..], [1, 2, 3, 4, 145]);
+        assert_eq!(traffic_of(&report), Traffic { sums, held });
     }
 
     #[test]

@@ -83,7 +83,8 @@ fn deliver(state: &mut State, message: Message) -> Result<(), u64> {
     };
     let effect = effect::of(state, message)?;
     state.room(1, effect.sent(state))?;
-    network::remove(state.network, &mut state.run.held, place);
+    let sent = network::remove(state.network, &mut state.run.held, place);
+    state.run.sums.deliver(message, sent, state.run.time);
     effect.carry_out(state);
     Ok(())
 }

@@ -1,12 +1,13 @@
 //! The Fever pacemaker step of one processor, and a simulator that moves n
 //! such processors through a schedule of events.
 //!
-//! Everything here renders document 01, and loads document 02's request 1/13;
-//! comments quote the sentence a piece stands for. The words of the code for the words of that page: a processor
-//! is one of the n numbered parties, the tally holds what was entered, heard
-//! and formed per view, the network holds the messages sent and not yet
-//! delivered, `faulty` is the 64-bit number marking the faulty processors,
-//! and `gst` is the settling time.
+//! Everything here renders document 01, loads document 02's request 1/13 and
+//! traffic its request 2/13; comments quote the sentence a piece stands for.
+//! The words of the code for the words of that page: a processor is one of the
+//! n numbered parties, the tally holds what was entered, heard and formed per
+//! view, the network holds the messages sent and not yet delivered, `faulty`
+//! is the 64-bit number marking the faulty processors, and `gst` is the
+//! settling time.
 //!
 //! Every function is total: it answers for any words handed in, and a refusal
 //! changes nothing.
@@ -35,6 +36,7 @@ mod state;
 mod stream;
 mod tally;
 mod tick;
+mod traffic;
 mod watch;
 mod writer;
 
@@ -48,7 +50,8 @@ pub use processor::{step, Input, Processor, Stepped};
 pub use reader::{read_line, Reading, LONGEST_LINE};
 pub use run::{Answer, Run, Setup};
 pub use session::{Session, NETWORK_WORDS, TALLY_WORDS};
-pub use soundness::is_sound;
-pub use stream::{simulate, Stream};
+pub use soundness::{is_sound, is_sound_but_for_time};
+pub use stream::{report_traffic, simulate, Stream};
+pub use traffic::{traffic, ByKind, Sums, Traffic};
 pub use watch::Watch;
 pub use writer::{write_event, write_setup};

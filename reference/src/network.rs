@@ -34,13 +34,16 @@ pub(crate) fn find(network: &[u64], held: u64, message: Message) -> Option<usize
         .position(|&[kind, view, processor, _]| (kind, view, processor) == sought)
 }
 
-/// Takes the message at a place out: "the rest close up".
-pub(crate) fn remove(network: &mut [u64], held: &mut u64, place: usize) {
+/// Takes the message at a place out, and answers when it was sent: "the rest
+/// close up".
+pub(crate) fn remove(network: &mut [u64], held: &mut u64, place: usize) -> u64 {
     let end = *held as usize * WORDS;
     let start = place * WORDS;
+    let sent = network[start + 3];
     network.copy_within(start + WORDS..end, start);
     network[end - WORDS..end].fill(0);
     *held -= 1;
+    sent
 }
 
 /// Adds a message behind the last one; there is room for it.

@@ -2,6 +2,7 @@
 
 use crate::plan::Plan;
 use crate::set;
+use crate::traffic::Sums;
 
 /// What an opening takes.
 #[derive(Clone, Copy, PartialEq, Eq, Debug)]
@@ -36,11 +37,13 @@ pub struct Run {
     /// The present views; those of faulty processors and from n on are not
     /// read.
     pub views: [u64; 64],
+    /// What was sent and delivered since the opening.
+    pub sums: Sums,
 }
 
 impl Run {
     /// The run before any opening: all zero, and unsound, as n is 0.
-    pub const fn unopened() -> Self {
+    pub fn unopened() -> Self {
         let plan = Plan {
             n: 0,
             delta: 0,
@@ -56,6 +59,7 @@ impl Run {
             held: 0,
             clocks: [0; 64],
             views: [0; 64],
+            sums: Sums::default(),
         }
     }
 

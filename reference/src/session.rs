@@ -8,6 +8,7 @@ use crate::print;
 use crate::reader::{read_line, Reading};
 use crate::run::{Answer, Run};
 use crate::set;
+use crate::traffic;
 
 /// The tally words the program lends.
 pub const TALLY_WORDS: usize = 3_600;
@@ -91,6 +92,13 @@ impl Session {
             let place = processor as usize;
             let numbers = [processor, self.run.views[place], self.run.clocks[place]];
             print::line(out, b"cabinet", &numbers);
+        }
+    }
+
+    /// Prints the traffic of the run that is open, if one is open; it is sound.
+    pub fn report(&self, out: &mut Vec<u8>) {
+        if self.opened {
+            traffic::print(out, &traffic::of_sound(&self.run, &self.network));
         }
     }
 

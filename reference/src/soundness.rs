@@ -30,7 +30,7 @@ pub fn is_sound(run: &Run, tally: &[u64], network: &[u64]) -> bool {
 
 /// Whether nothing but "the time at or above" `views` times `gamma` can make
 /// the run unsound.
-pub(crate) fn is_sound_but_for_time(run: &Run, tally: &[u64], network: &[u64]) -> bool {
+pub fn is_sound_but_for_time(run: &Run, tally: &[u64], network: &[u64]) -> bool {
     fits(run, tally, network)
         && run.gst <= run.time
         && (run.settled || run.gst == 0)

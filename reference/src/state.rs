@@ -74,5 +74,6 @@ impl State<'_> {
     fn send(&mut self, message: Message) {
         let time = self.run.time;
         network::push(self.network, &mut self.run.held, message, time);
+        self.run.sums.send(message);
     }
 }

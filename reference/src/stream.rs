@@ -66,3 +66,18 @@ pub fn simulate(input: &[u8]) -> Vec<u8> {
     stream.finish(&mut out);
     out
 }
+
+/// The whole report of a whole input: its lines are answered as `simulate`
+/// answers them, none of the answers is printed, and at the end comes what
+/// the run open then has sent, delivered and holds. Bytes left after the last
+/// newline fail check 1, so they change nothing.
+pub fn report_traffic(input: &[u8]) -> Vec<u8> {
+    let (mut answers, mut out) = (Vec::new(), Vec::new());
+    let mut stream = Stream::new();
+    for line in input.split_inclusive(|&byte| byte == b'\n') {
+        stream.feed(line, &mut answers);
+        answers.clear();
+    }
+    stream.session().report(&mut out);
+    out
+}

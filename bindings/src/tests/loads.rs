@@ -41,7 +41,7 @@ impl Simulator {
     }
 
     /// A whole load: its lines, and where they led.
-    fn generated(setup: &Setup, load: &mut Load) -> (Vec<u8>, Simulator) {
+    pub(super) fn generated(setup: &Setup, load: &mut Load) -> (Vec<u8>, Simulator) {
         let (mut simulator, mut out) = (Simulator::new(), vec![b'x'; ROOM]);
         let Generated::Ended { bytes } = simulator.generate(setup, load, &mut out) else {
             panic!("{load:?} does not end");
@@ -138,13 +138,13 @@ fn refused_loads_leave_every_word() {
     let answer = simulator.generate(&setup(&[0, 0, 0, 0], 0), &mut load, &mut out[..26]);
     assert_eq!(answer, Generated::Full { bytes: 0 });
     assert_eq!((&simulator, load), (&kept, Load::new(9, 0, 7)));
-    simulator.run.words_mut()[6] = 2;
+    simulator.run.words_mut()[raw::RUN_SETTLED] = 2;
     let spoilt = simulator.clone();
     let answer = simulator.generate_more(&mut load, &mut out);
     assert_eq!((answer, &simulator), (Generated::Refused(9), &spoilt));
     // The time alone: the first event is refused.
     let mut late = kept;
-    late.run.words_mut()[5] = PLAN.views * PLAN.gamma;
+    late.run.words_mut()[raw::RUN_TIME] = PLAN.views * PLAN.gamma;
     let spoilt = late.clone();
     let answer = late.generate_more(&mut load, &mut out);
     assert_eq!((answer, &late), (Generated::Ended { bytes: 0 }, &spoilt));

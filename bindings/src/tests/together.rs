@@ -24,7 +24,7 @@ fn as_one_by_one() {
         let mut one = Simulator::opened(&setup(&[3, 0, 0, 1], 8 * (round % 2)));
         match round % 8 {
             // Runs unsound at once or after some ticks, and such as have a settled word of no run.
-            6 => one.run.words_mut()[5] = draw(&mut state) % 48,
+            6 => one.run.words_mut()[raw::RUN_TIME] = draw(&mut state) % 48,
             7 => one.run.words_mut()[draw(&mut state) as usize % 9] ^= 2,
             _ => {}
         }
@@ -87,7 +87,7 @@ fn answers_stand_where_the_events_stood() {
 #[test]
 fn a_time_beyond_the_clocks_refuses_those_behind() {
     let mut simulator = Simulator::opened(&setup(&[0, 0, 0, 0], 0));
-    simulator.run.words_mut()[5] = PLAN.views * PLAN.gamma - 1;
+    simulator.run.words_mut()[raw::RUN_TIME] = PLAN.views * PLAN.gamma - 1;
     let mut words = [[4, 0, 0, 0], [5, 0, 1, 0], [5, 0, 0, 0], [1, 1, 0, 0]];
     assert_eq!(simulator.apply_words(words.as_flattened_mut()), 0);
     assert_eq!(
@@ -112,7 +112,7 @@ fn words_behind_the_last_event_stay() {
 #[test]
 fn no_run_refuses_the_whole_call() {
     let mut simulator = Simulator::opened(&setup(&[0, 0, 0, 0], 0));
-    simulator.run.words_mut()[6] = 2;
+    simulator.run.words_mut()[raw::RUN_SETTLED] = 2;
     let kept = simulator.clone();
     let mut words = [5, 0, 1, 0, 5];
     assert_eq!(simulator.apply_words(&mut words), 9);

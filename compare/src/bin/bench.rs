@@ -2,7 +2,7 @@
 
 #![forbid(unsafe_code)]
 
-use compare::measure::{calls, lines, loads, programs, ticks, Row};
+use compare::measure::{calls, lines, loads, programs, ticks, traffic, Row};
 use std::process::ExitCode;
 
 fn main() -> ExitCode {
@@ -20,6 +20,7 @@ fn main() -> ExitCode {
     print(&lines::rows());
     print(&calls::rows());
     print(&ticks::rows());
+    print(&traffic::rows());
     ExitCode::SUCCESS
 }
 

@@ -3,11 +3,11 @@
 
 #![forbid(unsafe_code)]
 
-use compare::by_generator::{self, Programs};
 use compare::difference::Difference;
 use compare::options::{self, Options, USAGE};
+use compare::readers::Readers;
 use compare::summary::Summary;
-use compare::{by_library, by_program, program};
+use compare::{by_generator, by_library, by_program, program};
 use std::fs;
 use std::path::Path;
 use std::process::ExitCode;
@@ -15,27 +15,30 @@ use std::process::ExitCode;
 fn main() -> ExitCode {
     let words: Vec<String> = std::env::args().skip(1).collect();
     for (name, path) in [
-        ("simulate", program::proved()),
+        ("simulate", program::simulator()),
         ("generate", program::generator()),
+        ("traffic", program::reporter()),
     ] {
         if !path.is_file() {
             eprintln!("target/bin/{name} is missing: `./fever compare` proves and builds it first");
             return ExitCode::from(2);
         }
     }
+    let (simulator, reporter) = (program::simulator(), program::reporter());
+    let readers = Readers::of(&simulator, &reporter);
     match options::parse(&words) {
         None => {
             eprintln!("{USAGE}");
             ExitCode::from(2)
         }
-        Some(Options::Replay(file)) => replay(&file),
-        Some(Options::Compare { rounds, seed, gate }) => compare(rounds, seed, gate),
+        Some(Options::Replay(file)) => replay(readers, &file),
+        Some(Options::Compare { rounds, seed, gate }) => compare(readers, rounds, seed, gate),
     }
 }
 
 /// A comparison of so many rounds.
-fn compare(rounds: u64, seed: u64, gate: bool) -> ExitCode {
-    match both_ways(rounds, seed) {
+fn compare(readers: Readers, rounds: u64, seed: u64, gate: bool) -> ExitCode {
+    match both_ways(readers, rounds, seed) {
         Err(difference) => tell(&difference),
         Ok(summary) => {
             print!("{summary}");
@@ -51,21 +54,17 @@ fn compare(rounds: u64, seed: u64, gate: bool) -> ExitCode {
 }
 
 /// Through the programs, then through the library.
-fn both_ways(rounds: u64, seed: u64) -> Result<Summary, Difference> {
-    let programs = Programs {
-        generator: &program::generator(),
-        simulator: &program::proved(),
-    };
+fn both_ways(readers: Readers, rounds: u64, seed: u64) -> Result<Summary, Difference> {
     Ok(Summary {
         rounds,
-        program: by_program::compare(programs.simulator, seed, rounds)?,
-        generator: by_generator::compare(programs, seed, rounds)?,
+        program: by_program::compare(readers, seed, rounds)?,
+        generator: by_generator::compare(&program::generator(), readers, seed, rounds)?,
         library: by_library::compare(seed, rounds)?,
     })
 }
 
-/// One schedule through both programs, watched.
-fn replay(file: &Path) -> ExitCode {
+/// One schedule through both programs that read schedules, watched.
+fn replay(readers: Readers, file: &Path) -> ExitCode {
     let input = match fs::read(file) {
         Ok(input) => input,
         Err(error) => {
@@ -73,7 +72,7 @@ fn replay(file: &Path) -> ExitCode {
             return ExitCode::from(2);
         }
     };
-    match by_program::replay(&program::proved(), &input) {
+    match by_program::replay(readers, &input) {
         Err(difference) => tell(&difference),
         Ok(()) => {
             println!("no difference");

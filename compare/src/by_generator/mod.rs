@@ -1,41 +1,41 @@
 //! The comparison through the program that makes loads: what it writes, byte
-//! for byte, and that the simulator accepts every line of it.
+//! for byte, the report of each load by itself, and that the simulator accepts
+//! every line of all of them.
 
+mod misuse;
 pub mod words;
 
+use self::misuse::misused;
 use self::words::Words;
-use crate::by_program;
 use crate::counts::Counts;
 use crate::difference::{first_line, Difference};
 use crate::draws::Draws;
 use crate::pending;
 use crate::program::{self, Called};
+use crate::readers::{self, Reader, Readers};
 use crate::reference_calls::guarded;
+use crate::report;
 use crate::retell::Told;
-use reference::{read_line, run_generator, simulate, Ended, Load, Reading};
+use reference::{read_line, run_generator, Ended, Load, Reading};
 use std::path::Path;
 
 /// A sort of calls: the words of one.
 type Sort = fn(&mut Draws) -> Words;
 
 /// The sorts, and how many calls of each make one round.
-const SORTS: [(Sort, u64); 3] = [(words::short, 20), (words::ending, 14), (words::long, 1)];
+const SORTS: [(Sort, u64); 3] = [(words::short, 20), (words::ending, 20), (words::long, 1)];
 /// Calls with wrong words in one round.
 const WRONG: u64 = 4;
-/// The bytes in which loads are handed to the simulator.
+/// The bytes in which loads are handed to the programs that read them.
 const PIECE: usize = 65_536;
 
-/// The two proved programs.
-#[derive(Clone, Copy)]
-pub struct Programs<'a> {
-    /// The one that makes loads.
-    pub generator: &'a Path,
-    /// The one that runs schedules.
-    pub simulator: &'a Path,
-}
-
 /// Compares so many rounds of loads and of calls with wrong words.
-pub fn compare(programs: Programs, seed: u64, rounds: u64) -> Result<Counts, Difference> {
+pub fn compare(
+    generator: &Path,
+    readers: Readers,
+    seed: u64,
+    rounds: u64,
+) -> Result<Counts, Difference> {
     let mut draws = Draws::new(seed);
     let mut counts = Counts::default();
     let mut usage = None;
@@ -45,13 +45,15 @@ pub fn compare(programs: Programs, seed: u64, rounds: u64) -> Result<Counts, Dif
         for (sort, calls) in SORTS {
             for _ in 0..calls {
                 let words = sort(&mut drawn);
-                loads.extend(load(programs.generator, &words, &mut counts)?);
+                let written = load(generator, &words, &mut counts)?;
+                reported(readers.reporter, &written, &mut counts)?;
+                loads.extend(written);
             }
         }
-        accepted(programs.simulator, &loads)?;
+        accepted(readers.simulator, &loads)?;
         for _ in 0..WRONG {
             let words = words::wrong(&mut drawn);
-            misused(programs.generator, &words, &mut usage)?;
+            misused(generator, &words, &mut usage)?;
             counts.calls += 1;
             counts.loads.misused += 1;
         }
@@ -76,10 +78,10 @@ fn load(generator: &Path, words: &[Vec<u8>], counts: &mut Counts) -> Result<Vec<
     let told = guarded(|| retold(words, counts)).unwrap_or_default();
     counts.events += counts.loads.events() - events;
     counts.ticks += counts.loads.ticks() - ticks;
-    match first_line(&told, &out) {
+    match first_line(&out, "told again", &told) {
         None => Ok(out),
         Some((line, apart)) => {
-            let what = format!("a load told again differs: line {}\n{apart}", line + 1);
+            let what = format!("it differs when told again: line {}\n{apart}", line + 1);
             Err(shown_by(words, what))
         }
     }
@@ -124,7 +126,7 @@ fn compare_one(
         ("standard error", &errors, &refusal),
         ("standard output", &out, &expected),
     ] {
-        if let Some((line, apart)) = first_line(proved, reference) {
+        if let Some((line, apart)) = first_line(proved, "reference", reference) {
             let what = format!("{name} differs: line {} ({status})\n{apart}", line + 1);
             return Err(shown_by(words, what));
         }
@@ -142,40 +144,6 @@ fn refer(words: &[Vec<u8>]) -> (Vec<u8>, Vec<u8>, Ended) {
     // Lists take any bytes, so nothing fails.
     let ended = run_generator(&words, &mut out, &mut errors).unwrap_or(Ended::Misused);
     (out, errors, ended)
-}
-
-/// Compares a call with wrong words: nothing on standard output, one line on
-/// standard error, the same for all such calls. What it says is the program's
-/// own.
-fn misused(
-    generator: &Path,
-    words: &[Vec<u8>],
-    usage: &mut Option<Vec<u8>>,
-) -> Result<(), Difference> {
-    let Called { out, errors, .. } = called(generator, words)?;
-    let ended = refer(words).2;
-    let one_line = errors.len() > 1
-        && errors.iter().position(|&byte| byte == b'\n') == Some(errors.len() - 1)
-        && !errors.starts_with(b"(refused ");
-    let told = |bytes: &[u8]| String::from_utf8_lossy(bytes).into_owned();
-    let what = if ended != Ended::Misused {
-        format!("the reference takes wrong words: {ended:?}")
-    } else if !out.is_empty() {
-        format!(
-            "wrong words are answered on standard output: {}",
-            told(&out)
-        )
-    } else if !one_line {
-        format!(
-            "wrong words are not answered by one line: {}",
-            told(&errors)
-        )
-    } else if *usage.get_or_insert_with(|| errors.clone()) != errors {
-        format!("wrong words are answered otherwise: {}", told(&errors))
-    } else {
-        return Ok(());
-    };
-    Err(shown_by(words, what))
 }
 
 /// Calls the program, which may not hang nor be ended by a signal.
@@ -210,22 +178,28 @@ fn quoted(words: &[Vec<u8>]) -> Vec<u8> {
     line
 }
 
+/// Compares the report of one load, if there is one. A report is of the run that
+/// was opened last, so each load is handed over by itself.
+fn reported(reporter: Reader, load: &[u8], counts: &mut Counts) -> Result<(), Difference> {
+    if !load.is_empty() {
+        let printed = readers::compare_report(reporter, load, PIECE)?;
+        counts.traffic.printed(report::read(&printed).as_ref(), 1);
+    }
+    Ok(())
+}
+
 /// Whether both simulators accept every line of some loads: "each is accepted
 /// when read in turn with lent buffers as long".
-fn accepted(simulator: &Path, loads: &[u8]) -> Result<(), Difference> {
-    by_program::compare_one(simulator, loads, PIECE)?;
-    let printed = guarded(|| simulate(loads)).unwrap_or_default();
+fn accepted(simulator: Reader, loads: &[u8]) -> Result<(), Difference> {
+    let printed = readers::compare_one(simulator, loads, PIECE)?;
     let mut lines = loads.split_inclusive(|&byte| byte == b'\n');
     let answers = printed.split_inclusive(|&byte| byte == b'\n');
     let mut behind = 0;
     for answer in answers.take(lines.clone().count()) {
         if !answer.starts_with(b"(done ") {
             let answer = String::from_utf8_lossy(answer).into_owned();
-            return Err(Difference {
-                what: format!("a line of a load is not accepted: {answer}"),
-                name: "difference.schedule".to_owned(),
-                contents: up_to_refusal(loads, behind),
-            });
+            let what = format!("a line of a load is not accepted: {answer}");
+            return Err(readers::shown_by(&up_to_refusal(loads, behind), what));
         }
         behind += lines.next().map_or(0, <[u8]>::len);
     }
@@ -247,11 +221,11 @@ fn up_to_refusal(loads: &[u8], start: usize) -> Vec<u8> {
 mod tests {
     use super::*;
 
-    fn words(list: &[&str]) -> Words {
+    pub fn words(list: &[&str]) -> Words {
         list.iter().map(|word| word.as_bytes().to_vec()).collect()
     }
 
-    const GOOD: [&str; 4] = ["(open 4 2 4 6 0 (0 0 0 0))", "2", "1", "1"];
+    pub const GOOD: [&str; 4] = ["(open 4 2 4 6 0 (0 0 0 0))", "2", "1", "1"];
 
     #[test]
     fn another_program_is_found_out() {
@@ -265,24 +239,6 @@ mod tests {
         let told = load(Path::new("true"), &refused, &mut counts).expect_err("it is silent");
         let apart = "standard error differs: line 1 (exit status: 0)\nproved: nothing\nreference: (refused 2)";
         assert!(told.what.contains(apart), "{}", told.what);
-    }
-
-    #[test]
-    fn wrong_words_want_one_line() {
-        let mut usage = None;
-        let mut told = |program: &str, list: &[&str]| {
-            let answered = misused(Path::new(program), &words(list), &mut usage);
-            answered.map_err(|difference| difference.what)
-        };
-        let what = told("echo", &["x"]).expect_err("it echoes");
-        assert!(what.contains("on standard output: x"), "{what}");
-        let what = told("true", &["x"]).expect_err("it is silent");
-        assert!(what.contains("not answered by one line"), "{what}");
-        let what = told("true", &GOOD).expect_err("nothing is wrong");
-        assert!(what.contains("the reference takes"), "{what}");
-        assert_eq!(told("sh", &["-c", "echo usage >&2"]), Ok(()));
-        let what = told("sh", &["-c", "echo other >&2"]).expect_err("it differs");
-        assert!(what.contains("otherwise: other"), "{what}");
     }
 
     #[test]

@@ -81,7 +81,8 @@ pub fn ending(draws: &mut Draws) -> Words {
         seed: draws.any(),
         step: 0,
     };
-    if draws.per_mille(400) {
+    // Where there are few views, an overdue message seldom is the one to end it.
+    if draws.per_mille(if few_views { 900 } else { 400 }) {
         let mut told = Told::of_program(load);
         told.begin(&setup, usize::MAX, &mut Loads::default());
         load.settle = told.load.step.saturating_sub(draws.below(30));

@@ -2,7 +2,7 @@
 //! bytes. What the reference makes of one is told again from the sentences
 //! about loads.
 
-use super::spoil::spoil;
+use super::spoil::{spoil, unmake};
 use super::{openings, states, unsound};
 use crate::calls::{Call, State};
 use crate::counts::Counts;
@@ -11,9 +11,7 @@ use crate::draws::Draws;
 use crate::lent::Lent;
 use crate::openings::{accepted, accepted_of};
 use crate::retell::Told;
-use crate::words::{
-    load_of, run_of, setup_of, BYTES, FULL, LOAD_WORDS, RUN_WORDS, SETTLED, SETUP_WORDS, TIME,
-};
+use crate::words::{load_of, run_of, setup_of, BYTES, FULL, LOAD_WORDS, SETUP_WORDS, TIME};
 use reference::{Plan, Run, Setup};
 
 /// Pieces in which a load is gone on with, at most.
@@ -103,13 +101,7 @@ fn crowded(draws: &mut Draws) -> Plan {
 /// Loads gone on with from copies of a state that is sound, but for what was
 /// spoilt of it; and from words that no opening has touched.
 fn handed_in(draws: &mut Draws, counts: &mut Counts) -> Result<(), Difference> {
-    let good = if draws.per_mille(500) {
-        let events = draws.below(EVENTS);
-        states::played(draws, events).0
-    } else {
-        states::arbitrary(draws)
-    };
-    let Some(run) = good.decoded() else {
+    let Some((good, run)) = states::sound(draws, 500, EVENTS) else {
         return Ok(());
     };
     for _ in 0..COPIES {
@@ -160,20 +152,6 @@ fn delay(state: &mut State, run: &Run, draws: &mut Draws) {
     let time = draws.one_of(&[near, limit, limit, limit + 1, u64::MAX]);
     if let Some(word) = state.run.front_mut().get_mut(TIME) {
         *word = time;
-    }
-}
-
-/// Takes away what makes words those of a run.
-fn unmake(state: &mut State, draws: &mut Draws) {
-    if draws.per_mille(500) {
-        let settled = draws.one_of(&[2, 3, 1 << 32, u64::MAX]);
-        if let Some(word) = state.run.front_mut().get_mut(SETTLED) {
-            *word = settled;
-        }
-    } else {
-        state
-            .run
-            .lend(draws.one_of(&[0, 6, 7, 73, RUN_WORDS - 1, RUN_WORDS + 1]));
     }
 }
 
@@ -241,6 +219,7 @@ fn both(state: &mut State, call: &Call, counts: &mut Counts) -> Result<u64, Diff
         counts.loads.begun += 1;
         &mut counts.loads.unbegun
     } else {
+        counts.traffic.moved(before.run.front(), state.run.front());
         counts.loads.gone_on += 1;
         &mut counts.loads.halted
     };
@@ -289,15 +268,11 @@ fn made(state: &State) -> Told {
 #[cfg(test)]
 mod tests {
     use super::*;
+    use crate::by_library::tests::counts_of;
 
     #[test]
     fn loads_meet_all_that_is_said_of_them() {
-        let (mut draws, mut counts) = (Draws::new(41), Counts::default());
-        for _ in 0..2_000 {
-            if let Err(difference) = case(&mut draws, &mut counts) {
-                panic!("{}", difference.told());
-            }
-        }
+        let counts = counts_of(case, 41, 2_000);
         assert_eq!(counts.loads.library_lacks(1), None, "{counts}");
     }
 }

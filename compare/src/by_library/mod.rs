@@ -4,10 +4,12 @@
 pub mod lines;
 pub mod loads;
 pub mod openings;
+pub mod reports;
 pub mod sound;
 pub mod spoil;
 pub mod states;
 pub mod steps;
+pub mod sums;
 pub mod ticks;
 pub mod together;
 pub mod unsound;
@@ -23,7 +25,7 @@ use crate::reference_calls::guarded;
 type Case = fn(&mut Draws, &mut Counts) -> Result<(), Difference>;
 
 /// The parts, and how many cases of each make one round.
-const PARTS: [(&str, Case, u64); 9] = [
+const PARTS: [(&str, Case, u64); 10] = [
     ("openings", openings::case, 400),
     ("sound runs", sound::case, 40),
     ("unsound runs", unsound::case, 60),
@@ -33,6 +35,7 @@ const PARTS: [(&str, Case, u64); 9] = [
     ("lines written", lines::writing, 400),
     ("events together", together::case, 60),
     ("loads", loads::case, 100),
+    ("reports", reports::case, 40),
 ];
 
 /// Compares so many rounds of every part, and answers the counts of each.
@@ -68,6 +71,17 @@ fn panicked(which: &str) -> Result<(), Difference> {
 #[cfg(test)]
 mod tests {
     use super::*;
+
+    /// The counts of so many cases of one part, which show no difference.
+    pub fn counts_of(case: Case, seed: u64, cases: u64) -> Counts {
+        let (mut draws, mut counts) = (Draws::new(seed), Counts::default());
+        for _ in 0..cases {
+            if let Err(difference) = case(&mut draws, &mut counts) {
+                panic!("{}", difference.told());
+            }
+        }
+        counts
+    }
 
     #[test]
     fn a_round_shows_no_difference_and_meets_every_check() {

@@ -1,8 +1,9 @@
 //! Sequences of openings and events on sound runs, in networks that are often
-//! full and tallies with words to spare, under the watch of demand 3.
+//! full and tallies with words to spare, under the watch of demand 3; between
+//! them reports of their traffic.
 
-use super::states;
 use super::watched::{time, Watched};
+use super::{reports, states, sums};
 use crate::adversary::Style;
 use crate::calls::{Call, State};
 use crate::counts::Counts;
@@ -17,6 +18,10 @@ use reference::Event;
 const CALLS: [u64; 4] = [60, 60, 60, 500];
 /// The refusals in a row after which a sequence is given up.
 const MOST_REFUSALS: u64 = 10;
+/// How many in a thousand sequences begin with sums that are not the opening's.
+const OTHER_SUMS: u64 = 300;
+/// How many in a thousand events are followed by a report.
+const REPORTS: u64 = 150;
 /// The views that a refused opening's lent words are enough for.
 const MOST_VIEWS: u64 = 30;
 
@@ -24,12 +29,18 @@ const MOST_VIEWS: u64 = 30;
 pub fn case(draws: &mut Draws, counts: &mut Counts) -> Result<(), Difference> {
     let mut watched = Watched::default();
     let mut state = if draws.per_mille(150) {
-        states::arbitrary(draws)
+        let state = states::arbitrary(draws);
+        watched.handed_in(&state);
+        state
     } else {
         let (mut state, setup) = states::fresh(draws);
         let call = states::opening(&setup, draws);
         let check = opened(&mut state, &call, counts)?;
         watched.opened(&call, check, &state, counts)?;
+        if draws.per_mille(OTHER_SUMS) {
+            sums::hand_in(&mut state, draws);
+            watched.handed_in(&state);
+        }
         state
     };
     let style = Style::of(&state, draws);
@@ -60,6 +71,10 @@ fn go_on(
         let before = time(state);
         let check = applied(state, &call, counts)?;
         watched.applied(&call, before, check, state, counts)?;
+        if draws.per_mille(REPORTS) {
+            let check = reports::reported(state, draws, counts)?;
+            watched.reported(check, state)?;
+        }
         let goes_on = check == 0 || time(state) > before;
         refusals = if goes_on { 0 } else { refusals + 1 };
     }
@@ -95,8 +110,9 @@ pub fn opened(state: &mut State, call: &Call, counts: &mut Counts) -> Result<u64
 /// Makes both calls of an event and counts them; answers the check.
 pub fn applied(state: &mut State, call: &Call, counts: &mut Counts) -> Result<u64, Difference> {
     counts.events += 1;
-    let before = time(state);
+    let (before, words) = (time(state), state.run.front().to_vec());
     let check = state.both(call)?;
     counts.moved(check, time(state).saturating_sub(before));
+    counts.traffic.moved(&words, state.run.front());
     Ok(check)
 }

@@ -1,20 +1,22 @@
 //! Spoiling one thing of a sound state: everything that check 9 names, and
 //! words that no rule is about.
 
+use super::sums;
 use crate::calls::State;
 use crate::draws::Draws;
-use crate::words::{CLOCKS, RUN_WORDS, SETTLED, VIEWS};
+use crate::words::{CLOCKS, RUN_WORDS, SENT, SETTLED, VIEWS};
 use reference::Run;
 
 /// Changes one thing of a state whose run was this one while it was sound.
 pub fn spoil(state: &mut State, good: &Run, draws: &mut Draws) {
-    match draws.below(10) {
+    match draws.below(11) {
         0 | 1 => put(state, plan(good, draws)),
         2 => put(state, times(state, good, draws)),
         3 => put(state, clock(good, draws)),
         4 | 5 => put(state, view(good, draws)),
         6 | 7 => message(state, good, draws),
         8 => lend_less(state, good, draws),
+        9 => put(state, sum(draws)),
         _ => {
             let (place, value) = (draws.place(state.tally.front().len()), draws.any());
             if let Some(word) = state.tally.front_mut().get_mut(place) {
@@ -135,6 +137,12 @@ fn view(good: &Run, draws: &mut Draws) -> (usize, u64) {
     (VIEWS + number, value)
 }
 
+/// A sum, of which no check speaks.
+fn sum(draws: &mut Draws) -> (usize, u64) {
+    let place = SENT + draws.place(RUN_WORDS - SENT);
+    (place, sums::one(draws))
+}
+
 /// A word of a held message, or one behind the last.
 fn message(state: &mut State, good: &Run, draws: &mut Draws) {
     let plan = good.plan;
@@ -172,7 +180,7 @@ fn lend_less(state: &mut State, good: &Run, draws: &mut Draws) {
     match draws.below(3) {
         0 => {
             let all = RUN_WORDS;
-            let length = draws.one_of(&[0, 1, 9, 73, all - 1, all, all + 1]);
+            let length = draws.one_of(&[0, 1, 9, 73, SENT, all - 1, all, all + 1]);
             state.run.lend(length);
         }
         1 => {
@@ -187,5 +195,19 @@ fn lend_less(state: &mut State, good: &Run, draws: &mut Draws) {
             let length = draws.one_of(&[few, network - 1, network, network + 1, all + 1]);
             state.network.lend(length);
         }
+    }
+}
+
+/// Takes away what makes words those of a run: that they are enough, or that
+/// the settled word is 0 or 1, or both.
+pub fn unmake(state: &mut State, draws: &mut Draws) {
+    let which = draws.below(3);
+    if let (0 | 1, Some(settled)) = (which, state.run.front_mut().get_mut(SETTLED)) {
+        *settled = draws.one_of(&[2, 3, 1 << 32, u64::MAX]);
+    }
+    if let 1 | 2 = which {
+        state
+            .run
+            .lend(draws.one_of(&[0, 6, 7, 73, SENT, RUN_WORDS - 1]));
     }
 }

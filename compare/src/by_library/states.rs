@@ -1,6 +1,7 @@
 //! States to call from: freshly opened, played on for a while, or put together
 //! so that check 9 passes them though no list of events leads there.
 
+use super::sums;
 use crate::adversary::Style;
 use crate::calls::{Call, State};
 use crate::draws::Draws;
@@ -67,10 +68,27 @@ pub fn played(draws: &mut Draws, events: u64) -> (State, Style) {
     play(state, &setup, draws, events)
 }
 
-/// Opens a setup and goes on for so many events in a drawn style.
+/// A sound state and its run: so many in a thousand are played, with fewer
+/// events than that, the others arbitrary.
+pub fn sound(draws: &mut Draws, per_mille: u64, events: u64) -> Option<(State, Run)> {
+    let state = if draws.per_mille(per_mille) {
+        let events = draws.below(events);
+        played(draws, events).0
+    } else {
+        arbitrary(draws)
+    };
+    let run = state.decoded()?;
+    Some((state, run))
+}
+
+/// Opens a setup and goes on for so many events in a drawn style, at times from
+/// sums that are not the opening's.
 pub fn play(mut state: State, setup: &Setup, draws: &mut Draws, events: u64) -> (State, Style) {
     let call = opening(setup, draws);
     state.refer(&call);
+    if draws.per_mille(300) {
+        sums::hand_in(&mut state, draws);
+    }
     let style = Style::drawn(draws, setup.plan.n, setup.faulty);
     for _ in 0..events {
         let event = next(&state, &style, draws);
@@ -88,15 +106,16 @@ pub fn next(state: &State, style: &Style, draws: &mut Draws) -> Event {
     }
 }
 
-/// A state that check 9 passes, with clocks, times, messages and tally as no
-/// list of events need leave them: sending times in any order, messages of no
-/// one's sending, sets of signers with any bits.
+/// A state that check 9 passes, with clocks, times, messages, tally and sums as
+/// no list of events need leave them: sending times in any order, messages of
+/// no one's sending, sets of signers with any bits.
 pub fn arbitrary(draws: &mut Draws) -> State {
     let (mut state, setup) = fresh(draws);
     let plan = setup.plan;
     let mut run = Run {
         plan,
         faulty: setup.faulty,
+        sums: sums::any(draws),
         ..Run::unopened()
     };
     place(&mut run, draws);

@@ -1,7 +1,7 @@
 //! Lists of events applied together: one call of the library, and one call of
 //! the reference for each event.
 
-use super::spoil::spoil;
+use super::spoil::{spoil, unmake};
 use super::watched::time;
 use super::{sound, states, unsound};
 use crate::adversary::Style;
@@ -13,7 +13,7 @@ use crate::lent::Lent;
 use crate::openings;
 use crate::shorten::shorten;
 use crate::wild;
-use crate::words::{Numbers, SETTLED};
+use crate::words::Numbers;
 
 /// How many events a list has, one of these.
 const EVENTS: [u64; 8] = [0, 1, 2, 5, 20, 60, 150, 400];
@@ -104,18 +104,6 @@ fn unopened(draws: &mut Draws, counts: &mut Counts) -> Result<(), Difference> {
     applied(lending(state, &list, draws), counts)
 }
 
-/// Takes away what makes words those of a run: that they are enough, or that
-/// the settled word is 0 or 1, or both.
-fn unmake(state: &mut State, draws: &mut Draws) {
-    let which = draws.below(3);
-    if let (0 | 1, Some(settled)) = (which, state.run.front_mut().get_mut(SETTLED)) {
-        *settled = draws.one_of(&[2, 3, 1 << 32, u64::MAX]);
-    }
-    if let 1 | 2 = which {
-        state.run.lend(draws.one_of(&[0, 6, 7, 73, 136]));
-    }
-}
-
 /// A state that lends a list too, with words behind it that are no event, and
 /// others that are not lent.
 fn lending(state: State, list: &[Numbers], draws: &mut Draws) -> State {
@@ -137,6 +125,7 @@ fn applied(before: State, counts: &mut Counts) -> Result<(), Difference> {
         .both(&Call::ApplyAll)
         .map_err(|difference| shortened(&before, difference))?;
     counts.together(check, state.events.front());
+    counts.traffic.moved(before.run.front(), state.run.front());
     Ok(())
 }
 
@@ -160,15 +149,11 @@ fn shortened(state: &State, difference: Difference) -> Difference {
 #[cfg(test)]
 mod tests {
     use super::*;
+    use crate::by_library::tests::counts_of;
 
     #[test]
     fn lists_meet_all_that_is_said_of_them() {
-        let (mut draws, mut counts) = (Draws::new(31), Counts::default());
-        for _ in 0..150 {
-            if let Err(difference) = case(&mut draws, &mut counts) {
-                panic!("{}", difference.told());
-            }
-        }
+        let counts = counts_of(case, 31, 150);
         assert_eq!(counts.met_by_events_below(1), []);
         assert_eq!(counts.stopped_below(1), []);
         assert!(counts.together.met(1), "{counts}");

@@ -24,13 +24,7 @@ pub const LONGEST: [usize; 2] = [524_288, 524_289];
 
 /// One state and its spoilt copies.
 pub fn case(draws: &mut Draws, counts: &mut Counts) -> Result<(), Difference> {
-    let good = if draws.per_mille(600) {
-        let events = draws.below(EVENTS);
-        states::played(draws, events).0
-    } else {
-        states::arbitrary(draws)
-    };
-    let Some(run) = good.decoded() else {
+    let Some((good, run)) = states::sound(draws, 600, EVENTS) else {
         return Ok(());
     };
     for _ in 0..COPIES {

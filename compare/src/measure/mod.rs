@@ -8,6 +8,7 @@ pub mod loads;
 mod plain;
 pub mod programs;
 pub mod ticks;
+pub mod traffic;
 
 use std::convert::Infallible;
 use std::fmt::{self, Display, Formatter};

@@ -2,7 +2,7 @@
 //! Taken into a measured loop they would be as fast or slow as the compiler
 //! finds that loop.
 
-use reference::{Answer, Event, Input, Plan, Processor, Reading, Run, Setup, Stepped};
+use reference::{Answer, Event, Input, Plan, Processor, Reading, Run, Setup, Stepped, Traffic};
 
 /// Applies an event, check 9 included.
 #[inline(never)]
@@ -38,4 +38,10 @@ pub fn write_event(event: Event, out: &mut [u8]) -> Result<usize, u64> {
 #[inline(never)]
 pub fn write_setup(setup: &Setup, out: &mut [u8]) -> Result<usize, u64> {
     reference::write_setup(setup, out)
+}
+
+/// Reports the traffic of a run, check 9 included.
+#[inline(never)]
+pub fn traffic(run: &Run, tally: &[u64], network: &[u64]) -> Result<Traffic, u64> {
+    reference::traffic(run, tally, network)
 }

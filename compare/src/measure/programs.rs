@@ -19,7 +19,7 @@ pub fn rows() -> Result<Vec<Row>> {
     let reference = reference("reference_simulate")?;
     [4, 16, 64]
         .into_iter()
-        .map(|n| row(n, &program::proved(), &reference))
+        .map(|n| row(n, &program::simulator(), &reference))
         .collect()
 }
 

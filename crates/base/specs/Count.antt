@@ -19,7 +19,7 @@ pub bit-le : (b : Bool) → bit b ≤ 1
 bit-le true = omega arith
 bit-le false = omega arith
 
-bit-mono : (a b : Bool) → (T a → T b) → bit a ≤ bit b
+pub bit-mono : (a b : Bool) → (T a → T b) → bit a ≤ bit b
 bit-mono true true h = omega arith
 bit-mono true false h = absurd (h tt)
 bit-mono false true h = omega arith

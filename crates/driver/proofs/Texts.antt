@@ -5,7 +5,7 @@ use Prim.Native.Nat.{ℕ, _+_, _-_, _*_, _≤_, _<_}
 use native.Mathlib.Omega.{arith}
 use native.Mathlib.Numerals.{add-one}
 use mathlib.Core.List.{List, [], _∷_, _++_}
-use lib.ListN.{length, drop}
+use lib.ListN.{length}
 use borrow.Rule.Slice.PartMut.{midOf, putMid, same-len-mid}
 use lib.Dec.{ltb}
 use borrow.Author.Tests.{lt-ltb, le-ltb}
@@ -20,11 +20,11 @@ use Rattle.lines.specs.Contracts.{line, Put}
 use Rattle.lines.specs.Printout.{answerForm, processorForm, printedMost}
 use Rattle.lines.specs.Splitting.{remainder}
 use Rattle.lines.proofs.Printing.{answer-length, processor-length}
-use Rattle.lines.proofs.Putting.{left-over, put-inside, put-none, put-part}
+use Rattle.lines.proofs.Putting.{left-over, put-inside, put-none, put-part, too-few, put-prints}
 use Rattle.printout.specs.declared.Session.{Session}
 use Rattle.printout.specs.declared.Served.{Served}
 use Rattle.printout.specs.Printout.{Standing, standingOf, lineReply, printedLine, processorLines, closing, printedFrom}
-use Rattle.printout.specs.Contracts.{Prints, AnswersLine, Begun, closingMost, Closes}
+use Rattle.printout.specs.Contracts.{AnswersLine, Begun, closingMost, Closes}
 use Rattle.driver.specs.Inner.{replying, Passes}
 
 -- ---- what has room
@@ -42,15 +42,6 @@ put-yes t words out k after e p = rw e p
 
 pub put-no : (t : Bool) (words out : List ℕ) → t ≡ false → Put (cond t words []) out 0 out
 put-no t words out e = rw e (put-none out)
-
--- ---- printed, or refused for too few bytes
-
-pub too-few : (most : ℕ) (words out : List ℕ) → length out < most → Prints most words out (Refused 1) out
-too-few most words out h = (cond-yes _ _ _ _ (lt-ltb _ _ h) refl, cond-yes _ _ _ _ (lt-ltb _ _ h) refl)
-
-pub put-prints : (most : ℕ) (words out : List ℕ) (k : ℕ) (after : List ℕ) → most ≤ length out → Put words out k after → Prints most words out (Bytes k) after
-put-prints most words out k after h p =
-    (cond-no _ _ _ _ (le-ltb _ _ h) (ap Bytes (p .bytes)), cond-no _ _ _ _ (le-ltb _ _ h) (p .text ∙ ap (λ (i : ℕ). words ++ drop i out) (p .bytes)))
 
 -- ---- lines one behind the other, each into the bytes that the last ones left
 

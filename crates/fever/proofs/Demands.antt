@@ -17,9 +17,11 @@ use Rattle.model.specs.Opening.{blank, opened, openingChecks, opening}
 use Rattle.model.specs.Checks.{unsoundForGood}
 use Rattle.model.specs.Events.{applied}
 use Rattle.model.specs.Lists.{after, sinceSettling, ticksSince}
+use Rattle.model.specs.Traffic.{historyTotals, totals}
 use Rattle.liveness.proofs.Judging.{by-judged-each, neither, not-ltb}
 use Rattle.liveness.specs.Promises.{Tabled}
 use Rattle.liveness.proofs.Promises.{list-law, stays-sound, settled-since}
+use Rattle.liveness.proofs.Counted.{report-is-history}
 use Rattle.simulator.specs.Demands.{Demanded}
 use Rattle.simulator.proofs.Demands.{demand-three-of-code, handed-is-after, every-list-fed}
 use Rattle.workload.proofs.Lasting.{reachable-good}
@@ -28,9 +30,11 @@ use Rattle.words.specs.Batches.{wordsApplied}
 use Rattle.fever.specs.Layout.{setupLength, setupIn, runLength, runIn, runOver, neitherSettled}
 use Rattle.fever.specs.Contracts.{Lent, lentOf, lentState, Called, called, told, openingWords, OpensWords, CalledAll}
 use Rattle.fever.specs.Loads.{loadLength, CalledLoad, calledLoad, toldLoad, loadIn, generatingMore}
-use Rattle.fever.specs.Promises.{Call, one, many, more, InTurn, lentAfter, eventsOf, DemandThreeOfLibrary, NeverNine, NoneNine, NeverNineOfMany, LibraryIsAfter, SettledTold, SettlingTold}
+use Rattle.fever.specs.Promises.{Call, one, many, more, InTurn, lentAfter, eventsOf, DemandThreeOfLibrary, NeverNine, NoneNine, NeverNineOfMany, LibraryIsAfter, SettledTold, SettlingTold, TrafficOfLibrary}
+use Rattle.fever.specs.Traffic.{toldReport}
 use Rattle.fever.proofs.KeepsTables.{opened-tabled}
 use Rattle.fever.proofs.Calling.{or-true}
+use Rattle.fever.proofs.Telling.{report-is}
 use Rattle.fever.proofs.Turns.{Left, call-told, many-told, calls-left, run-left}
 
 -- ---- the opening
@@ -197,3 +201,14 @@ settling-told setup before opened' o ks cs f i =
       ticks = λ y. ap (λ (a : State). a .run .time) (l .state) ∙ s .time y
           ∙ sym (ap (λ (a : State). a .run .gst + ticksSince (sinceSettling (first setup before opened' o ks cs f i) (happened setup before opened' o ks cs f i))) (l .state));
     })
+
+-- what a report answers on the words of a run that is opened here
+pub traffic-of-library : TrafficOfLibrary
+traffic-of-library setup before opened' o ks cs f i ws left r room told =
+    let b = began-left setup before opened' o ks cs f i in
+    let l = last-left setup before opened' o ks cs f i in
+    let es = happened setup before opened' o ks cs f i in
+    told ∙ sym (report-is (lentAfter opened' cs i) ws (l .laid .long) room (l .laid .sorted))
+    ∙ ap (λ (a : State). toldReport ws (totals a)) (l .state)
+    ∙ ap (toldReport ws) (report-is-history (setupIn setup) (lentState before) (is-accepted setup before opened' o ks cs f i) es)
+    ∙ ap (λ (a : State). toldReport ws (historyTotals (setupIn setup) (lentState before) (eventsOf a (take i ks)))) (sym (b .1 .state))

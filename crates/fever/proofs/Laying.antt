@@ -12,37 +12,42 @@ use Rattle.writer.specs.Stamps.{stamp, Room, Stamped}
 use Rattle.writer.proofs.Stamping.{room-second, written-then}
 use Rattle.words.specs.declared.Numbers.{Numbers}
 use Rattle.types.specs.Runs.{settledAs}
-use Rattle.fever.specs.Layout.{clocksWord, runLength, runNumbers, runOver, readingLength, readNumbers, readingWords}
+use Rattle.fever.specs.Layout.{clocksWord, runLength, runNumbers, sumWords, runOver, readingLength, readNumbers, readingWords}
 
 -- words from the first on
 pub laid : (d e w : List ℕ) (b n : ℕ) → length w ≡ n → Stamped d 0 w b e → e ≡ w ++ drop n d
 unfolding stamp
 laid d e w b n l s = let q : 0 + length w ≡ n = omega (arith, l) in s .bytes ∙ ap (λ (k : ℕ). w ++ drop k d) q
 
--- ---- a run: nine numbers and two tables
+-- ---- a run: nine numbers, two tables and nine sums
 
-module _ (numbers clocks views d : List ℕ) (nine : length numbers ≡ clocksWord) (c : length clocks ≡ tableClocks) (v : length views ≡ tableClocks) (fits : runLength ≤ length d) where
-  run-length : length (numbers ++ (clocks ++ views)) ≡ runLength
-  run-length = omega (arith, length-append numbers (clocks ++ views), length-append clocks views)
+module _ (numbers clocks views sums d : List ℕ) (nine : length numbers ≡ clocksWord) (c : length clocks ≡ tableClocks) (v : length views ≡ tableClocks)
+    (nine-more : length sums ≡ 9) (fits : runLength ≤ length d) where
+  abbrev words : List ℕ
+  words = numbers ++ (clocks ++ (views ++ sums))
 
-  run-room : Room d 0 (numbers ++ (clocks ++ views))
+  run-length : length words ≡ runLength
+  run-length = omega (arith, length-append numbers (clocks ++ (views ++ sums)), length-append clocks (views ++ sums), length-append views sums)
+
+  run-room : Room d 0 words
   run-room = record { fits = omega (arith, run-length) }
 
-  tables-laid : (e f g : List ℕ) (a b c : ℕ) → Stamped d 0 numbers a e → Stamped e a clocks b f → Stamped f b views c g → g ≡ numbers ++ (clocks ++ views) ++ drop runLength d
-  tables-laid e f g a b c x y z =
-      laid d g (numbers ++ (clocks ++ views)) c runLength run-length (written-then (clocks ++ views) x (written-then views y (λ h. z)) run-room)
+  tables-laid : (e f g h : List ℕ) (a b c k : ℕ) → Stamped d 0 numbers a e → Stamped e a clocks b f → Stamped f b views c g → Stamped g c sums k h
+      → h ≡ words ++ drop runLength d
+  tables-laid e f g h a b c k x y z w =
+      laid d h words k runLength run-length (written-then (clocks ++ (views ++ sums)) x (written-then (views ++ sums) y (written-then sums z (λ _. w))) run-room)
 
 -- the numbers of a run, with the settled word at hand
 abbrev numbersWith : Run → ℕ → List ℕ
 numbersWith r s = r .plan .n ∷ r .plan .delta ∷ r .plan .gamma ∷ r .plan .views ∷ r .faulty ∷ r .time ∷ s ∷ r .gst ∷ r .held ∷ []
 
-pub run-laid : (r : Run) (s : ℕ) (clocks views d e f g : List ℕ) (a b c : ℕ) → clocks ≡ r .clocks → views ≡ r .views
+pub run-laid : (r : Run) (s : ℕ) (clocks views d e f g h : List ℕ) (a b c k : ℕ) → clocks ≡ r .clocks → views ≡ r .views
     → length clocks ≡ tableClocks → length views ≡ tableClocks → runLength ≤ length d → s ≡ settledAs (r .settled)
-    → Stamped d 0 (numbersWith r s) a e → Stamped e a clocks b f → Stamped f b views c g → g ≡ runOver d r
-run-laid r s clocks views d e f g a b c i j k v fits q x y z =
-    tables-laid (numbersWith r s) clocks views d refl k v fits e f g a b c x y z
-    ∙ ap (λ (n : ℕ). numbersWith r n ++ (clocks ++ views) ++ drop runLength d) q
-    ∙ ap₂ (λ (l m : List ℕ). runNumbers r ++ (l ++ m) ++ drop runLength d) i j
+    → Stamped d 0 (numbersWith r s) a e → Stamped e a clocks b f → Stamped f b views c g → Stamped g c (sumWords (r .traffic)) k h → h ≡ runOver d r
+run-laid r s clocks views d e f g h a b c k i j l v fits q x y z w =
+    tables-laid (numbersWith r s) clocks views (sumWords (r .traffic)) d refl l v refl fits e f g h a b c k x y z w
+    ∙ ap (λ (n : ℕ). numbersWith r n ++ (clocks ++ (views ++ sumWords (r .traffic))) ++ drop runLength d) q
+    ∙ ap₂ (λ (m n : List ℕ). runNumbers r ++ (m ++ (n ++ sumWords (r .traffic))) ++ drop runLength d) i j
 
 -- ---- what was read: nine numbers and a table
 

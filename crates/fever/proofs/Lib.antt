@@ -3,6 +3,7 @@ pub mod Tables
 pub mod Laying
 pub mod ReadBack
 pub mod Calling
+pub mod Telling
 pub mod Loading
 pub mod Stepping
 pub mod Writing

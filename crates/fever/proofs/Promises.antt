@@ -1,5 +1,5 @@
 -- The promises of specs/Promises.antt, proved: those of calls in turn, of loads, of layouts and of writing are passed on from the files that show them. Assumes nothing.
-pub use Rattle.fever.proofs.Demands.{demand-three-of-library, never-nine, never-nine-of-many, library-is-after, settling-told}
+pub use Rattle.fever.proofs.Demands.{demand-three-of-library, never-nine, never-nine-of-many, library-is-after, settling-told, traffic-of-library}
 pub use Rattle.fever.proofs.Turns.{every-call-answered, no-event-nothing, many-in-turn}
 pub use Rattle.fever.proofs.LoadCalls.{lines-are-events, generates-after-opening, calls-after-load, refused-load-keeps, refused-more-keeps}
 pub use Rattle.fever.proofs.ReadBack.{run-back, run-words-back, setup-back, event-back, read-event-back, read-setup-back}

@@ -2,42 +2,109 @@
 use mathlib.Core.Path.{_≡_, refl, sym, ap, ap₂, _∙_, subst}
 use mathlib.Core.Bool.{false}
 use mathlib.Core.List.{List, [], _∷_, _++_, append-assoc}
-use Prim.Native.Nat.{ℕ, zero, suc, _+_}
+use Prim.Native.Nat.{ℕ, zero, suc, _+_, _≤_}
 use native.Mathlib.Omega.{arith}
 use lib.Dec.{T, eqb, ltb}
-use lib.ListN.{take, drop, take-append-drop}
-use lib.Seq.{take-at, drop-at, drop-drop}
+use lib.ListN.{length, getD, take, drop, take-append-drop, length-drop}
+use lib.Seq.{take-at, drop-at, drop-drop, getD-drop}
 use borrow.Author.Tests.{lt-ltb}
 use Rattle.types.specs.declared.Event.the-variants.{Deliver, Sign, Show, Settle, Tick}
 use Rattle.types.specs.declared.Message.the-variants.{View, Vote, Vc, Qc}
+use Rattle.types.specs.declared.Traffic.{Traffic}
 use Rattle.types.specs.Quantities.{tableClocks}
+use Rattle.types.specs.Traffic.{countsOf, trafficOf}
+use Rattle.model.specs.State.{runOf}
 use Rattle.types.specs.Runs.{settledAs, settled-back}
 use Rattle.words.specs.Events.{eventOf}
-use Rattle.fever.specs.Layout.{setupIn, runIn}
+use Rattle.fever.specs.Layout.{setupIn, countsAt, runIn, sumWords}
 use Rattle.fever.specs.Promises.{RunBack, RunWordsBack, SetupBack, EventBack, ReadEventBack, ReadSetupBack}
 
 pub run-back : RunBack
 unfolding runIn
 run-back r more c v =
-    let whole : (r .clocks ++ r .views) ++ more ≡ r .clocks ++ (r .views ++ more) = append-assoc (r .clocks) (r .views) more in
-    let clocks : take tableClocks ((r .clocks ++ r .views) ++ more) ≡ r .clocks =
-    ap (take tableClocks) whole ∙ take-at (r .clocks) (r .views ++ more) tableClocks c in
-    let views : take tableClocks (drop tableClocks ((r .clocks ++ r .views) ++ more)) ≡ r .views =
-    ap (λ (l : List ℕ). take tableClocks (drop tableClocks l)) whole
-    ∙ ap (take tableClocks) (drop-at (r .clocks) (r .views ++ more) tableClocks c) ∙ take-at (r .views) more tableClocks v in
-    rw (settled-back (r .settled), clocks, views)
+    λ i. runOf (r .plan) (r .faulty) (r .time) (settled-back (r .settled) i) (r .gst) (r .held) (clocks i) (views i)
+    (trafficOf (countsOf (sum 0 i) (sum 1 i) (sum 2 i) (sum 3 i)) (countsOf (sum 4 i) (sum 5 i) (sum 6 i) (sum 7 i)) (sum 8 i))
+  where
+    behind : List ℕ
+    behind = sumWords (r .traffic) ++ more
 
--- the other way: the settled word is 0 or 1, and the two tables and what is behind them are all that is behind the nine numbers
+    tables : List ℕ
+    tables = (r .clocks ++ (r .views ++ sumWords (r .traffic))) ++ more
+
+    whole : tables ≡ r .clocks ++ (r .views ++ behind)
+    whole = append-assoc (r .clocks) (r .views ++ sumWords (r .traffic)) more
+        ∙ ap (λ (l : List ℕ). r .clocks ++ l) (append-assoc (r .views) (sumWords (r .traffic)) more)
+
+    clocks : take tableClocks tables ≡ r .clocks
+    clocks = ap (take tableClocks) whole ∙ take-at (r .clocks) (r .views ++ behind) tableClocks c
+
+    rest : drop tableClocks tables ≡ r .views ++ behind
+    rest = ap (drop tableClocks) whole ∙ drop-at (r .clocks) (r .views ++ behind) tableClocks c
+
+    views : take tableClocks (drop tableClocks tables) ≡ r .views
+    views = ap (take tableClocks) rest ∙ take-at (r .views) behind tableClocks v
+
+    last : drop (tableClocks + tableClocks) tables ≡ behind
+    last = sym (drop-drop tableClocks tableClocks tables) ∙ ap (drop tableClocks) rest ∙ drop-at (r .views) behind tableClocks v
+
+    sum : (j : ℕ) → getD tables (tableClocks + tableClocks + j) 0 ≡ getD behind j 0
+    sum j = sym (getD-drop (tableClocks + tableClocks) tables j 0) ∙ ap (λ (l : List ℕ). getD l j 0) last
+
+-- the other way: the settled word is 0 or 1; the two tables, the sums and what is behind them are all that is behind the nine numbers
 settled-same : (g : ℕ) → ltb 1 g ≡ false → settledAs (eqb g 1) ≡ g
 settled-same zero e = refl
 settled-same (suc zero) e = refl
 settled-same (suc (suc g)) e = absurd (subst T (sym (lt-ltb 1 (suc (suc g)) (omega arith)) ∙ e) tt)
 
-tables-same : (ws : List ℕ) → (take tableClocks ws ++ take tableClocks (drop tableClocks ws)) ++ drop (tableClocks + tableClocks) ws ≡ ws
-tables-same ws =
-    append-assoc (take tableClocks ws) (take tableClocks (drop tableClocks ws)) (drop (tableClocks + tableClocks) ws)
-    ∙ ap (λ (l : List ℕ). take tableClocks ws ++ (take tableClocks (drop tableClocks ws) ++ l)) (sym (drop-drop tableClocks tableClocks ws))
-    ∙ ap (λ (l : List ℕ). take tableClocks ws ++ l) (take-append-drop tableClocks (drop tableClocks ws)) ∙ take-append-drop tableClocks ws
+-- the sums behind two tables
+abbrev sumsFrom : List ℕ → Traffic
+sumsFrom ws = trafficOf (countsAt (tableClocks + tableClocks) ws) (countsAt (tableClocks + tableClocks + 4) ws) (getD ws (tableClocks + tableClocks + 8) 0)
+
+nine-same : (l : List ℕ) → 9 ≤ length l
+    → (getD l 0 0 ∷ getD l 1 0 ∷ getD l 2 0 ∷ getD l 3 0 ∷ getD l 4 0 ∷ getD l 5 0 ∷ getD l 6 0 ∷ getD l 7 0 ∷ getD l 8 0 ∷ []) ++ drop 9 l ≡ l
+nine-same [] h = absurd (omega arith)
+nine-same (a ∷ []) h = absurd (omega arith)
+nine-same (a ∷ b ∷ []) h = absurd (omega arith)
+nine-same (a ∷ b ∷ c ∷ []) h = absurd (omega arith)
+nine-same (a ∷ b ∷ c ∷ d ∷ []) h = absurd (omega arith)
+nine-same (a ∷ b ∷ c ∷ d ∷ e ∷ []) h = absurd (omega arith)
+nine-same (a ∷ b ∷ c ∷ d ∷ e ∷ f ∷ []) h = absurd (omega arith)
+nine-same (a ∷ b ∷ c ∷ d ∷ e ∷ f ∷ g ∷ []) h = absurd (omega arith)
+nine-same (a ∷ b ∷ c ∷ d ∷ e ∷ f ∷ g ∷ k ∷ []) h = absurd (omega arith)
+nine-same (a ∷ b ∷ c ∷ d ∷ e ∷ f ∷ g ∷ k ∷ i ∷ l) h = refl
+
+-- the two tables, the sums and what is behind them
+tables-same : (ws : List ℕ) → tableClocks + tableClocks + 9 ≤ length ws
+    → (take tableClocks ws ++ (take tableClocks (drop tableClocks ws) ++ sumWords (sumsFrom ws))) ++ drop (tableClocks + tableClocks + 9) ws ≡ ws
+tables-same ws fits =
+    append-assoc clocks (views ++ sums) last
+    ∙ ap (λ (l : List ℕ). clocks ++ l) (append-assoc views sums last ∙ ap (λ (l : List ℕ). views ++ l) behind ∙ take-append-drop tableClocks (drop tableClocks ws))
+    ∙ take-append-drop tableClocks ws
+  where
+    clocks : List ℕ
+    clocks = take tableClocks ws
+
+    views : List ℕ
+    views = take tableClocks (drop tableClocks ws)
+
+    sums : List ℕ
+    sums = sumWords (sumsFrom ws)
+
+    last : List ℕ
+    last = drop (tableClocks + tableClocks + 9) ws
+
+    rest : List ℕ
+    rest = drop (tableClocks + tableClocks) ws
+
+    at : (j : ℕ) → getD ws (tableClocks + tableClocks + j) 0 ≡ getD rest j 0
+    at j = sym (getD-drop (tableClocks + tableClocks) ws j 0)
+
+    long : 9 ≤ length rest
+    long = omega (arith, fits, length-drop (tableClocks + tableClocks) ws)
+
+    behind : sums ++ last ≡ drop tableClocks (drop tableClocks ws)
+    behind = (λ i. (at 0 i ∷ at 1 i ∷ at 2 i ∷ at 3 i ∷ at 4 i ∷ at 5 i ∷ at 6 i ∷ at 7 i ∷ at 8 i ∷ []) ++ sym (drop-drop 9 (tableClocks + tableClocks) ws) i)
+        ∙ nine-same rest long ∙ sym (drop-drop tableClocks tableClocks ws)
 
 pub run-words-back : RunWordsBack
 unfolding runIn
@@ -51,7 +118,7 @@ run-words-back (a ∷ b ∷ c ∷ d ∷ e ∷ f ∷ []) l s = absurd (omega arit
 run-words-back (a ∷ b ∷ c ∷ d ∷ e ∷ f ∷ g ∷ []) l s = absurd (omega arith)
 run-words-back (a ∷ b ∷ c ∷ d ∷ e ∷ f ∷ g ∷ h ∷ []) l s = absurd (omega arith)
 run-words-back (a ∷ b ∷ c ∷ d ∷ e ∷ f ∷ g ∷ h ∷ i ∷ ws) l s =
-    ap₂ (λ (z : ℕ) (y : List ℕ). a ∷ b ∷ c ∷ d ∷ e ∷ f ∷ z ∷ h ∷ i ∷ y) (settled-same g s) (tables-same ws)
+    ap₂ (λ (z : ℕ) (y : List ℕ). a ∷ b ∷ c ∷ d ∷ e ∷ f ∷ z ∷ h ∷ i ∷ y) (settled-same g s) (tables-same ws (omega (arith, l)))
 
 pub setup-back : SetupBack
 unfolding setupIn

@@ -27,7 +27,7 @@ use Rattle.words.specs.Batches.{wordsApplied}
 use Rattle.types.specs.Runs.{settledAs}
 use Rattle.loads.specs.Loads.{Load}
 use Rattle.loads.proofs.Turns.{further-unsound}
-use Rattle.fever.specs.Layout.{runLength, timeWord, heldWord, runIn, runWords, runOver, neitherSettled}
+use Rattle.fever.specs.Layout.{runLength, timeWord, heldWord, runIn, sumWords, runWords, runOver, neitherSettled}
 use Rattle.fever.specs.Contracts.{Lent, lentOf, lentState, Called, called, told, applyingWords, CalledAll, calledAll, toldAll, applyingAll, AppliesEvents}
 use Rattle.fever.specs.Loads.{loadLength, stepsWord, settlesWord, CalledLoad, calledLoad, toldLoad, pointIn, loadIn, generatingMore, eventsRead, loadEvents}
 use Rattle.fever.specs.Promises.{numbersOf, Call, one, many, more, Answers, InTurn, lentAfter, callEvents, eventsOf, EveryCallAnswered, NoEventNothing, answersOf, ManyInTurn}
@@ -54,7 +54,8 @@ settled-sorted true = refl
 settled-sorted false = refl
 
 words-length : (r : Run) → Tabled r → length (runWords r) ≡ runLength
-words-length r h = omega (arith, length-append (r .clocks) (r .views), h .clocks, h .views)
+words-length r h =
+    omega (arith, length-append (r .clocks) (r .views ++ sumWords (r .traffic)), length-append (r .views) (sumWords (r .traffic)), h .clocks, h .views)
 
 -- the words of a run that a call left
 pub run-left : (tail ws : List ℕ) (s : State) → drop runLength ws ≡ tail → Tabled (s .run) → Left tail s (lentOf (runOver ws (s .run)) (s .tally) (s .network))

@@ -7,6 +7,7 @@ use lib.ListN.{length, getD, take, drop, replicate}
 use Rattle.types.specs.declared.Event.{Event}
 use Rattle.types.specs.declared.Event.the-variants.{Deliver, Sign, Show, Settle, Tick}
 use Rattle.types.specs.declared.Message.the-variants.{View, Vote, Vc, Qc}
+use Rattle.model.specs.Traffic.{totals}
 use Rattle.model.specs.Lists.{sinceSettling, ticksDone, ticksSince}
 use Rattle.model.specs.Rows.{definitions, standard, table, zeroes, setupOf, fieldsOf, Row, agreeing, number, words}
 use Rattle.lines.specs.Decimal.{decimal}
@@ -22,6 +23,7 @@ use Rattle.words.specs.Batches.{wordsApplied}
 use Rattle.fever.specs.Layout.{setupIn, setupWords, runIn, timeWord, heldWord}
 use Rattle.fever.specs.Contracts.{Lent, lentOf, lentState, Called, openingWords, applyingWords, CalledAll, applyingAll, moveOf, recordLeft, messagesTold, readingLeft, writtenBy}
 use Rattle.fever.specs.Loads.{CalledLoad, generatingWords, generatingMore}
+use Rattle.fever.specs.Traffic.{CalledReport, reporting}
 use Rattle.fever.specs.Promises.{one, eventsOf}
 
 -- ---- calls
@@ -32,7 +34,7 @@ sevens run tally network = lentOf (replicate run 7) (replicate tally 7) (replica
 
 -- two words more than a run has, and two more than the tally of 6 views
 abbrev pub enough : Lent
-enough = sevens 139 26 64
+enough = sevens 148 26 64
 
 -- "(open 4 2 4 6 mask (c0 c1 ..))"
 abbrev pub opensAt : ℕ → List ℕ → List ℕ
@@ -73,14 +75,14 @@ callRows =
       telling (openingWords (opensAt 0 zeroes) enough) printed,
       (0 ∷ 0 ∷ 8 ∷ []) ∷ (0 ∷ 0 ∷ 7 ∷ []) ∷ (0 ∷ 0 ∷ 10 ∷ []) ∷ (0 ∷ 3 ∷ 10 ∷ []) ∷ (0 ∷ 3 ∷ 10 ∷ []) ∷ (16 ∷ 5 ∷ 10 ∷ []) ∷ [],
     )
-    -- the run's words after an opening, settling and two ticks: the clock of the faulty one is 0, what stands behind the 137 words stays
+    -- the run's words after an opening, settling and two ticks: the clock of the faulty one is 0, three view messages and three votes were sent, what stands behind the 146 words stays
     ∷ words (applyingWords ((Tick 2)) (applyingWords Settle (openingWords (opensAt 8 (1 ∷ 2 ∷ 3 ∷ 9 ∷ [])) enough .lent) .lent) .lent .run)
-    (4 ∷ 2 ∷ 4 ∷ 6 ∷ 8 ∷ 2 ∷ 1 ∷ 0 ∷ 6 ∷ [] ++ table (3 ∷ 4 ∷ 5 ∷ []) ++ table [] ++ (7 ∷ 7 ∷ []))
+    (4 ∷ 2 ∷ 4 ∷ 6 ∷ 8 ∷ 2 ∷ 1 ∷ 0 ∷ 6 ∷ [] ++ table (3 ∷ 4 ∷ 5 ∷ []) ++ table [] ++ (3 ∷ 3 ∷ 0 ∷ 0 ∷ 0 ∷ 0 ∷ 0 ∷ 0 ∷ 0 ∷ 7 ∷ 7 ∷ []))
     -- refused calls: a start clock too high; a word too few; no run; numbers that are no event, no such message, 0 ticks; a settled word that is of no run
     ∷ leaves enough 7 (openingWords (opensAt 0 (12 ∷ 12 ∷ 12 ∷ 12 ∷ [])) enough)
     ∷ leaves enough 1 (openingWords (take 68 (opensAt 0 zeroes)) enough)
-    ∷ leaves (sevens 136 24 64) 1 (openingWords (opensAt 0 zeroes) (sevens 136 24 64))
-    ∷ leaves (sevens 136 24 64) 1 (applyingWords Settle (sevens 136 24 64))
+    ∷ leaves (sevens 145 24 64) 1 (openingWords (opensAt 0 zeroes) (sevens 145 24 64))
+    ∷ leaves (sevens 145 24 64) 1 (applyingWords Settle (sevens 145 24 64))
     ∷ leaves enough 9 (applyingWords (Settle) enough)
     ∷ leaves openedWords 1 (applyingWords (eventAs (fourNumbers 6 1 0 0)) openedWords)
     ∷ leaves openedWords 1 (applyingWords (eventAs (fourNumbers 1 5 0 0)) openedWords)
@@ -133,7 +135,7 @@ allRows =
     -- no event
     ∷ allLeaves 0 openedWords (1 ∷ 1 ∷ 0 ∷ []) (applyingAll (1 ∷ 1 ∷ 0 ∷ []) openedWords)
     -- refused as a whole: a word too few, a settled word that is of no run
-    ∷ allLeaves 1 (sevens 136 24 64) (inWords printed) (applyingAll (inWords printed) (sevens 136 24 64))
+    ∷ allLeaves 1 (sevens 145 24 64) (inWords printed) (applyingAll (inWords printed) (sevens 145 24 64))
     ∷ allLeaves 9 oddly (inWords printed) (applyingAll (inWords printed) oddly)
     ∷ []
 
@@ -177,12 +179,12 @@ loadRows =
     ∷ loadLeaves 0 enough (8 ∷ 3 ∷ 1 ∷ 0 ∷ 0 ∷ 1 ∷ 7 ∷ []) (replicate 26 7) (generatingWords (opensAt 0 zeroes) enough eightSteps (replicate 26 7))
     -- refused: a word too few of the setup, the run or the load; a start clock too high; no run; a settled word that is of no run
     ∷ noLoad 1 (take 68 (opensAt 0 zeroes)) enough eightSteps
-    ∷ noLoad 1 (opensAt 0 zeroes) (sevens 136 24 64) eightSteps
+    ∷ noLoad 1 (opensAt 0 zeroes) (sevens 145 24 64) eightSteps
     ∷ noLoad 1 (opensAt 0 zeroes) enough (take 5 eightSteps)
     ∷ noLoad 7 (opensAt 0 (12 ∷ 12 ∷ 12 ∷ 12 ∷ [])) enough eightSteps
-    ∷ noMore 1 (sevens 136 24 64) eightSteps
+    ∷ noMore 1 (sevens 145 24 64) eightSteps
     ∷ noMore 1 openedWords (take 5 eightSteps)
-    ∷ noMore 9 (lentOf (replicate 137 1) (openedWords .tally) (openedWords .network)) eightSteps
+    ∷ noMore 9 (lentOf (replicate 146 1) (openedWords .tally) (openedWords .network)) eightSteps
     ∷ noMore 9 oddly eightSteps
     ∷ []
 
@@ -193,7 +195,7 @@ load-rows-hold = refl
 -- The settling half of the library's demand 3 speaks of something: the run past the bound of `liveness`, as calls, none of which is refused.
 
 abbrev pub liveOpening : Called
-liveOpening = openingWords (setupWords live.setup) (sevens 137 48 64)
+liveOpening = openingWords (setupWords live.setup) (sevens 146 48 64)
 
 abbrev pub liveCalls : List Numbers
 liveCalls = map eventNumbers live.events
@@ -206,6 +208,38 @@ live-accepted = refl
 pub live-past : ticksSince (sinceSettling (lentState (liveOpening .lent)) (eventsOf (lentState (liveOpening .lent)) (take 62 (map one liveCalls)))) ≡ settlingBound (setupIn (setupWords live.setup)) + 1
 unfolding live.setup live.events openingWords setupIn runIn eventOf eventsOf sinceSettling ticksDone definitions
 live-past = refl
+
+-- ---- traffic
+
+-- a call that answers r and leaves the report's words
+abbrev pub reportLeaves : ℕ → List ℕ → CalledReport → Row
+reportLeaves r ws c = ((c .answer ∷ []) ∷ c .report ∷ [], (r ∷ []) ∷ ws ∷ [])
+
+-- refused, it leaves what was lent
+abbrev pub noReport : ℕ → Lent → ℕ → Row
+noReport r x k = reportLeaves r (replicate k 7) (reporting x (replicate k 7))
+
+pub trafficRows : List Row
+trafficRows =
+    -- document 01's printed schedule: sent, delivered and held by kind, the sum of waits; the word behind them stays
+    reportLeaves 0 (4 ∷ 4 ∷ 4 ∷ 0 ∷ 2 ∷ 0 ∷ 0 ∷ 0 ∷ 2 ∷ 4 ∷ 4 ∷ 0 ∷ 0 ∷ 7 ∷ []) (reporting (leftInTurn openedWords printed) (replicate 14 7))
+    -- two ticks, then a vote is delivered
+    ∷ reportLeaves 0 (4 ∷ 4 ∷ 0 ∷ 0 ∷ 0 ∷ 1 ∷ 0 ∷ 0 ∷ 4 ∷ 3 ∷ 0 ∷ 0 ∷ 2 ∷ [])
+    (reporting (leftInTurn openedWords (map eventNumbers (Tick 2 ∷ Deliver (Vote 0 1) ∷ []))) (replicate 13 7))
+    -- sums handed in, no number twice: each is told from its own word
+    ∷ reportLeaves 0 (11 ∷ 12 ∷ 13 ∷ 14 ∷ 15 ∷ 16 ∷ 17 ∷ 18 ∷ 4 ∷ 4 ∷ 0 ∷ 0 ∷ 19 ∷ [])
+    (reporting (lentOf (take 137 (openedWords .run) ++ (11 ∷ 12 ∷ 13 ∷ 14 ∷ 15 ∷ 16 ∷ 17 ∷ 18 ∷ 19 ∷ [])) (openedWords .tally) (openedWords .network)) (replicate 13 7))
+    -- refused: a word too few of the run or of the report; no run; a settled word that is of no run; 1 before 9
+    ∷ noReport 1 (sevens 145 24 64) 13
+    ∷ noReport 1 openedWords 12
+    ∷ noReport 9 enough 13
+    ∷ noReport 9 oddly 13
+    ∷ noReport 1 oddly 12
+    ∷ []
+
+pub traffic-rows-hold : agreeing 0 trafficRows ≡ length trafficRows
+unfolding trafficRows reporting totals openingWords applyingWords setupIn runIn eventOf definitions
+traffic-rows-hold = refl
 
 -- ---- one processor
 

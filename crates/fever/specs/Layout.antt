@@ -2,15 +2,18 @@
 -- those of `words`.
 use mathlib.Core.Bool.{Bool}
 use mathlib.Core.List.{List, [], _∷_, _++_}
-use Prim.Native.Nat.{ℕ}
+use Prim.Native.Nat.{ℕ, _+_}
 use lib.Dec.{eqb, ltb}
 use lib.ListN.{getD, take, drop}
 use Rattle.types.specs.declared.Plan.{Plan}
 use Rattle.types.specs.declared.Setup.{Setup}
 use Rattle.types.specs.declared.Run.{Run}
+use Rattle.types.specs.declared.Counts.{Counts}
+use Rattle.types.specs.declared.Traffic.{Traffic}
 use Rattle.types.specs.declared.Processor.{Processor}
 use Rattle.types.specs.Quantities.{tableClocks}
 use Rattle.types.specs.Runs.{settledAs}
+use Rattle.types.specs.Traffic.{countsOf, trafficOf, countNumbers}
 use Rattle.model.specs.State.{runOf}
 use Rattle.lines.specs.declared.Read.{Read}
 use Rattle.lines.specs.declared.Read.the-variants as Read
@@ -44,10 +47,11 @@ setupIn ws = record { plan = planIn ws; faulty = getD ws faultyWord 0; clocks = 
 abbrev pub setupWords : Setup → List ℕ
 setupWords u = u .plan .n ∷ u .plan .delta ∷ u .plan .gamma ∷ u .plan .views ∷ u .faulty ∷ u .clocks
 
--- ---- a run: the plan, the faulty set, the time, whether the network has settled (0 or 1) and when, the messages held, 64 clocks, 64 views
+-- ---- a run: the plan, the faulty set, the time, whether the network has settled (0 or 1) and when, the messages held, 64 clocks, 64 views; then the
+-- messages sent and those delivered, four kinds each, and the sum of waits
 
 abbrev pub runLength : ℕ
-runLength = 137
+runLength = 146
 
 abbrev pub timeWord : ℕ
 timeWord = 5
@@ -67,10 +71,25 @@ clocksWord = 9
 abbrev pub viewsWord : ℕ
 viewsWord = 73
 
+abbrev pub sentWord : ℕ
+sentWord = 137
+
+abbrev pub deliveredWord : ℕ
+deliveredWord = 141
+
+abbrev pub waitSumWord : ℕ
+waitSumWord = 145
+
+abbrev pub countsAt : ℕ → List ℕ → Counts
+countsAt at ws = countsOf (getD ws at 0) (getD ws (at + 1) 0) (getD ws (at + 2) 0) (getD ws (at + 3) 0)
+
+abbrev pub trafficIn : List ℕ → Traffic
+trafficIn ws = trafficOf (countsAt sentWord ws) (countsAt deliveredWord ws) (getD ws waitSumWord 0)
+
 unfoldable pub runIn : List ℕ → Run
 runIn ws =
     runOf (planIn ws) (getD ws faultyWord 0) (getD ws timeWord 0) (eqb (getD ws settledWord 0) 1) (getD ws gstWord 0) (getD ws heldWord 0)
-    (tableIn clocksWord ws) (tableIn viewsWord ws)
+    (tableIn clocksWord ws) (tableIn viewsWord ws) (trafficIn ws)
 
 -- a settled word that is of no run
 abbrev pub neitherSettled : List ℕ → Bool
@@ -80,8 +99,11 @@ abbrev pub runNumbers : Run → List ℕ
 runNumbers r =
     r .plan .n ∷ r .plan .delta ∷ r .plan .gamma ∷ r .plan .views ∷ r .faulty ∷ r .time ∷ settledAs (r .settled) ∷ r .gst ∷ r .held ∷ []
 
+abbrev pub sumWords : Traffic → List ℕ
+sumWords x = countNumbers (x .sent) ++ (countNumbers (x .delivered) ++ (x .waits ∷ []))
+
 abbrev pub runWords : Run → List ℕ
-runWords r = runNumbers r ++ (r .clocks ++ r .views)
+runWords r = runNumbers r ++ (r .clocks ++ (r .views ++ sumWords (r .traffic)))
 
 -- a run in the place of the one that stands there, what is behind its words staying
 abbrev pub runOver : List ℕ → Run → List ℕ

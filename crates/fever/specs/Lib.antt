@@ -2,5 +2,6 @@
 pub mod Layout
 pub mod Contracts
 pub mod Loads
+pub mod Traffic
 pub mod Promises
 pub mod Examples

@@ -15,6 +15,7 @@ use Rattle.types.specs.Messages.{lacksForm}
 use Rattle.model.specs.State.{State, After, ticksOf, heldOf, accepted}
 use Rattle.model.specs.Opening.{opening}
 use Rattle.model.specs.Events.{applied}
+use Rattle.model.specs.Traffic.{historyTotals}
 use Rattle.model.specs.Lists.{after, Since, sinceSettling, hasSettled, ticksSince}
 use Rattle.simulator.specs.Demands.{Demanded}
 use Rattle.lines.specs.declared.Reading.{Reading}
@@ -27,6 +28,7 @@ use Rattle.words.specs.Events.{eventWords, eventOf, eventAs, fourNumbers, event
 use Rattle.fever.specs.Layout.{setupIn, setupWords, runLength, settledWord, timeWord, gstWord, heldWord, runIn, runWords, runOver, neitherSettled, readingWords}
 use Rattle.fever.specs.Contracts.{Lent, lentState, Called, called, told, openingWords, OpensWords, applyingWords, AppliesWords, calledAll, applyingAll, AppliesEvents, WritesLine}
 use Rattle.fever.specs.Loads.{stepWord, bytesWord, calledLoad, generatingWords, GeneratesWords, generatingMore, GeneratesMore, loadEvents}
+use Rattle.fever.specs.Traffic.{reportLength, calledReport, toldReport, ReportsTraffic}
 
 -- ---- demand 3 of the library: calls of `fever_apply`, `fever_apply_all` and `fever_generate_more` after a `fever_open` that answered 0, each lent the
 -- words that the last one left
@@ -120,6 +122,13 @@ pub record SettledTold (since : Since) (ws : List ℕ) : Type 0 where
 
 abbrev pub SettlingTold : Type 0
 SettlingTold = AfterCalls (λ setup before opened ks last. SettledTold (sinceSettling (lentState opened) (eventsOf (lentState opened) ks)) (last .run))
+
+-- A report with words enough answers 0 and tells the history of the calls' events; in it sent is delivered plus held, kind by kind
+-- (`SentIsDeliveredAndHeld`), and no sum has wrapped.
+abbrev pub TrafficOfLibrary : Type 0
+TrafficOfLibrary =
+    AfterCalls (λ setup before opened ks last. (ws left : List ℕ) (r : ℕ) → reportLength ≤ length ws → ReportsTraffic last ws r left
+    → calledReport r left ≡ toldReport ws (historyTotals (setupIn setup) (lentState before) (eventsOf (lentState opened) ks)))
 
 -- Every list of calls can be made, on any words.
 abbrev pub EveryCallAnswered : Type 0

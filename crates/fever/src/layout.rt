@@ -3,9 +3,11 @@ use lines::Read;
 use lines::Reading;
 use types::Answer;
 use types::AppliedHead;
+use types::Counts;
 use types::Head;
 use types::Plan;
 use types::Setup;
+use types::Traffic;
 use words::Numbers;
 ghost use mathlib.Core.Path.{_≡_};
 ghost use mathlib.Core.List.{_++_};
@@ -14,12 +16,12 @@ ghost use lib.ListN.{length, drop};
 ghost use Rattle.types.specs.Quantities.{tableClocks};
 ghost use Rattle.model.specs.State.{runFrom, headOf, checkOf};
 ghost use Rattle.writer.specs.Stamps.{Room, Stamped};
-ghost use Rattle.fever.specs.Layout.{planIn, tableIn, setupLength, setupIn, runLength, runIn, runOver, readingLength, readNumbers, readingWords};
+ghost use Rattle.fever.specs.Layout.{planIn, tableIn, countsAt, setupLength, setupIn, runLength, runIn, runOver, readingLength, readNumbers, readingWords};
 ghost use Rattle.fever.specs.Contracts.{runLeft};
 
 pub(crate) const SETUP_WORDS: usize = 69;
 
-pub(crate) const RUN_WORDS: usize = 137;
+pub(crate) const RUN_WORDS: usize = 146;
 
 pub(crate) const READING_WORDS: usize = 73;
 
@@ -39,6 +41,12 @@ const HELD: usize = 8;
 pub(crate) const CLOCKS: usize = 9;
 
 pub(crate) const VIEWS: usize = 73;
+
+const SENT: usize = 137;
+
+const DELIVERED: usize = 141;
+
+const WAITS: usize = 145;
 
 // The clocks of a table.
 const TABLE: usize = 64;
@@ -84,7 +92,20 @@ pub(crate) fn setup_in(words: &[u64]) -> Setup
     }
 }
 
-// The run in the first 137 words, but for its tables.
+// Four words from a place on, by kind.
+fn counts_in(words: &[u64], at: usize) -> Counts
+    requires { ⌜ at + 4 ≤ length (now words) ⌝ }
+    ensures { λ r. ⌜ r ≡ countsAt at (now (words .entry)) ⌝ }
+{
+    Counts {
+        views: words[at],
+        votes: words[at + 1],
+        vcs: words[at + 2],
+        qcs: words[at + 3],
+    }
+}
+
+// The run in the first 146 words, but for its tables.
 pub(crate) fn head_in(words: &[u64]) -> Head
     requires { ⌜ runLength ≤ length (now words) ⌝ }
     ensures { λ r. ⌜ r ≡ headOf (runIn (now (words .entry))) ⌝ }
@@ -97,6 +118,11 @@ pub(crate) fn head_in(words: &[u64]) -> Head
         settled: types::settled_as(words[SETTLED] == 1),
         gst: words[GST],
         held: words[HELD] as usize,
+        traffic: Traffic {
+            sent: counts_in(words, SENT),
+            delivered: counts_in(words, DELIVERED),
+            waits: words[WAITS],
+        },
     }
 }
 
@@ -120,7 +146,7 @@ fn own_table(table: &[u64; 64]) -> [u64; 64]
     *table
 }
 
-// The first 137 words become those of the run whose tables are lent beside its head.
+// The first 146 words become those of the run whose tables are lent beside its head.
 pub(crate) fn put_run(words: &mut [u64], head: Head, clocks: &[u64; 64], views: &[u64; 64])
     requires { ⌜ runLength ≤ length (now words) ⌝ }
     ensures { λ r. ⌜ now (words .exit) ≡ runOver (now (words .entry)) (runFrom head (now (clocks .entry)) (now (views .entry))) ⌝ }
@@ -140,7 +166,19 @@ pub(crate) fn put_run(words: &mut [u64], head: Head, clocks: &[u64; 64], views: 
     let own_clocks = own_table(clocks);
     let last = put_words(words, next, &own_clocks);
     let own_views = own_table(views);
-    put_words(words, last, &own_views);
+    let behind = put_words(words, last, &own_views);
+    let sums = [
+        head.traffic.sent.views,
+        head.traffic.sent.votes,
+        head.traffic.sent.vcs,
+        head.traffic.sent.qcs,
+        head.traffic.delivered.views,
+        head.traffic.delivered.votes,
+        head.traffic.delivered.vcs,
+        head.traffic.delivered.qcs,
+        head.traffic.waits,
+    ];
+    put_words(words, behind, &sums);
 }
 
 // What a call left of the run, if it was accepted. Answers the check that refused it or ended its ticks, or 0.

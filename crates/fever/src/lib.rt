@@ -1,7 +1,8 @@
-// The library for C and Rust: the simulator, one processor's pacemaker, lines, and loads out of a seed number, over numbers and lent words and bytes. Every function takes every
-// argument; a refused call has changed nothing that was lent.
+// The library for C and Rust: the simulator, one processor's pacemaker, lines, loads out of a seed number and reports of a run's traffic, over numbers
+// and lent words and bytes. Every function takes every argument; a refused call has changed nothing that was lent.
 mod generating;
 mod layout;
+mod reporting;
 mod steps;
 
 use lines::Read;
@@ -13,6 +14,7 @@ ghost use Rattle.words.specs.Events.{eventOf};
 ghost use Rattle.fever.specs.Layout.{planIn};
 ghost use Rattle.fever.specs.Contracts.{lentOf, OpensWords, AppliesWords, AppliesEvents, moveOf, StepsWords, ReadsWords, StandsFor, WritesEvent, WritesSetup};
 ghost use Rattle.fever.specs.Loads.{GeneratesWords, GeneratesMore};
+ghost use Rattle.fever.specs.Traffic.{ReportsTraffic};
 
 // A setup is opened.
 #[no_mangle]
@@ -238,4 +240,30 @@ pub extern "C" fn fever_generate_more(
         out,
     );
     generating::put_load(run, load, made)
+}
+
+// A run's traffic is told.
+#[no_mangle]
+pub extern "C" fn fever_traffic(
+    run: &[u64],
+    tally: &[u64],
+    network: &[u64],
+    report: &mut [u64],
+) -> u64
+    ensures { λ r. ⌜ ReportsTraffic (lentOf (now (run .entry)) (now (tally .entry)) (now (network .entry))) (now (report .entry)) r (now (report .exit)) ⌝ }
+{
+    if run.len() < layout::RUN_WORDS {
+        return 1;
+    }
+    if report.len() < reporting::REPORT_WORDS {
+        return 1;
+    }
+    if 1 < run[layout::SETTLED] {
+        return 9;
+    }
+    let head = layout::head_in(run);
+    let clocks = layout::table_in(run, layout::CLOCKS);
+    let views = layout::table_in(run, layout::VIEWS);
+    let totals = sums::totals(head, &clocks, &views, tally, network);
+    reporting::put_report(report, totals)
 }

@@ -14,6 +14,7 @@ use Rattle.base.specs.ScanLaws.{some-none}
 use Rattle.types.specs.declared.Run.{Run}
 use Rattle.types.specs.declared.Answer.the-variants.{Done}
 use Rattle.types.specs.Quantities.{endTime}
+use Rattle.types.specs.Traffic.{countsMore}
 use Rattle.model.specs.State.{State, After, stateOf, withHeld, withTime, withClocks, clockOf, viewOf, isCorrect, capacity, checkOf, refused}
 use Rattle.model.specs.Moves.{Change, changed, still, also, Entry, stay, byClock, entries, taking, advanced, arrival, arrivals, made}
 use Rattle.model.specs.Checks.{atEnd, overdue, reachesEnd, overfull}
@@ -30,7 +31,7 @@ use Rattle.leaps.proofs.Resting.{clock-inside, next-small, from-view}
 
 -- a change that moves nothing and sends nothing leaves all as it is
 pub still-made : (s : State) → s ≡ made s (still (s .run) (s .tally))
-unfolding made
+unfolding made countsMore
 still-made s = ap₂ (λ (h : ℕ) (ws : List ℕ). stateOf (withHeld h (s .run)) (s .tally) ws) (sym (add-zero (s .run .held)))
     (posted-none (s .network) (s .run .held) (s .run .time))
 

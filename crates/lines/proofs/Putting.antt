@@ -11,7 +11,7 @@ use borrow.Rule.Slice.PartMut.{midOf, putMid, post-is}
 use borrow.Author.Tests.{lt-ltb, le-ltb}
 use Rattle.lines.specs.declared.Written.{Written}
 use Rattle.lines.specs.declared.Written.the-variants.{Bytes, Refused}
-use Rattle.lines.specs.Contracts.{line, Writes, writtenAs, writtenIn, Put}
+use Rattle.lines.specs.Contracts.{line, Writes, writtenAs, writtenIn, Put, Prints}
 
 -- ---- one text behind another
 
@@ -72,3 +72,12 @@ never-refused form out after r c w h e =
 pub few-written : (form out after : List ℕ) (r : Written) → Writes false form out r after → length out < length (line form) → (r ≡ Refused 1) × (after ≡ out)
 unfolding writtenAs writtenIn
 few-written form out after r w h = let y : ltb (length out) (length (line form)) ≡ true = lt-ltb _ _ h in (rw y at (w .0), rw y at (w .1))
+
+-- ---- a text printed, or refused for too few bytes
+
+pub too-few : (most : ℕ) (text out : List ℕ) → length out < most → Prints most text out (Refused 1) out
+too-few most text out h = let y = lt-ltb _ _ h in (rw y, rw y)
+
+pub put-prints : (most : ℕ) (text out : List ℕ) (k : ℕ) (after : List ℕ) → most ≤ length out → Put text out k after → Prints most text out (Bytes k) after
+put-prints most text out k after h p =
+    let n = le-ltb _ _ h in (rw n (ap Bytes (p .bytes)), rw n (p .text ∙ ap (λ (i : ℕ). text ++ drop i out) (p .bytes)))

@@ -82,3 +82,14 @@ writtenBytes (Refused r) = 0
 pub record Put (words out : List ℕ) (k : ℕ) (after : List ℕ) : Type 0 where
   pub bytes : k ≡ length words
   pub text : after ≡ words ++ drop k out
+
+-- ---- a text printed into lent bytes
+
+-- "too few lent bytes": they are asked to hold the longest text that may come, before anything is done
+abbrev pub tooFew : ℕ → List ℕ → Bool
+tooFew most out = ltb (length out) most
+
+-- that the text was printed into the lent bytes `out`: what was answered, and what they hold afterwards
+abbrev pub Prints : ℕ → List ℕ → List ℕ → Written → List ℕ → Type 0
+Prints most text out r after =
+    (r ≡ cond (tooFew most out) (Refused 1) (Bytes (length text))) × (after ≡ cond (tooFew most out) out (text ++ drop (length text) out))

@@ -10,14 +10,17 @@ use Rattle.types.specs.declared.Event.the-variants.{Deliver, Sign, Show, Settle
 use Rattle.model.specs.Rows.{planOf, standard, setupOf}
 use Rattle.lines.specs.declared.Reading.{Reading}
 use Rattle.types.specs.declared.Setup.{Setup}
+use Rattle.types.specs.declared.Counts.{Counts}
+use Rattle.types.specs.declared.Totals.{Totals}
+use Rattle.types.specs.Traffic.{countsOf, noCounts, trafficOf, noTraffic}
 use Rattle.lines.specs.declared.Written.{Written}
 use Rattle.lines.specs.declared.Written.the-variants.{Bytes, Refused}
 use Rattle.lines.specs.declared.Read.the-variants as Read
 use Rattle.lines.specs.declared.Next.{Next}
 use Rattle.lines.specs.declared.Next.the-variants.{Line, Long, Unfinished, Endless}
 use Rattle.lines.specs.Decimal.{decimal}
-use Rattle.lines.specs.Forms.{newline, messageForm, eventForm, setupForm, lacksSetupForm, trimmed}
-use Rattle.lines.specs.Printout.{answerForm, processorForm}
+use Rattle.lines.specs.Forms.{newline, joined, messageForm, eventForm, setupForm, lacksSetupForm, trimmed}
+use Rattle.lines.specs.Printout.{answerForm, processorForm, totalsText}
 use Rattle.lines.specs.Contracts.{eventReading, noForm, readCheck, writtenAs, writtenIn, writtenCheck}
 use Rattle.lines.specs.Splitting.{beforeNewline, nextLine, Cut, ended, left, inputLines, cutRead}
 
@@ -99,6 +102,66 @@ printedBytes =
 pub printedRows-hold : printedRows ≡ printedBytes
 unfolding printedRows printedBytes answerForm processorForm decimal
 printedRows-hold = refl
+
+-- ---- reports
+
+abbrev pub totalsWith : Counts → Counts → ℕ → Counts → Totals
+totalsWith sent delivered waits held = record { check = 0; traffic = trafficOf sent delivered waits; held = held }
+
+-- of document 01's schedule; with no number twice; at 2^64; refused
+pub reportRows : List (List ℕ)
+reportRows =
+    totalsText (totalsWith (countsOf 4 4 4 0) (countsOf 2 0 0 0) 0 (countsOf 2 4 4 0))
+    ∷ totalsText (totalsWith (countsOf 11 12 13 14) (countsOf 21 22 23 24) 41 (countsOf 31 32 33 34))
+    ∷ totalsText (totalsWith (countsOf 18446744073709551615 2 3 18446744073709551615) (countsOf 18446744073709551615 0 0 1) 18446744073709551615 (countsOf 0 0 0 5))
+    ∷ totalsText (record { check = 9; traffic = noTraffic; held = noCounts })
+    ∷ []
+
+pub reportBytes : List (List ℕ)
+reportBytes =
+    -- "(traffic view 4 2 2)"
+    joined ((40 ∷ 116 ∷ 114 ∷ 97 ∷ 102 ∷ 102 ∷ 105 ∷ 99 ∷ 32 ∷ 118 ∷ 105 ∷ 101 ∷ 119 ∷ 32 ∷ 52 ∷ 32 ∷ 50 ∷ 32 ∷ 50 ∷ 41 ∷ 10 ∷ [])
+    -- "(traffic vote 4 0 4)"
+    ∷ (40 ∷ 116 ∷ 114 ∷ 97 ∷ 102 ∷ 102 ∷ 105 ∷ 99 ∷ 32 ∷ 118 ∷ 111 ∷ 116 ∷ 101 ∷ 32 ∷ 52 ∷ 32 ∷ 48 ∷ 32 ∷ 52 ∷ 41 ∷ 10 ∷ [])
+    -- "(traffic vc 4 0 4)"
+    ∷ (40 ∷ 116 ∷ 114 ∷ 97 ∷ 102 ∷ 102 ∷ 105 ∷ 99 ∷ 32 ∷ 118 ∷ 99 ∷ 32 ∷ 52 ∷ 32 ∷ 48 ∷ 32 ∷ 52 ∷ 41 ∷ 10 ∷ [])
+    -- "(traffic qc 0 0 0)"
+    ∷ (40 ∷ 116 ∷ 114 ∷ 97 ∷ 102 ∷ 102 ∷ 105 ∷ 99 ∷ 32 ∷ 113 ∷ 99 ∷ 32 ∷ 48 ∷ 32 ∷ 48 ∷ 32 ∷ 48 ∷ 41 ∷ 10 ∷ [])
+    -- "(traffic all 12 2 10)"
+    ∷ (40 ∷ 116 ∷ 114 ∷ 97 ∷ 102 ∷ 102 ∷ 105 ∷ 99 ∷ 32 ∷ 97 ∷ 108 ∷ 108 ∷ 32 ∷ 49 ∷ 50 ∷ 32 ∷ 50 ∷ 32 ∷ 49 ∷ 48 ∷ 41 ∷ 10 ∷ [])
+    -- "(waits 0 2)"
+    ∷ (40 ∷ 119 ∷ 97 ∷ 105 ∷ 116 ∷ 115 ∷ 32 ∷ 48 ∷ 32 ∷ 50 ∷ 41 ∷ 10 ∷ []) ∷ [])
+    -- "(traffic view 11 21 31)"
+    ∷ joined ((40 ∷ 116 ∷ 114 ∷ 97 ∷ 102 ∷ 102 ∷ 105 ∷ 99 ∷ 32 ∷ 118 ∷ 105 ∷ 101 ∷ 119 ∷ 32 ∷ 49 ∷ 49 ∷ 32 ∷ 50 ∷ 49 ∷ 32 ∷ 51 ∷ 49 ∷ 41 ∷ 10 ∷ [])
+    -- "(traffic vote 12 22 32)"
+    ∷ (40 ∷ 116 ∷ 114 ∷ 97 ∷ 102 ∷ 102 ∷ 105 ∷ 99 ∷ 32 ∷ 118 ∷ 111 ∷ 116 ∷ 101 ∷ 32 ∷ 49 ∷ 50 ∷ 32 ∷ 50 ∷ 50 ∷ 32 ∷ 51 ∷ 50 ∷ 41 ∷ 10 ∷ [])
+    -- "(traffic vc 13 23 33)"
+    ∷ (40 ∷ 116 ∷ 114 ∷ 97 ∷ 102 ∷ 102 ∷ 105 ∷ 99 ∷ 32 ∷ 118 ∷ 99 ∷ 32 ∷ 49 ∷ 51 ∷ 32 ∷ 50 ∷ 51 ∷ 32 ∷ 51 ∷ 51 ∷ 41 ∷ 10 ∷ [])
+    -- "(traffic qc 14 24 34)"
+    ∷ (40 ∷ 116 ∷ 114 ∷ 97 ∷ 102 ∷ 102 ∷ 105 ∷ 99 ∷ 32 ∷ 113 ∷ 99 ∷ 32 ∷ 49 ∷ 52 ∷ 32 ∷ 50 ∷ 52 ∷ 32 ∷ 51 ∷ 52 ∷ 41 ∷ 10 ∷ [])
+    -- "(traffic all 50 90 130)"
+    ∷ (40 ∷ 116 ∷ 114 ∷ 97 ∷ 102 ∷ 102 ∷ 105 ∷ 99 ∷ 32 ∷ 97 ∷ 108 ∷ 108 ∷ 32 ∷ 53 ∷ 48 ∷ 32 ∷ 57 ∷ 48 ∷ 32 ∷ 49 ∷ 51 ∷ 48 ∷ 41 ∷ 10 ∷ [])
+    -- "(waits 41 90)"
+    ∷ (40 ∷ 119 ∷ 97 ∷ 105 ∷ 116 ∷ 115 ∷ 32 ∷ 52 ∷ 49 ∷ 32 ∷ 57 ∷ 48 ∷ 41 ∷ 10 ∷ []) ∷ [])
+    -- "(traffic view 18446744073709551615 18446744073709551615 0)"
+    ∷ joined ((40 ∷ 116 ∷ 114 ∷ 97 ∷ 102 ∷ 102 ∷ 105 ∷ 99 ∷ 32 ∷ 118 ∷ 105 ∷ 101 ∷ 119 ∷ 32 ∷ 49 ∷ 56 ∷ 52 ∷ 52 ∷ 54 ∷ 55 ∷ 52 ∷ 52 ∷ 48 ∷ 55 ∷ 51 ∷ 55 ∷ 48 ∷ 57 ∷ 53 ∷ 53 ∷ 49 ∷ 54 ∷ 49 ∷ 53 ∷ 32 ∷ 49 ∷ 56 ∷ 52 ∷ 52 ∷ 54 ∷ 55 ∷ 52 ∷ 52 ∷ 48 ∷ 55 ∷ 51 ∷ 55 ∷ 48 ∷ 57 ∷ 53 ∷ 53 ∷ 49 ∷ 54 ∷ 49 ∷ 53 ∷ 32 ∷ 48 ∷ 41 ∷ 10 ∷ [])
+    -- "(traffic vote 2 0 0)"
+    ∷ (40 ∷ 116 ∷ 114 ∷ 97 ∷ 102 ∷ 102 ∷ 105 ∷ 99 ∷ 32 ∷ 118 ∷ 111 ∷ 116 ∷ 101 ∷ 32 ∷ 50 ∷ 32 ∷ 48 ∷ 32 ∷ 48 ∷ 41 ∷ 10 ∷ [])
+    -- "(traffic vc 3 0 0)"
+    ∷ (40 ∷ 116 ∷ 114 ∷ 97 ∷ 102 ∷ 102 ∷ 105 ∷ 99 ∷ 32 ∷ 118 ∷ 99 ∷ 32 ∷ 51 ∷ 32 ∷ 48 ∷ 32 ∷ 48 ∷ 41 ∷ 10 ∷ [])
+    -- "(traffic qc 18446744073709551615 1 5)"
+    ∷ (40 ∷ 116 ∷ 114 ∷ 97 ∷ 102 ∷ 102 ∷ 105 ∷ 99 ∷ 32 ∷ 113 ∷ 99 ∷ 32 ∷ 49 ∷ 56 ∷ 52 ∷ 52 ∷ 54 ∷ 55 ∷ 52 ∷ 52 ∷ 48 ∷ 55 ∷ 51 ∷ 55 ∷ 48 ∷ 57 ∷ 53 ∷ 53 ∷ 49 ∷ 54 ∷ 49 ∷ 53 ∷ 32 ∷ 49 ∷ 32 ∷ 53 ∷ 41 ∷ 10 ∷ [])
+    -- "(traffic all 3 0 5)"
+    ∷ (40 ∷ 116 ∷ 114 ∷ 97 ∷ 102 ∷ 102 ∷ 105 ∷ 99 ∷ 32 ∷ 97 ∷ 108 ∷ 108 ∷ 32 ∷ 51 ∷ 32 ∷ 48 ∷ 32 ∷ 53 ∷ 41 ∷ 10 ∷ [])
+    -- "(waits 18446744073709551615 0)"
+    ∷ (40 ∷ 119 ∷ 97 ∷ 105 ∷ 116 ∷ 115 ∷ 32 ∷ 49 ∷ 56 ∷ 52 ∷ 52 ∷ 54 ∷ 55 ∷ 52 ∷ 52 ∷ 48 ∷ 55 ∷ 51 ∷ 55 ∷ 48 ∷ 57 ∷ 53 ∷ 53 ∷ 49 ∷ 54 ∷ 49 ∷ 53 ∷ 32 ∷ 48 ∷ 41 ∷ 10 ∷ []) ∷ [])
+    -- "(refused 9)"
+    ∷ (40 ∷ 114 ∷ 101 ∷ 102 ∷ 117 ∷ 115 ∷ 101 ∷ 100 ∷ 32 ∷ 57 ∷ 41 ∷ 10 ∷ [])
+    ∷ []
+
+pub reportRows-hold : reportRows ≡ reportBytes
+unfolding reportRows reportBytes totalsText answerForm decimal
+reportRows-hold = refl
 
 -- ---- the next line
 

@@ -9,11 +9,12 @@ use Rattle.base.specs.Members.{Every}
 use Rattle.types.specs.declared.Answer.{Answer}
 use Rattle.types.specs.declared.Event.{Event}
 use Rattle.types.specs.declared.Setup.{Setup}
+use Rattle.types.specs.declared.Totals.{Totals}
 use Rattle.lines.specs.declared.Reading.{Reading}
 use Rattle.lines.specs.declared.Next.{Next}
 use Rattle.lines.specs.declared.Next.the-variants.{Line, Long, Unfinished, Endless}
 use Rattle.lines.specs.Forms.{EventLine, SetupLine, trimmed}
-use Rattle.lines.specs.Printout.{answerForm, processorForm, printedMost}
+use Rattle.lines.specs.Printout.{answerForm, processorForm, printedMost, totalsText, totalsMost}
 use Rattle.lines.specs.declared.Written.{Written}
 use Rattle.lines.specs.Contracts.{eventReading, openingReading, readCheck, Reads, line, Writes, writtenCheck}
 use Rattle.lines.specs.Splitting.{lineMost, nextLine, ended, linesAfter, inputLines, cutRead}
@@ -71,6 +72,10 @@ ShortAnswers = (a : Answer) → length (line (answerForm a)) ≤ printedMost
 
 abbrev pub ShortProcessors : Type 0
 ShortProcessors = (p view clock : ℕ) → length (line (processorForm p view clock)) ≤ printedMost
+
+-- and so many every report
+abbrev pub ShortReports : Type 0
+ShortReports = (x : Totals) → length (totalsText x) ≤ totalsMost
 
 -- ---- the next line within the bytes at hand
 

@@ -21,7 +21,7 @@ module _ (P : List ℕ → Type 0) (keeps : (t : List ℕ) (w j p : ℕ) → P t
   taking-keeps r t p stay x = x
   taking-keeps r t p (into w) x = keeps t w enteredWord p x
 
-  entries-keeps : (e : ℕ → Entry) (r : Run) (t : List ℕ) (k : ℕ) → P t → P (entries e r t k .tally)
+  pub entries-keeps : (e : ℕ → Entry) (r : Run) (t : List ℕ) (k : ℕ) → P t → P (entries e r t k .tally)
   unfolding entries
   entries-keeps e r t zero x = x
   entries-keeps e r t (suc k) x = let c = entries e r t k in taking-keeps (changed r c) (c .tally) k (e k) (entries-keeps e r t k x)

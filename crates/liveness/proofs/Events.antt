@@ -19,11 +19,13 @@ use Rattle.types.specs.declared.Message.{Message}
 use Rattle.types.specs.declared.Message.the-variants.{View, Vote, Vc, Qc}
 use Rattle.types.specs.declared.Event.{Event}
 use Rattle.types.specs.declared.Event.the-variants.{Deliver, Sign, Show, Settle, Tick}
+use Rattle.types.specs.declared.Traffic.{Traffic}
+use Rattle.types.specs.Traffic.{trafficDelivered}
 use Rattle.types.specs.Quantities.{lead, initial}
 use Rattle.model.specs.State.{State, removed, After, isCorrect, enteredWord, word, checkOf, refused}
 use Rattle.model.specs.Moves.{Change, still, needed, certificate, hearing, handling, made}
 use Rattle.model.specs.Checks.{placeOf, notHeld, exists, reachesEnd, overfull}
-use Rattle.model.specs.Events.{without, delivering, signing, tickChecks, tickOnce, continued, ticks, tickRun, effect, applied}
+use Rattle.model.specs.Events.{waitOf, without, delivering, signing, tickChecks, tickOnce, continued, ticks, tickRun, effect, applied}
 use Rattle.liveness.proofs.Flight.{Sent, In, sentAs, Found, found-in, rest, rest-in, in-rest}
 use Rattle.liveness.proofs.Sending.{signature}
 use Rattle.liveness.proofs.Link.{Planned, params, flight, Wire, wire-removed, length-without, wire-found}
@@ -73,6 +75,9 @@ module _ (s : State) (ok : Planned (s .run .plan) (s .run .faulty)) (x : Tracked
     abbrev after-it : ℕ
     after-it = s .run .held - 1
 
+    abbrev traffic-after : Traffic
+    traffic-after = trafficDelivered (s .run .traffic) m (waitOf s m)
+
     abbrev network-after : List ℕ
     network-after = removed (s .network) (s .run .held) (placeOf s m)
 
@@ -89,7 +94,7 @@ module _ (s : State) (ok : Planned (s .run .plan) (s .run .faulty)) (x : Tracked
   signature-leads q w p is-held n fits =
       let m : Message = signature q w p in
       let there = was-there m is-held in
-      hear-leads s ok x (after-it m is-held) (network-after m is-held) (left m is-held) (wire-after m is-held) (length-after m is-held) (kept-left m is-held)
+      hear-leads s ok x (after-it m is-held) (traffic-after m is-held) (network-after m is-held) (left m is-held) (wire-after m is-held) (length-after m is-held) (kept-left m is-held)
       q w p (n .1) (n .0) (gone-one m is-held) (inr (found m is-held .time, there)) (x .holds .flight .signed q w p (found m is-held .time) there .1) fits
 
   -- a certificate in flight exists
@@ -104,14 +109,14 @@ module _ (s : State) (ok : Planned (s .run .plan) (s .run .faulty)) (x : Tracked
       let m : Message = Vc w p in
       let is-held : T (notHeld s m) → ⊥ = c .input .1 .1 .0 in
       let b = backed-exists false w p (found m is-held .time) (was-there m is-held) in
-      view-certificate-leads s ok x (after-it m is-held) (network-after m is-held) (left m is-held) (wire-after m is-held) (length-after m is-held)
+      view-certificate-leads s ok x (after-it m is-held) (traffic-after m is-held) (network-after m is-held) (left m is-held) (wire-after m is-held) (length-after m is-held)
       (kept-left m is-held)
       w p (b .1) (not-not (initial plan w) (c .input .1 .0)) (b .0) (gone-one m is-held) (c .outcome .0) (c .outcome .1 .0)
   deliver-leads (Qc w p) c =
       let m : Message = Qc w p in
       let is-held : T (notHeld s m) → ⊥ = c .input .1 .1 .0 in
       let b = backed-exists true w p (found m is-held .time) (was-there m is-held) in
-      quorum-certificate-leads s ok x (after-it m is-held) (network-after m is-held) (left m is-held) (wire-after m is-held) (length-after m is-held)
+      quorum-certificate-leads s ok x (after-it m is-held) (traffic-after m is-held) (network-after m is-held) (left m is-held) (wire-after m is-held) (length-after m is-held)
       (kept-left m is-held)
       w p (b .1) (b .0) (gone-one m is-held) (c .outcome .0) (c .outcome .1 .0)
 
@@ -123,8 +128,8 @@ module _ (s : State) (ok : Planned (s .run .plan) (s .run .faulty)) (x : Tracked
       → To (made s (cond (isCorrect (s .run) (lead plan w)) (hearing q (s .run) (s .tally) w p) (still (s .run) (s .tally))))
   heard-or-not q w p n faulty-p = by-cond (λ (c : Change). (T (overfull s c) → ⊥) → To (made s c))
       (isCorrect (s .run) (lead plan w)) (hearing q (s .run) (s .tally) w p) (still (s .run) (s .tally))
-      (λ l. hear-leads s ok x (s .run .held) (s .network) (x .messages) (x .wire) refl (λ m t i. i) q w p (n .1) (n .0) (λ m t i. inl i) (inl faulty-p) l)
-      (λ l. still-leads s ok x (s .run .held) (s .network) (x .messages) (x .wire) refl (λ m t i. i) (λ m t i. inl i))
+      (λ l. hear-leads s ok x (s .run .held) (s .run .traffic) (s .network) (x .messages) (x .wire) refl (λ m t i. i) q w p (n .1) (n .0) (λ m t i. inl i) (inl faulty-p) l)
+      (λ l. still-leads s ok x (s .run .held) (s .run .traffic) (s .network) (x .messages) (x .wire) refl (λ m t i. i) (λ m t i. inl i))
 
   sign-leads : (m : Message) → Passed (Sign m) s → To (made s (signing s m))
   unfolding signing handling
@@ -152,14 +157,14 @@ module _ (s : State) (ok : Planned (s .run .plan) (s .run .faulty)) (x : Tracked
   show-leads (Vote w p) c = absurd (c .form tt)
   show-leads (Vc w p) c =
       let n = named-within plan p w (c .input .0) in
-      view-certificate-leads s ok x (s .run .held) (s .network) (x .messages) (x .wire) refl (λ m t i. i) w p
+      view-certificate-leads s ok x (s .run .held) (s .run .traffic) (s .network) (x .messages) (x .wire) refl (λ m t i. i) w p
       (not-not (isCorrect (s .run) p) (c .input .1 .1 .0))
       (not-not (initial plan w) (c .input .1 .0)) (exists-so false w (n .1) (not-not (exists false (s .run) (s .tally) w) (c .input .1 .1 .1 .0)))
       (λ m t i. inl i)
       (c .outcome .0) (c .outcome .1 .0)
   show-leads (Qc w p) c =
       let n = named-within plan p w (c .input .0) in
-      quorum-certificate-leads s ok x (s .run .held) (s .network) (x .messages) (x .wire) refl (λ m t i. i) w p
+      quorum-certificate-leads s ok x (s .run .held) (s .run .traffic) (s .network) (x .messages) (x .wire) refl (λ m t i. i) w p
       (not-not (isCorrect (s .run) p) (c .input .1 .1 .0))
       (exists-so true w (n .1) (not-not (exists true (s .run) (s .tally) w) (c .input .1 .1 .1 .0))) (λ m t i. inl i)
       (c .outcome .0) (c .outcome .1 .0)

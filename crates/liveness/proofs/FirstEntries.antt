@@ -1,9 +1,9 @@
 -- When an opening makes the correct processors enter view 0, one after the other. Assumes nothing.
 use mathlib.Core.Path.{_≡_, refl, sym, ap, _∙_, subst}
 use mathlib.Core.Bool.{Bool, true, false, _&&_, _||_}
-use mathlib.Core.Logic.{_⊎_, ⊎-elim}
+use mathlib.Core.Logic.{⊎-elim}
 use mathlib.Core.List.{List, [], _∷_, _++_}
-use Prim.Native.Nat.{ℕ, zero, suc, _+_, _-_, _*_, _%_, _^_, _≤_, _<_}
+use Prim.Native.Nat.{ℕ, zero, suc, _*_, _%_, _^_, _≤_, _<_}
 use native.Mathlib.Omega.{arith}
 use native.Mathlib.Nat.{zero-mod, zero-mul}
 use lib.Dec.{T, eqb, eqb→eq}
@@ -59,11 +59,11 @@ module _ (u : Setup) (t : List ℕ) (ok : Planned (u .plan) (u .faulty)) (long :
   abbrev pub blank-tally : List ℕ
   blank-tally = replicate (rowWords * plan .views) 0 ++ drop (rowWords * plan .views) t
 
-  blank-length : length blank-tally ≡ length t
+  pub blank-length : length blank-tally ≡ length t
   blank-length = length-append (replicate (rowWords * plan .views) 0) (drop (rowWords * plan .views) t)
       ∙ omega (arith, length-replicate {A = ℕ} (rowWords * plan .views) 0, length-drop (rowWords * plan .views) t, long)
 
-  blank-word : (w j : ℕ) → w < plan .views → j < 4 → word blank-tally w j ≡ 0
+  pub blank-word : (w j : ℕ) → w < plan .views → j < 4 → word blank-tally w j ≡ 0
   blank-word w j l h =
       List·getD-append (replicate (rowWords * plan .views) 0) (drop (rowWords * plan .views) t) 0 (slot w j)
       (omega (arith, length-replicate {A = ℕ} (rowWords * plan .views) 0))

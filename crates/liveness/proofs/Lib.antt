@@ -28,4 +28,15 @@ pub mod Marks
 pub mod Bits
 pub mod Cutting
 pub mod Unread
+pub mod Counting
+pub mod Flows
+pub mod Sums
+pub mod HeldKinds
+pub mod Unchecked
+pub mod Waits
 pub mod Promises
+pub mod Dues
+pub mod Paying
+pub mod EventPays
+pub mod Fewness
+pub mod Counted

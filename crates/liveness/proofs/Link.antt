@@ -19,7 +19,7 @@ use Rattle.protocol.specs.State.{Processors, Tally, Flight, Starts}
 use Rattle.types.specs.declared.Plan.{Plan}
 use Rattle.types.specs.declared.Message.{Message}
 use Rattle.types.specs.declared.Run.{Run}
-use Rattle.types.specs.Quantities.{deltaLeast, gammaLeast, nLeast, nMost, viewsLeast, rowWords, messageWords, tolerated, perLeader, turnStart, lead, initial, nextInitial, clockTime, endTime, correct}
+use Rattle.types.specs.Quantities.{deltaLeast, gammaLeast, gammaMost, nLeast, nMost, viewsLeast, viewsMost, rowWords, messageWords, tolerated, perLeader, turnStart, lead, initial, nextInitial, clockTime, endTime, correct}
 use Rattle.types.proofs.PlanLaws.{per-leader-positive}
 use Rattle.model.specs.State.{State, isCorrect, enteredWord, heardWord, marksWord, markBit, word, posted, removed, capacity}
 use Rattle.model.specs.Moves.{Change, certificate}
@@ -36,7 +36,9 @@ pub record Planned (plan : Plan) (faulty : ℕ) : Type 0 where
   pub n-most : plan .n ≤ nMost
   pub delta-least : deltaLeast ≤ plan .delta
   pub gamma-least : gammaLeast plan ≤ plan .gamma
+  pub gamma-most : plan .gamma ≤ gammaMost
   pub views-least : viewsLeast ≤ plan .views
+  pub views-most : plan .views ≤ viewsMost
   pub views-multiple : T (turnStart plan (plan .views))
   pub faulty-below : faulty < 2 ^ plan .n
   pub faulty-few : size faulty ≤ tolerated plan

@@ -2,7 +2,7 @@
 use mathlib.Core.Path.{_≡_, refl, sym, ap, _∙_, subst}
 use mathlib.Core.Bool.{Bool, false, not, _&&_, _||_, cond}
 use mathlib.Core.List.{[]}
-use Prim.Native.Nat.{ℕ, _+_, _-_, _*_, _/_, _^_, _≤_, _<_}
+use Prim.Native.Nat.{ℕ, _+_, _*_, _/_, _^_, _≤_, _<_}
 use native.Mathlib.Omega.{arith}
 use native.Mathlib.Nat.{mul-le-mul-right}
 use lib.Dec.{T, eqb, leb, ltb, eqb→eq, leb→le, le→leb, ltb→lt}
@@ -49,7 +49,9 @@ planned-within p faulty inside few =
       n-most = not-ltb nMost (p .n) (a .1);
       delta-least = not-ltb (p .delta) deltaLeast (b'' .0);
       gamma-least = not-ltb (p .gamma) (gammaLeast p) (b' .1);
+      gamma-most = not-ltb gammaMost (p .gamma) (b .1);
       views-least = not-ltb (p .views) viewsLeast (w' .0);
+      views-most = not-ltb viewsMost (p .views) (w' .1);
       views-multiple = not-not (turnStart p (p .views)) (w .1);
       faulty-below = not-leb (2 ^ p .n) faulty (f .0);
       faulty-few = not-ltb (tolerated p) (size faulty) (f .1);
@@ -76,7 +78,7 @@ module _ (u : Setup) (s : State) (c : Passes (openingChecks u s)) where
   abbrev r : Run
   r = blankRun u
 
-  tally-long : rowWords * plan .views ≤ length (s .tally)
+  pub tally-long : rowWords * plan .views ≤ length (s .tally)
   tally-long =
       let a = neither (ltb (length (s .tally)) (rowWords * plan .views) || ltb (length (s .network)) (networkLeast plan)) (ltb networkMost (length (s .network)))
       (c .1 .1 .1 .1 .0) in
@@ -164,7 +166,7 @@ module _ (u : Setup) (s : State) (c : Passes (openingChecks u s)) where
   }
 
   -- the network holds them: two messages at most of each processor
-  room : T (ltb (capacity (replicate (length (s .network)) 0)) (0 + length (all .sent))) → ⊥
+  pub room : T (ltb (capacity (replicate (length (s .network)) 0)) (0 + length (all .sent))) → ⊥
   room t =
       let a = neither (ltb (length (s .tally)) (rowWords * plan .views) || ltb (length (s .network)) (networkLeast plan)) (ltb networkMost (length (s .network)))
       (c .1 .1 .1 .1 .0) in
@@ -173,7 +175,7 @@ module _ (u : Setup) (s : State) (c : Passes (openingChecks u s)) where
       let g : length (replicate {A = ℕ} (length (s .network)) 0) / 4 < 0 + length (all .sent) = ltb→lt _ _ t in
       omega (arith, m .sent-few, length-replicate {A = ℕ} (length (s .network)) 0)
 
-  first-wire : Wire (replicate (length (s .network)) 0) 0 []
+  pub first-wire : Wire (replicate (length (s .network)) 0) 0 []
   first-wire = record { spare = length (s .network); words = refl; number = refl }
 
   pub opened-lengths : (length (opened u s .tally) ≡ length (s .tally)) × (length (opened u s .network) ≡ length (s .network))

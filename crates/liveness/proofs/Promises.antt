@@ -98,12 +98,12 @@ module _ (plan : Plan) (faulty : ℕ) (ok : Planned plan faulty) where
   }
 
   -- where a list of events leads, settling or not
-  record Follows (s s' : State) : Type 0 where
-    tracked : Tracked plan faulty ok s'
-    tally-length : length (s' .tally) ≡ length (s .tally)
-    network-length : length (s' .network) ≡ length (s .network)
-    view-up : (p : ℕ) → T (correct plan faulty p) → viewOf (s .run) p ≤ viewOf (s' .run) p
-    clock-up : (p : ℕ) → T (correct plan faulty p) → clockOf (s .run) p ≤ clockOf (s' .run) p
+  pub record Follows (s s' : State) : Type 0 where
+    pub tracked : Tracked plan faulty ok s'
+    pub tally-length : length (s' .tally) ≡ length (s .tally)
+    pub network-length : length (s' .network) ≡ length (s .network)
+    pub view-up : (p : ℕ) → T (correct plan faulty p) → viewOf (s .run) p ≤ viewOf (s' .run) p
+    pub clock-up : (p : ℕ) → T (correct plan faulty p) → clockOf (s .run) p ≤ clockOf (s' .run) p
 
   follows-none : (s : State) → Tracked plan faulty ok s → Follows s s
   follows-none s x = record { tracked = x; tally-length = refl; network-length = refl; view-up = λ p c. omega arith; clock-up = λ p c. omega arith }
@@ -126,7 +126,7 @@ module _ (plan : Plan) (faulty : ℕ) (ok : Planned plan faulty) where
     clock-up = λ p c. omega (arith, steps-clock-up π (l .way) p c, x .books .clock p, l .to .books .clock p);
   }
 
-  follows-event : (e : Event) (s : State) → Tracked plan faulty ok s → Follows s (applied e s .state)
+  pub follows-event : (e : Event) (s : State) → Tracked plan faulty ok s → Follows s (applied e s .state)
   unfolding effect nowSettled
   follows-event (Deliver m) s x = follows-leads s x _ (event-leads plan faulty ok (Deliver m) tt s x)
   follows-event (Sign m) s x = follows-leads s x _ (event-leads plan faulty ok (Sign m) tt s x)
@@ -252,10 +252,10 @@ opened-so u before = by-judged (λ (a : After). T (accepted (a .answer)) → Pas
     (λ r t. absurd t) (λ c t. (c, refl))
 
 module _ (u : Setup) (before : State) (t : T (accepted (opening u before .answer))) where
-  c₀ : Passes (openingChecks u before)
+  pub c₀ : Passes (openingChecks u before)
   c₀ = opened-so u before t .0
 
-  tracked₀ : Tracked (u .plan) (u .faulty) (planned u before c₀) (opening u before .state)
+  pub tracked₀ : Tracked (u .plan) (u .faulty) (planned u before c₀) (opening u before .state)
   tracked₀ = subst (Tracked (u .plan) (u .faulty) (planned u before c₀)) (sym (opened-so u before t .1)) (opened-tracked u before c₀)
 
   tracked-after : (es : List Event) → Tracked (u .plan) (u .faulty) (planned u before c₀) (after (opening u before .state) es)

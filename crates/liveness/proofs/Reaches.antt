@@ -16,8 +16,9 @@ use Rattle.protocol.specs.Runs.{none, more, hears, enters, passes}
 use Rattle.types.specs.declared.Plan.{Plan}
 use Rattle.types.specs.declared.Message.{Message}
 use Rattle.types.specs.declared.Message.the-variants.{Vc, Qc}
+use Rattle.types.specs.declared.Traffic.{Traffic}
 use Rattle.types.specs.Quantities.{lead, initial}
-use Rattle.model.specs.State.{State, withHeld, viewOf, isCorrect, enteredWord}
+use Rattle.model.specs.State.{State, withHeld, withTraffic, viewOf, isCorrect, enteredWord}
 use Rattle.model.specs.Moves.{Change, still, Entry, stay, into, certificate, entering, taking, hearing, handling, made}
 use Rattle.model.specs.Checks.{reachesEnd, overfull}
 use Rattle.liveness.proofs.TallyLaws.{length-added}
@@ -44,10 +45,10 @@ module _ (s : State) (ok : Planned (s .run .plan) (s .run .faulty)) (x : Tracked
   To s' = Leads plan faulty ok s x s'
 
   -- a network with the messages ys, of which none is new
-  module _ (h : ℕ) (ws : List ℕ) (ys : List Sent) (wire : Wire ws h ys) (same-length : length ws ≡ length (s .network))
+  module _ (h : ℕ) (traffic : Traffic) (ws : List ℕ) (ys : List Sent) (wire : Wire ws h ys) (same-length : length ws ≡ length (s .network))
       (kept : (m : Message) (t : ℕ) → In m t ys → In m t (x .messages)) where
     abbrev s₁ : State
-    s₁ = record { run = withHeld h (s .run); tally = s .tally; network = ws }
+    s₁ = record { run = withTraffic traffic (withHeld h (s .run)); tally = s .tally; network = ws }
 
     -- a leader hears a signature
     pub hear-leads : (q : Bool) (w p : ℕ) → w < plan .views → p < plan .n → ((m : Message) (t : ℕ) → In m t (x .messages) → In m t ys ⊎ (m ≡ signature q w p))

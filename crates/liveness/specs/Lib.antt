@@ -1,4 +1,5 @@
 -- What is promised of the definitions, and a run to which it applies.
 pub mod Promises
+pub mod Traffic
 pub mod Unread
 pub mod Live

@@ -1,8 +1,8 @@
 -- What a load chooses on a sound run: the delivery of a message held, a tick where none is overdue, or settling; each has a line. Assumes nothing.
 use mathlib.Core.Path.{_≡_, refl, sym, ap, subst}
-use mathlib.Core.Bool.{false, not, _&&_, _||_}
+use mathlib.Core.Bool.{false, not, _&&_}
 use mathlib.Core.List.{List}
-use Prim.Native.Nat.{ℕ, _/_, _%_, _≤_, _<_}
+use Prim.Native.Nat.{ℕ, _/_, _%_, _<_}
 use native.Mathlib.Omega.{arith}
 use native.Mathlib.Nat.{mod-lt}
 use lib.Dec.{T, eqb, ltb, ltb→lt, T-not}
@@ -11,18 +11,16 @@ use borrow.Author.Tests.{lt-ltb}
 use Rattle.base.specs.Scan.{some, first}
 use Rattle.base.specs.ScanLaws.{first-some}
 use Rattle.base.specs.Tests.{T-and, T-right, T-false, eq→eqb, by-cond}
-use Rattle.types.specs.declared.Plan.{Plan}
 use Rattle.types.specs.declared.Message.{Message}
 use Rattle.types.specs.declared.Event.{Event}
 use Rattle.types.specs.declared.Event.the-variants.{Deliver, Settle, Tick}
-use Rattle.types.specs.Quantities.{viewsLeast, viewsMost, messageWords, turnStart}
+use Rattle.types.specs.Quantities.{messageWords}
 use Rattle.types.specs.Messages.{kindOf, viewIn, processorIn}
 use Rattle.model.specs.State.{State, kindAt, viewAt, processorAt, capacity}
-use Rattle.model.specs.Checks.{nOutside, delaysOutside, viewsOutside, planOutside, faultyOutside, buffersOutside, limitsBroken, isAt, timeUnsound, overdueAt, overdue}
+use Rattle.model.specs.Checks.{isAt, timeUnsound, overdueAt, overdue}
 use Rattle.buffers.specs.declared.Stored.the-variants.{Holds}
 use Rattle.buffers.specs.Kinds.{stored}
 use Rattle.buffers.proofs.Storing.{stored-back}
-use Rattle.liveness.proofs.Judging.{neither, not-ltb}
 use Rattle.liveness.proofs.Flight.{Shows, shown-at}
 use Rattle.liveness.proofs.Link.{wire-length}
 use Rattle.liveness.proofs.Soundness.{SoundRun}
@@ -32,16 +30,6 @@ use Rattle.lines.specs.Forms.{eventForm, EventLine}
 use Rattle.loads.specs.declared.Turn.{Turn}
 use Rattle.loads.specs.Draws.{nextSeed, draw}
 use Rattle.loads.specs.Loads.{Point, deliveryOf, delivery, refusedOverdue, ticking, delivers, chosen, stepTurn, settleDue, settleTurn, turn}
-
--- the view limit of a run that passed check 9
-views-low : (s : State) → (T (limitsBroken s) → ⊥) → s .run .plan .views ≤ viewsMost
-views-low s no' =
-    let p : Plan = s .run .plan in
-    let l = neither (planOutside p || faultyOutside p (s .run .faulty)) (buffersOutside p (s .tally) (s .network)) no' in
-    let f = neither (planOutside p) (faultyOutside p (s .run .faulty)) (l .0) in
-    let v = neither (nOutside p || delaysOutside p) (viewsOutside p) (f .0) in
-    let m = neither (ltb (p .views) viewsLeast || ltb viewsMost (p .views)) (not (turnStart p (p .views))) (v .1) in
-    not-ltb _ _ (neither (ltb (p .views) viewsLeast) (ltb viewsMost (p .views)) (m .0) .1)
 
 -- ---- of a sound run
 
@@ -77,8 +65,9 @@ module _ (s : State) (sound : SoundRun s) where
 
   message-line : (m : Message) → Addressed (s .run .plan) (s .run .faulty) m → EventLine (eventForm (Deliver m)) (Deliver m)
   message-line m a =
-      let v = views-low s (sound .limits) in
-      let n = carried-planned s carried .n-most in
+      let ok = carried-planned s carried in
+      let v = ok .views-most in
+      let n = ok .n-most in
       record { formed = refl; below = (omega (arith, a .view-low), (omega (arith, a .processor-low), tt)); bytes = refl }
 
 -- what holds of the delivery of each message held, and of a tick where none is overdue, holds of what is chosen

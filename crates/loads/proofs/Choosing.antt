@@ -6,9 +6,9 @@ use Prim.Native.Nat.{ℕ, suc, _+_, _-_, _*_, _/_, _%_, _≤_, _<_, max}
 use native.Mathlib.Omega.{arith}
 use native.Mathlib.Nat.{mod-lt, div-add-mod', mul-le-mul-right, add-mul, one-mul}
 use native.Mathlib.Numerals.{add-one}
-use lib.Dec.{leb, ltb, ltb→lt}
+use lib.Dec.{leb, ltb}
 use borrow.Author.Tests.{le-leb, lt-leb, lt-ltb, le-ltb}
-use Rattle.base.specs.Tests.{T-right, le?}
+use Rattle.base.specs.Tests.{le?}
 use Rattle.base.specs.Scan.{some, first}
 use Rattle.base.specs.ScanLaws.{some-first}
 use Rattle.base.specs.Choice.{cond-yes, cond-no, and-both, and-not-first, and-not-second}
@@ -94,8 +94,16 @@ tick-unsettled s n =
 abbrev pub deliversBy : ℕ → ℕ → Bool
 deliversBy once held = ltb (draw once % 4) 2 && ltb 0 held
 
-pub some-held : (once held : ℕ) → deliversBy once held ≡ true → 0 < held
-some-held once held y = ltb→lt 0 held (T-right (ltb (draw once % 4) 2) (ltb 0 held) (rw y tt))
+-- d being what the new seed draws
+pub draws-delivery : (once d held : ℕ) → d ≡ draw once → d % 4 < 2 → 0 < held → deliversBy once held ≡ true
+draws-delivery once d held e l h =
+    and-both (ltb (draw once % 4) 2) (ltb 0 held) (ap (λ (k : ℕ). ltb (k % 4) 2) (sym e) ∙ lt-ltb (d % 4) 2 l) (lt-ltb 0 held h)
+
+pub draws-tick : (once d held : ℕ) → d ≡ draw once → 2 ≤ d % 4 → deliversBy once held ≡ false
+draws-tick once d held e l = and-not-first (ltb (draw once % 4) 2) (ltb 0 held) (ap (λ (k : ℕ). ltb (k % 4) 2) (sym e) ∙ le-ltb (d % 4) 2 l)
+
+pub none-held : (once held : ℕ) → held ≤ 0 → deliversBy once held ≡ false
+none-held once held l = and-not-second (ltb (draw once % 4) 2) (ltb 0 held) (le-ltb 0 held l)
 
 module _ (x : Point) (once : ℕ) (is : once ≡ nextSeed (x .seed)) where
   pub step-delivers : (twice : ℕ) (e : Event) → twice ≡ nextSeed once → deliversBy once (x .state .run .held) ≡ true

@@ -7,7 +7,7 @@ ghost use mathlib.Core.Path.{_≡_};
 ghost use mathlib.Core.Bool.{not, _&&_, cond};
 ghost use mathlib.Core.List.{List};
 ghost use Prim.Native.Nat.{ℕ, _*_, _%_, _^_};
-ghost use lib.Dec.{eqb, ltb};
+ghost use lib.Dec.{eqb};
 ghost use Rattle.base.specs.Scan.{first};
 ghost use Rattle.types.specs.Runs.{isSettled};
 ghost use Rattle.model.specs.State.{stateOf, runFrom};
@@ -134,22 +134,19 @@ fn tick_or_deliver(head: Head, network: &[u64]) -> Event
     Event::Tick(1)
 }
 
-// Whether a step with this new seed delivers.
-fn delivers(once: u64, held: usize) -> bool
-    ensures { λ r. ⌜ r ≡ (ltb (draw once % 4) 2 && ltb 0 held) ⌝ }
-{
-    if drawn(once) % 4 < 2 {
-        return 0 < held;
-    }
-    false
-}
-
-// A step of the load.
+// A step of the load. Nothing is asked of the draw where nothing is held.
 fn step(head: Head, seed: u64, network: &[u64]) -> Turn
     ensures { λ r. ⌜ ((c v t : List ℕ) (k : ℕ) → r ≡ stepTurn (pointOf (stateOf (runFrom head c v) t (now (network .entry))) seed k)) ⌝ }
 {
     let once = next_seed(seed);
-    if delivers(once, head.held) {
+    if head.held == 0 {
+        return Turn {
+            event: Event::Tick(1),
+            seed: once,
+            steps: 1,
+        };
+    }
+    if drawn(once) % 4 < 2 {
         let twice = next_seed(once);
         let i = drawn(twice) % (head.held as u64);
         return Turn {

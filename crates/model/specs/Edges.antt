@@ -11,6 +11,7 @@ use Rattle.types.specs.declared.Answer.the-variants.{Done, Stopped, Refused}
 use Rattle.types.specs.declared.Input.the-variants as input
 use Rattle.types.specs.declared.Sends.the-variants.{Nothing, Vote as VoteFor, ViewAndVote}
 use Rattle.types.specs.declared.Stepped.the-variants as step
+use Rattle.types.specs.Traffic.{noTraffic}
 use Rattle.model.specs.State.{State, stateOf, runOf, checkOf, heldOf, accepted}
 use Rattle.model.specs.Checks.{lengthsOutside, unsoundForGood}
 use Rattle.model.specs.Opening.{opening}
@@ -102,7 +103,7 @@ ahead = handedIn standard 0 23 false 0 0 (replicate 4 5) zeroes [] []
 
 -- a table without entries: its clocks read as 0, and none can be set; the view certificate for 3 is formed
 abbrev short : State
-short = stateOf (runOf standard 0 0 false 0 0 [] zeroes) (replicate 15 0 ++ (1 ∷ replicate 8 0)) (replicate 64 0)
+short = stateOf (runOf standard 0 0 false 0 0 [] zeroes noTraffic) (replicate 15 0 ++ (1 ∷ replicate 8 0)) (replicate 64 0)
 
 pub lasting : List Row
 lasting =

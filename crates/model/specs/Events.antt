@@ -10,8 +10,9 @@ use Rattle.types.specs.declared.Event.the-variants.{Deliver, Sign, Show, Settle
 use Rattle.types.specs.declared.Answer.{Answer}
 use Rattle.types.specs.declared.Answer.the-variants.{Done, Stopped, Refused}
 use Rattle.types.specs.Quantities.{lead}
+use Rattle.types.specs.Traffic.{trafficDelivered}
 use Rattle.types.specs.Messages.{viewIn, processorIn, stageOf, lacksForm}
-use Rattle.model.specs.State.{State, After, withHeld, withGst, isCorrect, removed, checkOf, refused, done}
+use Rattle.model.specs.State.{State, After, withHeld, withGst, withTraffic, isCorrect, sentAt, removed, checkOf, refused, done}
 use Rattle.model.specs.Moves.{Change, still, handling, advanced, arrivals, made}
 use Rattle.model.specs.Checks.{Check, judged, unsound, namedOutside, notInitial, signerCorrect, receiverFaulty, placeOf, notHeld, notExisting, settledBefore, overdue, reachesEnd, overfull}
 
@@ -21,9 +22,16 @@ outcomeChecks s c = (17, reachesEnd (s .run) c) ∷ (18, overfull s c) ∷ []
 
 -- ---- "It leaves the post (the first, of equal ones) and is handled."
 
+-- "delivery less sending time": of the message at a place, and of the one that is delivered
+abbrev pub waitSince : ℕ → List ℕ → ℕ → ℕ
+waitSince time network i = time - sentAt network i
+
+abbrev pub waitOf : State → Message → ℕ
+waitOf s m = waitSince (s .run .time) (s .network) (placeOf s m)
+
 unfoldable pub without : State → Message → State
 without s m = record {
-  run = withHeld (s .run .held - 1) (s .run);
+  run = withTraffic (trafficDelivered (s .run .traffic) m (waitOf s m)) (withHeld (s .run .held - 1) (s .run));
   tally = s .tally;
   network = removed (s .network) (s .run .held) (placeOf s m);
 }

@@ -6,8 +6,10 @@ pub mod Opening
 pub mod Events
 pub mod Processors
 pub mod Lists
+pub mod Traffic
 pub mod Rows
 pub mod Settings
 pub mod Vectors
 pub mod Refusals
 pub mod Edges
+pub mod Sums

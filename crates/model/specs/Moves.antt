@@ -10,8 +10,9 @@ use Rattle.types.specs.declared.Message.{Message}
 use Rattle.types.specs.declared.Message.the-variants.{View, Vote, Vc, Qc}
 use Rattle.types.specs.declared.Run.{Run}
 use Rattle.types.specs.Quantities.{tolerated, lead, initial, clockTime, correct}
+use Rattle.types.specs.Traffic.{trafficSent}
 use Rattle.types.specs.Messages.{viewStage, voteStage, kindOf, viewIn, processorIn, addressee}
-use Rattle.model.specs.State.{State, withHeld, withTime, withClocks, withViews, clockOf, viewOf, isCorrect, enteredWord, heardWord, marksWord, markBit, word, added, posted}
+use Rattle.model.specs.State.{State, withHeld, withTime, withClocks, withViews, withTraffic, clockOf, viewOf, isCorrect, enteredWord, heardWord, marksWord, markBit, word, added, posted}
 
 -- what a move leaves of clocks, views and tally, and the messages that it sends, in order; nothing else of the run moves
 pub record Change : Type 0 where
@@ -164,11 +165,11 @@ arrival r p = cond (isCorrect r p) (byClock (r .plan) (clockOf r p)) stay
 unfoldable pub arrivals : State → Change
 arrivals a = entries (arrival (a .run)) (a .run) (a .tally) (a .run .plan .n)
 
--- ---- a change made, and its messages posted
+-- ---- a change made, and its messages posted: "Sent means posted."
 
 unfoldable pub made : State → Change → State
 made s c = record {
-  run = withHeld (s .run .held + length (c .sent)) (changed (s .run) c);
+  run = withTraffic (trafficSent (s .run .traffic) (c .sent)) (withHeld (s .run .held + length (c .sent)) (changed (s .run) c));
   tally = c .tally;
   network = posted (s .network) (s .run .held) (s .run .time) (c .sent);
 }

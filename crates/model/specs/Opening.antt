@@ -6,6 +6,7 @@ use lib.ListN.{length, getD, drop, replicate}
 use Rattle.base.specs.Scan.{listed}
 use Rattle.types.specs.declared.Run.{Run}
 use Rattle.types.specs.declared.Setup.{Setup}
+use Rattle.types.specs.Traffic.{noTraffic}
 use Rattle.types.specs.Quantities.{tableClocks, rowWords, correct}
 use Rattle.model.specs.State.{State, After, runOf, refused, done}
 use Rattle.model.specs.Moves.{Entry, stay, into, entries, made}
@@ -17,7 +18,7 @@ startClocks u = listed (λ p. cond (correct (u .plan) (u .faulty) p) (getD (u .c
 
 -- "At opening, time is 0, .. and the network is unsettled (its settling time is kept as 0 ..)."
 abbrev pub blankRun : Setup → Run
-blankRun u = runOf (u .plan) (u .faulty) 0 false 0 0 (startClocks u) (replicate tableClocks 0)
+blankRun u = runOf (u .plan) (u .faulty) 0 false 0 0 (startClocks u) (replicate tableClocks 0) noTraffic
 
 -- "Opening zeroes the first 4V ledger words and the whole post before entering view 0; ledger words beyond are untouched."
 unfoldable pub blank : Setup → State → State

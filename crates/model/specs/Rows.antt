@@ -8,6 +8,7 @@ use Rattle.types.specs.declared.Plan.{Plan}
 use Rattle.types.specs.declared.Message.{Message}
 use Rattle.types.specs.declared.Event.{Event}
 use Rattle.types.specs.declared.Run.{Run}
+use Rattle.types.specs.declared.Traffic.{Traffic}
 use Rattle.types.specs.declared.Setup.{Setup}
 use Rattle.types.specs.declared.Input.{Input}
 use Rattle.types.specs.declared.Answer.{Answer}
@@ -17,6 +18,7 @@ use Rattle.base.specs.Count.{count}
 use Rattle.base.specs.Scan.{some, first, listed}
 use Rattle.base.specs.Sets.{member}
 use Rattle.types.specs.Quantities.{tableClocks, perLeader}
+use Rattle.types.specs.Traffic.{countNumbers, noTraffic, countsMore}
 use Rattle.types.specs.Messages.{kindOf, viewIn, processorIn}
 use Rattle.model.specs.State.{State, After, runOf, clockOf, viewOf, isCorrect, posted, removed}
 use Rattle.model.specs.Moves.{toCorrect, entering, taking, entries, ripe, toEach, hearing, handling, clocksOn, arrivals, made}
@@ -28,7 +30,7 @@ use Rattle.model.specs.Lists.{after}
 
 -- names all that has to unfold for a row to compute
 unfoldable pub definitions : ℕ
-unfolding stepped applied checks effect tickRun ticks tickOnce nowSettled signing delivering without after opening opened blank reachesEnd overdue exists unsound unsoundForGood messageUnsound tooFarAhead startTooHigh made arrivals clocksOn handling hearing toEach ripe entries taking entering toCorrect removed posted perLeader count some first listed member ones onesIn
+unfolding countsMore stepped applied checks effect tickRun ticks tickOnce nowSettled signing delivering without after opening opened blank reachesEnd overdue exists unsound unsoundForGood messageUnsound tooFarAhead startTooHigh made arrivals clocksOn handling hearing toEach ripe entries taking entering toCorrect removed posted perLeader count some first listed member ones onesIn
 definitions = 0
 
 -- ---- what is put in
@@ -60,7 +62,7 @@ setupOf plan faulty clocks = record { plan = plan; faulty = faulty; clocks = tab
 
 -- buffers of so many tally and network words, lent before any run
 abbrev pub lent : ℕ → ℕ → State
-lent t w = record { run = runOf (planOf 0 0 0 0) 0 0 false 0 0 (table []) (table []); tally = replicate t 0; network = replicate w 0 }
+lent t w = record { run = runOf (planOf 0 0 0 0) 0 0 false 0 0 (table []) (table []) noTraffic; tally = replicate t 0; network = replicate w 0 }
 
 -- longer ones than most rows need: words for 15 views and 32 messages
 abbrev pub buffers : State
@@ -70,7 +72,7 @@ buffers = lent 60 128
 -- and of the 64 of the network
 abbrev pub handedIn : Plan → ℕ → ℕ → Bool → ℕ → ℕ → List ℕ → List ℕ → List ℕ → List ℕ → State
 handedIn plan faulty time settled gst held clocks views tally network = record {
-  run = runOf plan faulty time settled gst held (table clocks) (table views);
+  run = runOf plan faulty time settled gst held (table clocks) (table views) noTraffic;
   tally = padded 24 tally;
   network = padded 64 network;
 }
@@ -102,12 +104,16 @@ positionsBelow r (suc k) = positionsBelow r k ++ cond (isCorrect r k) ((k ∷ vi
 abbrev pub positions : State → List (List ℕ)
 positions s = positionsBelow (s .run) (s .run .plan .n)
 
+-- sent, by kind; delivered, by kind; the sum of waits
+abbrev pub trafficNumbers : Traffic → List (List ℕ)
+trafficNumbers x = countNumbers (x .sent) ∷ countNumbers (x .delivered) ∷ (x .waits ∷ []) ∷ []
+
 -- every number of a run and of its buffers
 abbrev pub everything : State → List (List ℕ)
 everything s =
     let r = s .run in
     (r .plan .n ∷ r .plan .delta ∷ r .plan .gamma ∷ r .plan .views ∷ r .faulty ∷ r .time ∷ cond (r .settled) 1 0 ∷ r .gst ∷ r .held ∷ [])
-    ∷ r .clocks ∷ r .views ∷ s .tally ∷ s .network ∷ []
+    ∷ r .clocks ∷ r .views ∷ s .tally ∷ s .network ∷ trafficNumbers (r .traffic)
 
 -- kind, view and processor of a message
 abbrev pub fieldsOf : Message → List ℕ

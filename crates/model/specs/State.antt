@@ -9,6 +9,7 @@ use Rattle.base.specs.Sets.{insert}
 use Rattle.types.specs.declared.Plan.{Plan}
 use Rattle.types.specs.declared.Message.{Message}
 use Rattle.types.specs.declared.Run.{Run}
+use Rattle.types.specs.declared.Traffic.{Traffic}
 use Rattle.types.specs.declared.Answer.{Answer}
 use Rattle.types.specs.declared.Applied.{Applied}
 use Rattle.types.specs.declared.AppliedHead.{AppliedHead}
@@ -27,8 +28,8 @@ stateOf run tally network = record { run = run; tally = tally; network = network
 
 -- ---- the run
 
-abbrev pub runOf : Plan → ℕ → ℕ → Bool → ℕ → ℕ → List ℕ → List ℕ → Run
-runOf plan faulty time settled gst held clocks views = record {
+abbrev pub runOf : Plan → ℕ → ℕ → Bool → ℕ → ℕ → List ℕ → List ℕ → Traffic → Run
+runOf plan faulty time settled gst held clocks views traffic = record {
   plan = plan;
   faulty = faulty;
   time = time;
@@ -37,22 +38,26 @@ runOf plan faulty time settled gst held clocks views = record {
   held = held;
   clocks = clocks;
   views = views;
+  traffic = traffic;
 }
 
 abbrev pub withHeld : ℕ → Run → Run
-withHeld h r = runOf (r .plan) (r .faulty) (r .time) (r .settled) (r .gst) h (r .clocks) (r .views)
+withHeld h r = runOf (r .plan) (r .faulty) (r .time) (r .settled) (r .gst) h (r .clocks) (r .views) (r .traffic)
 
 abbrev pub withTime : ℕ → Run → Run
-withTime t r = runOf (r .plan) (r .faulty) t (r .settled) (r .gst) (r .held) (r .clocks) (r .views)
+withTime t r = runOf (r .plan) (r .faulty) t (r .settled) (r .gst) (r .held) (r .clocks) (r .views) (r .traffic)
 
 abbrev pub withGst : ℕ → Run → Run
-withGst g r = runOf (r .plan) (r .faulty) (r .time) true g (r .held) (r .clocks) (r .views)
+withGst g r = runOf (r .plan) (r .faulty) (r .time) true g (r .held) (r .clocks) (r .views) (r .traffic)
 
 abbrev pub withClocks : List ℕ → Run → Run
-withClocks l r = runOf (r .plan) (r .faulty) (r .time) (r .settled) (r .gst) (r .held) l (r .views)
+withClocks l r = runOf (r .plan) (r .faulty) (r .time) (r .settled) (r .gst) (r .held) l (r .views) (r .traffic)
 
 abbrev pub withViews : List ℕ → Run → Run
-withViews l r = runOf (r .plan) (r .faulty) (r .time) (r .settled) (r .gst) (r .held) (r .clocks) l
+withViews l r = runOf (r .plan) (r .faulty) (r .time) (r .settled) (r .gst) (r .held) (r .clocks) l (r .traffic)
+
+abbrev pub withTraffic : Traffic → Run → Run
+withTraffic x r = runOf (r .plan) (r .faulty) (r .time) (r .settled) (r .gst) (r .held) (r .clocks) (r .views) x
 
 abbrev pub clockOf : Run → ℕ → ℕ
 clockOf r p = getD (r .clocks) p 0

@@ -7,8 +7,9 @@ use mathlib.Core.List.{List, [], _∷_, _++_, append-assoc, append-nil}
 use lib.ListN.{length, take}
 use lib.Dec.{eqb}
 use Rattle.lines.specs.Forms.{newline}
-use Rattle.lines.specs.Splitting.{beforeNewline, ended, linesAfter}
-use Rattle.printout.specs.Printout.{printedLine, printedFrom}
+use Rattle.lines.specs.Splitting.{Cut, beforeNewline, ended, linesAfter, cutRead}
+use Rattle.reader.specs.Lines.{reading}
+use Rattle.printout.specs.Printout.{Standing, reply, printedLine, standingAfter, printedFrom}
 use Rattle.printout.specs.Contracts.{Place, placeAt, lineEnded, fresh, longer, Advance, behind, fed}
 
 -- one piece and then another
@@ -69,17 +70,38 @@ fed-line p (b ∷ s) = go (eqb b newline) refl (fed-line (longer p b) s)
     go true e f h = rw e (one ∙ ap told (ap (placeAt (p .standing)) (sym (append-nil (p .begun)))))
     go false e f h = rw e (f (omega arith) ∙ ap told (within-more p b (take (beforeNewline s) s)))
 
--- what is printed for a whole input is what its pieces print
+-- ---- a whole input and its pieces
+
+-- F is asked of lines in turn: of each, by what is printed for it and by F of the others
+module _ {A : Type 0} (F : Standing → List Cut → A) (also : List ℕ → A → A) (none : (z : A) → z ≡ also [] z)
+    (both : (a b : List ℕ) (z : A) → also a (also b z) ≡ also (a ++ b) z)
+    (turn : (x : Standing) (c : Cut) (cs : List Cut)
+    → let r = reply (cutRead reading c) x in F x (c ∷ cs) ≡ also (printedLine r) (F (r .standing) cs)) where
+  abbrev from : Place → List ℕ → A
+  from p s = F (p .standing) (linesAfter (p .begun) s)
+
+  pub lines-fed : (p : Place) (s more : List ℕ) → from p (s ++ more) ≡ also (fed p s .text) (from (fed p s .place) more)
+  lines-fed p [] more = none (from p more)
+  lines-fed p (b ∷ s) more = go (eqb b newline) (lines-fed (fresh p) s more) (lines-fed (longer p b) s more)
+    where
+      go : (t : Bool) → from (fresh p) (s ++ more) ≡ also (fed (fresh p) s .text) (from (fed (fresh p) s .place) more)
+          → from (longer p b) (s ++ more) ≡ also (fed (longer p b) s .text) (from (fed (longer p b) s .place) more)
+          → F (p .standing) (cond t (ended (p .begun) ∷ linesAfter [] (s ++ more)) (linesAfter (p .begun ++ (b ∷ [])) (s ++ more)))
+          ≡ also (cond t (behind (printedLine (lineEnded p)) (fed (fresh p) s)) (fed (longer p b) s) .text)
+          (from (cond t (behind (printedLine (lineEnded p)) (fed (fresh p) s)) (fed (longer p b) s) .place) more)
+      go true f g =
+          turn (p .standing) (ended (p .begun)) (linesAfter [] (s ++ more)) ∙ ap (also (printedLine (lineEnded p))) f
+          ∙ both (printedLine (lineEnded p)) (fed (fresh p) s .text) (from (fed (fresh p) s .place) more)
+      go false f g = g
+
+-- what is printed for the whole is what the pieces print
 pub printed-fed : (p : Place) (s more : List ℕ)
-    → printedFrom (p .standing) (linesAfter (p .begun) (s ++ more)) ≡ fed p s .text ++ printedFrom (fed p s .place .standing) (linesAfter (fed p s .place .begun) more)
-printed-fed p [] more = refl
-printed-fed p (b ∷ s) more = go (eqb b newline) (printed-fed (fresh p) s more) (printed-fed (longer p b) s more)
-  where
-    go : (t : Bool) → printedFrom (lineEnded p .standing) (linesAfter [] (s ++ more)) ≡ fed (fresh p) s .text ++ printedFrom (fed (fresh p) s .place .standing) (linesAfter (fed (fresh p) s .place .begun) more)
-        → printedFrom (p .standing) (linesAfter (p .begun ++ (b ∷ [])) (s ++ more)) ≡ fed (longer p b) s .text ++ printedFrom (fed (longer p b) s .place .standing) (linesAfter (fed (longer p b) s .place .begun) more)
-        → printedFrom (p .standing) (cond t (ended (p .begun) ∷ linesAfter [] (s ++ more)) (linesAfter (p .begun ++ (b ∷ [])) (s ++ more)))
-        ≡ cond t (behind (printedLine (lineEnded p)) (fed (fresh p) s)) (fed (longer p b) s) .text
-        ++ printedFrom (cond t (behind (printedLine (lineEnded p)) (fed (fresh p) s)) (fed (longer p b) s) .place .standing)
-        (linesAfter (cond t (behind (printedLine (lineEnded p)) (fed (fresh p) s)) (fed (longer p b) s) .place .begun) more)
-    go true f g = ap (λ (l : List ℕ). printedLine (lineEnded p) ++ l) f ∙ sym (append-assoc (printedLine (lineEnded p)) (fed (fresh p) s .text) _)
-    go false f g = g
+    → printedFrom (p .standing) (linesAfter (p .begun) (s ++ more))
+    ≡ fed p s .text ++ printedFrom (fed p s .place .standing) (linesAfter (fed p s .place .begun) more)
+printed-fed = lines-fed printedFrom (λ a z. a ++ z) (λ z. refl) (λ a b z. sym (append-assoc a b z)) (λ x c cs. refl)
+
+-- what it leaves is what they leave
+pub standing-fed : (p : Place) (s more : List ℕ)
+    → standingAfter (p .standing) (linesAfter (p .begun) (s ++ more))
+    ≡ standingAfter (fed p s .place .standing) (linesAfter (fed p s .place .begun) more)
+standing-fed = lines-fed standingAfter (λ a z. z) (λ z. refl) (λ a b z. refl) (λ x c cs. refl)

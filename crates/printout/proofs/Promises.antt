@@ -19,13 +19,13 @@ use Rattle.lines.proofs.Splitting.{next-line}
 use Rattle.printout.specs.declared.Served.{Served}
 use Rattle.printout.specs.Printout.{Standing, standingOf, atStart, printedFrom, printout}
 use Rattle.printout.specs.Contracts.{Prints, placeAt, Advance, fed, Begun, Feeds, Serves, closingMost}
-use Rattle.printout.specs.Promises.{Call, End, Course, written, PrintsWhole, GoesOn}
-use Rattle.printout.proofs.Feeding.{printed-fed}
+use Rattle.printout.specs.Promises.{Call, End, CourseTo, written, PrintsWhole, GoesOn}
+use Rattle.printout.proofs.Feeding.{fed-append, printed-fed}
 
 -- ---- the end
 
 -- a text that was printed is what the answer counts
-prints-text : (most : ℕ) (words out : List ℕ) (r : Written) (after : List ℕ) → most ≤ length out → Prints most words out r after → take (writtenBytes r) after ≡ words
+pub prints-text : (most : ℕ) (words out : List ℕ) (r : Written) (after : List ℕ) → most ≤ length out → Prints most words out r after → take (writtenBytes r) after ≡ words
 prints-text most words out r after h p =
     let n = le-ltb _ _ h in
     let q : r ≡ Bytes (length words) = rw n at (p .0) in
@@ -33,7 +33,7 @@ prints-text most words out r after h p =
     ap₂ (λ (a : Written) (b : List ℕ). take (writtenBytes a) b) q t ∙ take-at words (drop (length words) out) (length words) refl
 
 -- what is left of the input is one line
-left-lines : (begun rest : List ℕ) → nextLine rest ≡ Unfinished → linesAfter begun rest ≡ remainder (begun ++ rest)
+pub left-lines : (begun rest : List ℕ) → nextLine rest ≡ Unfinished → linesAfter begun rest ≡ remainder (begun ++ rest)
 left-lines begun rest h =
     let t : Tells rest Unfinished = subst (Tells rest) h (next-line rest) in
     ap (linesAfter begun) (sym (append-nil rest)) ∙ t .1 begun []
@@ -41,7 +41,7 @@ left-lines begun rest h =
 -- ---- one call
 
 -- the bytes that it used, and the rest of the input
-split-bytes : (bytes input more : List ℕ) (k : ℕ) → k ≤ length bytes → input ≡ bytes ++ more → input ≡ take k bytes ++ drop k input
+pub split-bytes : (bytes input more : List ℕ) (k : ℕ) → k ≤ length bytes → input ≡ bytes ++ more → input ≡ take k bytes ++ drop k input
 split-bytes bytes input more k h e =
     let b : input ≡ take k bytes ++ (drop k bytes ++ more) = e ∙ ap (λ (l : List ℕ). l ++ more) (sym (take-append-drop k bytes)) ∙ append-assoc (take k bytes) (drop k bytes) more in
     let t : take k input ≡ take k bytes = ap (take k) b ∙ take-at (take k bytes) (drop k bytes ++ more) k (length-take-le k bytes h) in
@@ -54,28 +54,71 @@ feeds-text x begun s out y late k after f = ap (take k) (f .text) ∙ take-at (f
 
 -- ---- all of them
 
--- what is to be printed from here on, for the rest of the input behind the bytes begun
-pub course-prints : (cs : List Call) (e : End) (x : Standing) (late : Bool) (begun input : List ℕ) → Begun late begun → Course x late input cs e
-    → written cs e ≡ printedFrom x (linesAfter begun input)
-course-prints [] e x late begun input b c =
-    prints-text closingMost _ (e .out) (e .answer) (e .after) (c .1) (c .2 (x .tally) (x .network) begun b) ∙ ap (printedFrom x) (sym (left-lines begun input (c .0)))
-course-prints (d ∷ cs) e x late begun input b c = step (c .1 .feeds begun b) (course-prints cs e)
+-- the calls cs, and what E says of the last one, where the bytes that they used lead as f says
+pub record Arrives (E : Standing → Bool → List ℕ → Type 0) (cs : List Call) (rest : List ℕ) (f : Advance) : Type 0 where
+  pub late : Bool
+  pub begins : Begun late (f .place .begun)
+  pub ends : E (f .place .standing) late rest
+  pub text : (e : End) → written cs e ≡ f .text ++ take (writtenBytes (e .answer)) (e .after)
+
+-- what they used of the input, and what is left
+pub record Split (E : Standing → Bool → List ℕ → Type 0) (x : Standing) (begun input : List ℕ) (cs : List Call) : Type 0 where
+  pub used : List ℕ
+  pub rest : List ℕ
+  pub whole : used ++ rest ≡ input
+  pub unended : nextLine rest ≡ Unfinished
+  pub arrives : Arrives E cs rest (fed (placeAt x begun) used)
+
+pub course-split : (E : Standing → Bool → List ℕ → Type 0) (cs : List Call) (x : Standing) (late : Bool) (begun input : List ℕ) → Begun late begun
+    → CourseTo E x late input cs → Split E x begun input cs
+course-split E [] x late begun input b c =
+    record { used = []; rest = input; whole = refl; unended = c .0; arrives = record { late = late; begins = b; ends = c .1; text = λ e. refl } }
+course-split E (d ∷ cs) x late begun input b c =
+    step (c .1 .feeds begun b) (course-split E cs y (d .served .late))
   where
-    step : Feeds x begun (take (d .served .used) (d .bytes)) (d .out) (standingOf (d .served .session) (d .tally) (d .network)) (d .served .late) (d .served .printed) (d .after)
-        → ((x' : Standing) (late' : Bool) (begun' input' : List ℕ) → Begun late' begun' → Course x' late' input' cs e → written cs e ≡ printedFrom x' (linesAfter begun' input'))
-        → take (d .served .printed) (d .after) ++ written cs e ≡ printedFrom x (linesAfter begun input)
+    a : List ℕ
+    a = take (d .served .used) (d .bytes)
+
+    y : Standing
+    y = standingOf (d .served .session) (d .tally) (d .network)
+
+    F : Advance
+    F = fed (placeAt x begun) a
+
+    step : Feeds x begun a (d .out) y (d .served .late) (d .served .printed) (d .after)
+        → ((begun' input' : List ℕ) → Begun (d .served .late) begun' → CourseTo E y (d .served .late) input' cs → Split E y begun' input' cs)
+        → Split E x begun input (d ∷ cs)
     step f g =
-        let F : Advance = fed (placeAt x begun) (take (d .served .used) (d .bytes)) in
-        let rest : written cs e ≡ printedFrom (F .place .standing) (linesAfter (F .place .begun) (drop (d .served .used) input)) =
-        g (standingOf (d .served .session) (d .tally) (d .network)) (d .served .late) (F .place .begun) (drop (d .served .used) input) (f .begins) (c .2)
-        ∙ ap (λ (z : Standing). printedFrom z (linesAfter (F .place .begun) (drop (d .served .used) input))) (f .state) in
-        ap₂ (λ (a b : List ℕ). a ++ b) (feeds-text x begun (take (d .served .used) (d .bytes)) (d .out) _ (d .served .late) (d .served .printed) (d .after) f) rest
-        ∙ sym (printed-fed (placeAt x begun) (take (d .served .used) (d .bytes)) (drop (d .served .used) input))
-        ∙ ap (λ (l : List ℕ). printedFrom x (linesAfter begun l)) (sym (split-bytes (d .bytes) input (c .0 .0) (d .served .used) (c .1 .within) (c .0 .1)))
+        let l : Split E (F .place .standing) (F .place .begun) (drop (d .served .used) input) cs =
+        subst (λ (z : Standing). Split E z (F .place .begun) (drop (d .served .used) input) cs) (f .state)
+        (g (F .place .begun) (drop (d .served .used) input) (f .begins) (c .2)) in
+        record {
+          used = a ++ l .used;
+          rest = l .rest;
+          whole = append-assoc a (l .used) (l .rest) ∙ ap (λ (z : List ℕ). a ++ z) (l .whole)
+              ∙ sym (split-bytes (d .bytes) input (c .0 .0) (d .served .used) (c .1 .within) (c .0 .1));
+          unended = l .unended;
+          arrives = subst (Arrives E (d ∷ cs) (l .rest)) (sym (fed-append (placeAt x begun) a (l .used))) (record {
+            late = l .arrives .late;
+            begins = l .arrives .begins;
+            ends = l .arrives .ends;
+            text = λ e. ap₂ (λ (s t : List ℕ). s ++ t) (feeds-text x begun a (d .out) y (d .served .late) (d .served .printed) (d .after) f)
+                (l .arrives .text e)
+                ∙ sym (append-assoc (F .text) (fed (F .place) (l .used) .text) (take (writtenBytes (e .answer)) (e .after)));
+          });
+        }
 
 pub prints-whole : PrintsWhole
 unfolding printout inputLines
-prints-whole input cs e c = course-prints cs e atStart false [] input refl c
+prints-whole input cs e c =
+    let l = course-split _ cs atStart false [] input refl c in
+    let f : Advance = fed (placeAt atStart []) (l .used) in
+    let end : take (writtenBytes (e .answer)) (e .after) ≡ printedFrom (f .place .standing) (linesAfter (f .place .begun) (l .rest)) =
+    prints-text closingMost _ (e .out) (e .answer) (e .after) (l .arrives .ends .0)
+    (l .arrives .ends .1 (f .place .standing .tally) (f .place .standing .network) (f .place .begun) (l .arrives .begins))
+    ∙ ap (printedFrom (f .place .standing)) (sym (left-lines (f .place .begun) (l .rest) (l .unended))) in
+    l .arrives .text e ∙ ap (λ (t : List ℕ). f .text ++ t) end ∙ sym (printed-fed (placeAt atStart []) (l .used) (l .rest))
+    ∙ ap (λ (s : List ℕ). printedFrom atStart (linesAfter [] s)) (l .whole)
 
 -- ---- a call that used no bytes
 

@@ -1,15 +1,15 @@
 -- What the driver's functions owe to the printout.
+pub use Rattle.lines.specs.Contracts.{tooFew, Prints}
 use Prim.Native.Nat.{ℕ, _+_, _*_, _≤_, _<_}
 use mathlib.Core.Path.{_≡_}
 use mathlib.Core.Logic.{_⊎_}
 use mathlib.Core.Bool.{Bool, true, false, cond}
 use mathlib.Core.List.{List, [], _∷_, _++_}
 use lib.ListN.{length, take, drop}
-use lib.Dec.{eqb, ltb}
+use lib.Dec.{eqb}
 use Rattle.types.specs.Quantities.{tableClocks}
 use Rattle.lines.specs.declared.Next.the-variants.{Unfinished}
 use Rattle.lines.specs.declared.Written.{Written}
-use Rattle.lines.specs.declared.Written.the-variants.{Bytes, Refused}
 use Rattle.lines.specs.Forms.{newline}
 use Rattle.lines.specs.Printout.{printedMost}
 use Rattle.lines.specs.Splitting.{ended, remainder, cutRead, lineMost, nextLine}
@@ -17,17 +17,6 @@ use Rattle.reader.specs.Lines.{reading}
 use Rattle.printout.specs.declared.Session.{Session}
 use Rattle.printout.specs.declared.Served.{Served}
 use Rattle.printout.specs.Printout.{Standing, standingOf, Reply, reply, lineReply, printedLine, printedFrom}
-
--- ---- a text printed into lent bytes
-
--- "too few lent bytes": they are asked to hold the longest text that may come, before anything is done
-abbrev pub tooFew : ℕ → List ℕ → Bool
-tooFew most out = ltb (length out) most
-
--- that the text was printed into the lent bytes `out`: what was answered, and what they hold afterwards
-abbrev pub Prints : ℕ → List ℕ → List ℕ → Written → List ℕ → Type 0
-Prints most text out r after =
-    (r ≡ cond (tooFew most out) (Refused 1) (Bytes (length text))) × (after ≡ cond (tooFew most out) out (text ++ drop (length text) out))
 
 -- ---- one line
 

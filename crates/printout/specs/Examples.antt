@@ -9,21 +9,26 @@ use Rattle.types.specs.declared.Event.{Event}
 use Rattle.types.specs.declared.Event.the-variants.{Deliver, Sign, Show, Settle, Tick}
 use Rattle.types.specs.declared.Answer.{Answer}
 use Rattle.types.specs.declared.Answer.the-variants.{Done, Stopped, Refused}
+use Rattle.types.specs.declared.Counts.{Counts}
+use Rattle.types.specs.Traffic.{countsOf, trafficOf, noCounts, noTraffic}
 use Rattle.model.specs.Rows.{definitions, planOf, standard, zeroes, setupOf, handedIn, Row, agreeing, number, truth, words}
 use Rattle.model.specs.State.{State, stateOf, runOf}
+use Rattle.model.specs.Traffic.{totals}
 use Rattle.lines.specs.Decimal.{decimal}
 use Rattle.lines.specs.Forms.{newline, messageForm, eventForm, setupForm}
-use Rattle.lines.specs.Printout.{answerForm, processorForm}
+use Rattle.lines.specs.Contracts.{line}
+use Rattle.lines.specs.Printout.{answerForm, processorForm, trafficText, totalsText}
 use Rattle.lines.specs.Splitting.{ended, inputLines}
 use Rattle.lines.specs.Promises.{scheduleOf}
 use Rattle.reader.specs.Bytes.{classOf, classAt}
 use Rattle.reader.specs.Scan.{afterWord, numberAt}
 use Rattle.reader.specs.Lines.{kindFoundAt, messageAt, endingAt, deliverAt, signAt, showAt, ticksAt, eventAt, headingAt, tableAt, openingAt, reading}
-use Rattle.printout.specs.Printout.{Standing, standingOf, leaving, unopenedSession, atStart, ticksPrinted, printedAnswer, eventReply, openingReply, lineAccepted, closing, printedFrom, printout}
+use Rattle.printout.specs.Printout.{Standing, standingOf, leaving, unopenedSession, atStart, ticksPrinted, printedAnswer, eventReply, openingReply, lineAccepted, standingAfter, closing, printedFrom, printout}
+use Rattle.printout.specs.Traffic.{reportText, trafficPrintout}
 
 -- names all that has to unfold for a printout to compute
 unfoldable pub printing : ℕ
-unfolding definitions decimal messageForm eventForm setupForm answerForm processorForm inputLines classOf classAt afterWord numberAt kindFoundAt messageAt endingAt deliverAt signAt showAt ticksAt eventAt headingAt tableAt openingAt reading ticksPrinted printedAnswer eventReply openingReply closing printout
+unfolding definitions decimal messageForm eventForm setupForm answerForm processorForm inputLines classOf classAt afterWord numberAt kindFoundAt messageAt endingAt deliverAt signAt showAt ticksAt eventAt headingAt tableAt openingAt reading ticksPrinted printedAnswer eventReply openingReply closing printout totals totalsText reportText trafficPrintout
 printing = 0
 
 -- ---- "A schedule and its printout"
@@ -202,7 +207,7 @@ handedRuns-hold = refl
 
 -- n processors, of those below 63 none correct
 abbrev pub highest : ℕ → State
-highest n = stateOf (runOf (planOf n 2 4 6) (2 ^ 63 - 1) 0 false 0 0 (replicate 63 0 ++ (7 ∷ 8 ∷ [])) (replicate 63 0 ++ (1 ∷ 2 ∷ []))) [] []
+highest n = stateOf (runOf (planOf n 2 4 6) (2 ^ 63 - 1) 0 false 0 0 (replicate 63 0 ++ (7 ∷ 8 ∷ [])) (replicate 63 0 ++ (1 ∷ 2 ∷ [])) noTraffic) [] []
 
 -- 64 processors, and as many where there are said to be more
 pub ends : List Row
@@ -226,3 +231,42 @@ lentWords =
 pub lentWords-hold : agreeing 0 lentWords ≡ length lentWords
 unfolding lentWords printing
 lentWords-hold = refl
+
+-- ---- the report of the traffic
+
+-- what is reported behind an input, beside what it is to be
+abbrev pub reportRow : Standing → List ℕ → List ℕ → Row
+reportRow x s text = words (reportText (standingAfter x (inputLines s))) text
+
+-- these were sent, these delivered after such waits, and these are held
+abbrev pub report : Counts → Counts → ℕ → Counts → List ℕ
+report sent delivered waits held = trafficText (trafficOf sent delivered waits) held
+
+pub reports : List Row
+reports =
+    -- "A schedule and its printout"
+    words (trafficPrintout (scheduleOf scheduleLines)) (report (countsOf 4 4 4 0) (countsOf 2 0 0 0) 0 (countsOf 2 4 4 0))
+    -- no run is open: nothing; an event and a refused opening; a run handed in that is not
+    ∷ reportRow small [] []
+    ∷ reportRow small (scheduleOf (eventForm (Tick 1) ∷ refusedOpens ∷ [])) []
+    ∷ reportRow (leaving false lastFormed) [] []
+    -- delivered after 2 ticks and after 3
+    ∷ reportRow small (scheduleOf (opens 0 0 ∷ eventLines (Tick 2 ∷ Deliver (View 0 0) ∷ Tick 1 ∷ Deliver (Vote 0 1) ∷ [])))
+    (report (countsOf 4 4 0 0) (countsOf 1 1 0 0) 5 (countsOf 3 3 0 0))
+    -- an accepted opening begins anew, a refused one does not
+    ∷ reportRow small (scheduleOf (opens 0 0 ∷ eventLines (Tick 2 ∷ Deliver (View 0 0) ∷ []) ++ (opens 8 5 ∷ [])))
+    (report (countsOf 3 3 0 0) noCounts 0 (countsOf 3 3 0 0))
+    ∷ reportRow small (scheduleOf (opens 0 0 ∷ eventLines (Tick 2 ∷ Deliver (View 0 0) ∷ []) ++ (refusedOpens ∷ [])))
+    (report (countsOf 4 4 0 0) (countsOf 1 0 0 0) 2 (countsOf 3 4 0 0))
+    -- what is left after the last newline is not done
+    ∷ reportRow small (scheduleOf (opens 0 0 ∷ []) ++ eventForm (Deliver (View 0 0))) (report (countsOf 4 4 0 0) noCounts 0 (countsOf 4 4 0 0))
+    -- refused lines: not in flight any more, and none of the forms
+    ∷ reportRow small (scheduleOf (opens 0 0 ∷ eventLines (Deliver (View 0 0) ∷ Deliver (View 0 0) ∷ []) ++ ([] ∷ [])))
+    (report (countsOf 4 4 0 0) (countsOf 1 0 0 0) 0 (countsOf 3 4 0 0))
+    -- a run handed in that is unsound
+    ∷ reportRow (leaving true wordsMissing) [] (line (answerForm (Refused 9)))
+    ∷ []
+
+pub reports-hold : agreeing 0 reports ≡ length reports
+unfolding reports scheduleLines printing
+reports-hold = refl

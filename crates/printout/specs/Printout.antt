@@ -11,6 +11,7 @@ use Rattle.types.specs.declared.Answer.the-variants.{Done, Stopped, Refused}
 use Rattle.types.specs.declared.Setup.{Setup}
 use Rattle.types.specs.declared.Run.{Run}
 use Rattle.types.specs.Quantities.{tableClocks}
+use Rattle.types.specs.Traffic.{noTraffic}
 use Rattle.model.specs.State.{State, stateOf, runOf, accepted, isCorrect, viewOf, clockOf}
 use Rattle.model.specs.Opening.{opening}
 use Rattle.model.specs.Events.{applied}
@@ -44,7 +45,7 @@ leaving opened s = standingOf (record { opened = opened; run = s .run }) (s .tal
 
 -- before an accepted opening there is no run: 0 everywhere stands for it
 abbrev pub unopenedSession : Session
-unopenedSession = record { opened = false; run = runOf (noSetup .plan) 0 0 false 0 0 (replicate tableClocks 0) (replicate tableClocks 0) }
+unopenedSession = record { opened = false; run = runOf (noSetup .plan) 0 0 false 0 0 (replicate tableClocks 0) (replicate tableClocks 0) noTraffic }
 
 -- "lends 3,600 ledger words and 2,048 post words"
 abbrev pub tallyLent : ℕ
@@ -134,6 +135,11 @@ unfoldable pub closing : Session → List ℕ
 closing s = cond (s .opened) (processorLines (s .run) tableClocks) []
 
 -- ---- a whole input
+
+-- what its lines leave
+abbrev pub standingAfter : Standing → List Cut → Standing
+standingAfter x [] = x
+standingAfter x (c ∷ cs) = standingAfter (reply (cutRead reading c) x .standing) cs
 
 -- what is printed for its lines, and at the end
 abbrev pub printedFrom : Standing → List Cut → List ℕ

@@ -1,6 +1,7 @@
-// The types of the simulate program's state.
+// The types of the state of the simulate program and of the traffic program.
 use types::Plan;
 use types::Run;
+use types::Traffic;
 ghost use mathlib.Core.Path.{_≡_};
 ghost use Rattle.printout.specs.Printout.{unopenedSession};
 
@@ -36,6 +37,7 @@ impl Session {
                 held: 0,
                 clocks: [0; 64],
                 views: [0; 64],
+                traffic: Traffic::none(),
             },
         }
     }

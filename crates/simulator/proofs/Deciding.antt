@@ -1,5 +1,5 @@
 -- What is named, and what a message makes of whom it reaches. Assumes nothing.
-use mathlib.Core.Path.{_≡_, refl, sym, ap, _∙_}
+use mathlib.Core.Path.{_≡_, refl, sym, ap, ap₂, _∙_}
 use mathlib.Core.Bool.{Bool, true, false, not, cond}
 use mathlib.Core.List.{List}
 use Prim.Native.Nat.{ℕ, _≤_, _<_}
@@ -12,10 +12,12 @@ use Rattle.types.specs.declared.Plan.{Plan}
 use Rattle.types.specs.declared.Message.{Message}
 use Rattle.types.specs.declared.Message.the-variants.{View, Vote, Vc, Qc}
 use Rattle.types.specs.declared.Run.{Run}
+use Rattle.types.specs.declared.Traffic.{Traffic}
 use Rattle.types.specs.declared.Input.the-variants.{Vc as VcIn, Qc as QcIn}
 use Rattle.types.specs.Quantities.{initial}
+use Rattle.types.specs.Traffic.{trafficSent}
 use Rattle.types.specs.Messages.{viewStage, voteStage, viewIn, processorIn, stageOf, isSignature}
-use Rattle.model.specs.State.{State, stateOf, withHeld, withClocks, withViews, viewOf, isCorrect}
+use Rattle.model.specs.State.{State, stateOf, withHeld, withClocks, withViews, withTraffic, viewOf, isCorrect}
 use Rattle.model.specs.Moves.{Change, byView, byQuorum, forms, hearing, handling, made, formedMessages, heardChange}
 use Rattle.model.specs.Checks.{planOutside, noProcessor, noView, namedOutside, notInitial, reachesEnd}
 use Rattle.liveness.proofs.Answers.{no-yes}
@@ -166,7 +168,9 @@ module _ (r : Run) (t : List ℕ) (fit : Fit r) (x : Reaction) where
 
 -- ---- a reaction done
 
-pub made-by : (s : State) (c : Change) (held : ℕ) (t ws : List ℕ) → Posts (c .sent) (s .run .held) (s .run .time) (s .network) held ws → t ≡ c .tally
-    → stateOf (withHeld held (withViews (c .views) (withClocks (c .clocks) (s .run)))) t ws ≡ made s c
+pub made-by : (s : State) (c : Change) (held : ℕ) (traffic : Traffic) (t ws : List ℕ)
+    → Posts (c .sent) (s .run .held) (s .run .time) (s .network) held ws → t ≡ c .tally → traffic ≡ trafficSent (s .run .traffic) (c .sent)
+    → stateOf (withTraffic traffic (withHeld held (withViews (c .views) (withClocks (c .clocks) (s .run))))) t ws ≡ made s c
 unfolding made
-made-by s c held t ws x e = state-by _ _ (ap (λ (h : ℕ). withHeld h (withViews (c .views) (withClocks (c .clocks) (s .run)))) (x .number)) e (x .words)
+made-by s c held traffic t ws x e f = state-by _ _
+    (ap₂ (λ (h : ℕ) (y : Traffic). withTraffic y (withHeld h (withViews (c .views) (withClocks (c .clocks) (s .run))))) (x .number) f) e (x .words)

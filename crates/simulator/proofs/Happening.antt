@@ -19,16 +19,18 @@ use Rattle.types.specs.declared.Run.{Run}
 use Rattle.types.specs.declared.Answer.the-variants.{Done, Refused}
 use Rattle.types.specs.declared.Head.{Head}
 use Rattle.types.specs.declared.AppliedHead.{AppliedHead}
+use Rattle.types.specs.declared.Traffic.{Traffic}
 use Rattle.types.specs.Quantities.{lead}
 use Rattle.types.specs.Messages.{viewIn, processorIn, stageOf, lacksForm}
-use Rattle.model.specs.State.{State, After, stateOf, runFrom, withHeld, leftBehind, isCorrect, capacity, refused, done}
+use Rattle.model.specs.State.{State, After, stateOf, runFrom, withTraffic, leftBehind, isCorrect, capacity, refused, done}
 use Rattle.model.specs.Moves.{Change, still, handling, made}
 use Rattle.model.specs.Checks.{unsound, namedOutside, notInitial, exists, notHeld, reachesEnd, overfull}
 use Rattle.model.specs.Events.{without, delivering, signing, nowSettled, tickRun, checks, effect, applied}
 use Rattle.liveness.proofs.Answers.{no-yes}
+use Rattle.liveness.proofs.Unchecked.{handling-sums}
 use Rattle.leaps.proofs.Leaping.{still-made}
 use Rattle.simulator.specs.declared.Reaction.{Reaction}
-use Rattle.simulator.specs.Inner.{sentFor, Decides, ReachesCorrect, namedCheck, finished, headWithout, leaving, handled}
+use Rattle.simulator.specs.Inner.{changeBy, sentFor, Decides, ReachesCorrect, namedCheck, finished, headWithout, leaving, handled}
 use Rattle.simulator.proofs.Fitness.{fit-of, room-of}
 use Rattle.simulator.proofs.Delivery.{room-left}
 use Rattle.simulator.proofs.Moving.{stays-below}
@@ -83,17 +85,44 @@ module _ (r : Run) (t : List ℕ) (m : Message) (x : Reaction) (d : Decides r t 
       go false e = ap (λ (ms : List Message). outcome (x .ends) (ltb k (h + length ms))) (decided-sent e)
           ∙ ap (λ (b : Bool). outcome b (ltb k (h + length (handling r t m .sent)))) (d .ends)
 
+-- nothing of it looks at the sums
+change-counted : (r : Run) (y : Traffic) (t : List ℕ) (m : Message) (x : Reaction) → changeBy (withTraffic y r) t m x ≡ changeBy r t m x
+change-counted r y t (View w p) x = refl
+change-counted r y t (Vote w p) x = refl
+change-counted r y t (Vc w p) x = refl
+change-counted r y t (Qc w p) x = refl
+
+pub decides-counted : (r : Run) (y : Traffic) (t : List ℕ) (m : Message) (x : Reaction) → Decides r t m x → Decides (withTraffic y r) t m x
+unfolding reachesEnd
+decides-counted r y t m x d = record {
+  ends = d .ends ∙ ap (reachesEnd r) (sym (handling-sums y r t m));
+  change = λ e. change-counted r y t m x ∙ d .change e ∙ sym (handling-sums y r t m);
+}
+
+-- a head with other sums
+abbrev pub counting : Head → Traffic → Head
+counting h x = record {
+  plan = h .plan;
+  faulty = h .faulty;
+  time = h .time;
+  settled = h .settled;
+  gst = h .gst;
+  held = h .held;
+  traffic = x;
+}
+
 -- the outcome of a message that is handled, by what was decided on a head without it
 pub handled-outcome : (before : Head) (cs vs t ws : List ℕ) (m : Message) (i : ℕ) → before .held ≤ capacity ws → (h : Head) → h ≡ headWithout before i
     → (x : Reaction) → Decides (runFrom h cs vs) t m x → (room k : ℕ) → room ≡ capacity ws
     → k ≡ outcome (x .ends) (ltb room (h .held + length (sentFor (h .plan) (h .faulty) m x)))
-    → let s' = leaving (stateOf (runFrom before cs vs) t ws) i in let c = handling (s' .run) t m in k ≡ outcome (reachesEnd (s' .run) c) (overfull s' c)
+    → let s' = leaving (stateOf (runFrom before cs vs) t ws) m i in let c = handling (s' .run) t m in k ≡ outcome (reachesEnd (s' .run) c) (overfull s' c)
 handled-outcome before cs vs t ws m i fits h e x d room k r q =
     let s : State = stateOf (runFrom before cs vs) t ws in
-    let s' : State = leaving s i in
+    let s' : State = leaving s m i in
     let c : Change = handling (s' .run) (s .tally) m in
-    q ∙ ap₂ (λ (y : Head) (n : ℕ). outcome (x .ends) (ltb n (y .held + length (sentFor (y .plan) (y .faulty) m x)))) e (r ∙ sym (room-left s i fits .0))
-    ∙ decided-outcome (s' .run) (s .tally) m x (subst (λ (y : Head). Decides (runFrom y (s .run .clocks) (s .run .views)) (s .tally) m x) e d)
+    q ∙ ap₂ (λ (y : Head) (n : ℕ). outcome (x .ends) (ltb n (y .held + length (sentFor (y .plan) (y .faulty) m x)))) e (r ∙ sym (room-left s m i fits .0))
+    ∙ decided-outcome (s' .run) (s .tally) m x
+    (decides-counted (runFrom (headWithout before i) cs vs) (s' .run .traffic) t m x (subst (λ (y : Head). Decides (runFrom y cs vs) t m x) e d))
     (s' .run .held) (capacity (s' .network))
 
 -- ---- what is named
@@ -117,7 +146,7 @@ module _ (s : State) (m : Message) where
       pub deliver-missing : notHeld s m ≡ true → refused s 13 ≡ applied (Deliver m) s
       deliver-missing e = deliver-rest (refused s 13) (cond-yes (notHeld s m) (refused s 13) (refused s 13) _ e refl)
 
-      pub deliver-held : notHeld s m ≡ false → (i : ℕ) → leaving s i ≡ without s m → handled s m i ≡ applied (Deliver m) s
+      pub deliver-held : notHeld s m ≡ false → (i : ℕ) → leaving s m i ≡ without s m → handled s m i ≡ applied (Deliver m) s
       unfolding delivering
       deliver-held e i w = deliver-rest (handled s m i) (cond-no (notHeld s m) (handled s m i) (refused s 13) _ e
           (ap (λ (x : State). finished s x (handling (x .run) (s .tally) m)) w))
@@ -214,7 +243,7 @@ finish-still s sound =
 -- a message that is not held leaves nothing behind
 pub none-leaves : (s : State) (m : Message) → handled s m (s .run .held) ≡ finished s s (handling (s .run) (s .tally) m)
 none-leaves s m =
-    let w : leaving s (s .run .held) ≡ s = rw (le-ltb (s .run .held) (s .run .held) (le-refl (s .run .held))) refl in
+    let w : leaving s m (s .run .held) ≡ s = rw (le-ltb (s .run .held) (s .run .held) (le-refl (s .run .held))) refl in
     ap (λ (x : State). finished s x (handling (x .run) (s .tally) m)) w
 
 -- ---- checks 1 and 9 of every event

@@ -2,6 +2,7 @@
 pub mod Sending
 pub mod Fitness
 pub mod Moving
+pub mod Counting
 pub mod Posting
 pub mod Entries
 pub mod Arrivals

@@ -3,7 +3,7 @@ use mathlib.Core.Path.{_≡_, refl, sym, ap, ap₂, _∙_, subst}
 use mathlib.Core.Bool.{Bool, true, false, _||_, cond}
 use mathlib.Core.Logic.{_⊎_, inl, inr, _≢_}
 use mathlib.Core.List.{List, _∷_, _++_, append-nil}
-use Prim.Native.Nat.{ℕ, zero, suc, _+_, _*_, _%_, _≤_, _<_}
+use Prim.Native.Nat.{ℕ, zero, suc, _+_, _*_, _/_, _%_, _≤_, _<_}
 use native.Mathlib.Numerals.{add-one}
 use native.Mathlib.Omega.{arith}
 use native.Mathlib.Nat.{zero-mod}
@@ -12,16 +12,18 @@ use lib.ListN.{length, getD, set, drop, replicate, length-append, length-set, le
 use lib.Seq.{drop-length, drop-cons, set-at, getD-set-same, getD-set-other, ext-getD}
 use borrow.Author.Tests.{eq-eqb, ne-eqb, ltb-false}
 use Rattle.base.specs.Choice.{cond-yes, cond-no, or-parts}
-use Rattle.base.specs.Tests.{le?}
+use Rattle.base.specs.Tests.{le?, by-cond}
 use Rattle.base.specs.ScanLaws.{length-listed, getD-listed}
 use Rattle.types.specs.declared.Plan.{Plan}
 use Rattle.types.specs.declared.Run.{Run}
 use Rattle.types.specs.declared.Setup.{Setup}
+use Rattle.types.specs.declared.Traffic.{Traffic}
 use Rattle.types.specs.declared.Sends.{Sends}
 use Rattle.types.specs.declared.Sends.the-variants.{Nothing, ViewAndVote}
 use Rattle.types.specs.Quantities.{networkLeast, networkMost, tableClocks, rowWords, perLeader, initial, correct}
 use Rattle.types.specs.Runs.{head-back}
-use Rattle.model.specs.State.{stateOf, runOf, withHeld, clockOf, viewOf, posted, capacity, refused, done, runFrom, headOf}
+use Rattle.types.specs.Traffic.{noTraffic, trafficSent}
+use Rattle.model.specs.State.{stateOf, runOf, withHeld, withTraffic, clockOf, viewOf, posted, capacity, refused, done, runFrom, headOf}
 use Rattle.model.specs.Moves.{Change, changed, stay, into, made}
 use Rattle.model.specs.Processors.{messagesOf, moving}
 use Rattle.model.specs.Opening.{startClocks, blankRun, blank, firstEntry, opened, opening}
@@ -30,9 +32,10 @@ use Rattle.liveness.proofs.FirstEntries.{Mid, mid-all}
 use Rattle.checks.specs.Setups.{setupCheck}
 use Rattle.checks.proofs.Opens.{Passed, setup-passed, setup-check}
 use Rattle.simulator.specs.declared.Reaction.{Reaction}
-use Rattle.simulator.specs.Inner.{Posts, sentBy, enteredBy}
+use Rattle.simulator.specs.Inner.{Posts, pairs, sentBy, enteredBy}
 use Rattle.simulator.specs.Opening.{firstSends, enteredFirst}
 use Rattle.simulator.specs.Contracts.{Opens}
+use Rattle.simulator.proofs.Counting.{Paired, paired-counted, Initially, paired-entries}
 use Rattle.simulator.proofs.Entries as entered
 use Rattle.simulator.proofs.Fitness.{planned-of}
 use Rattle.simulator.proofs.Ticking.{state-by}
@@ -149,19 +152,28 @@ module _ (u : Setup) (t : List ℕ) where
 pub first-room : (u : Setup) (ws ws' : List ℕ) → networkLeast (u .plan) ≤ length ws → ws' ≡ cleared ws (length ws) → 2 * u .plan .n ≤ capacity ws'
 first-room u ws ws' l e = let h : length ws' ≡ length ws = ap length e ∙ cleared-length ws (length ws) (omega arith) in omega arith
 
+-- view 0 is initial
+first-paired : (u : Setup) (t : List ℕ) (k : ℕ) → Paired (enteredFirst u t k .sent)
+first-paired u t k = paired-entries (firstEntry u) (blankRun u) t k
+    (λ p. by-cond (Initially (u .plan)) (correct (u .plan) (u .faulty) p) (into 0) stay (λ _. zero-initial (u .plan)) (λ _. tt))
+
 -- the first entries, made on the blank tally t₁ and network ws₁, leave clocks and views as they are: the opened state
-pub start-made : (u : Setup) (t ws : List ℕ) → Ready u (length t) (length ws) → (run : Run) (held : ℕ) (t₁ t' ws₁ ws' : List ℕ) → run ≡ blankRun u
+pub start-made : (u : Setup) (t ws : List ℕ) → Ready u (length t) (length ws) → (run : Run) (held : ℕ) (traffic : Traffic) (t₁ t' ws₁ ws' : List ℕ) → run ≡ blankRun u
     → t₁ ≡ cleared t (rowWords * u .plan .views) → ws₁ ≡ cleared ws (length ws)
     → Posts (enteredFirst u t₁ (u .plan .n) .sent) 0 0 ws₁ held ws' × (t' ≡ enteredFirst u t₁ (u .plan .n) .tally)
-    → stateOf (withHeld held run) t' ws' ≡ opened u (stateOf (blankRun u) t ws)
+    → traffic ≡ trafficSent (run .traffic) (pairs (held / 2))
+    → stateOf (withTraffic traffic (withHeld held run)) t' ws' ≡ opened u (stateOf (blankRun u) t ws)
 unfolding opened blank made
-start-made u t ws fit run held t₁ t' ws₁ ws' e a b x =
+start-made u t ws fit run held traffic t₁ t' ws₁ ws' e a b x f =
     let m : Mid u t (fit .ok) (fit .rows) (u .plan .n) (enteredFirst u (cleared t (rowWords * u .plan .views)) (u .plan .n)) =
     mid-all u t (fit .ok) (fit .rows) (u .plan .n) in
     let h : held ≡ 0 + length (enteredFirst u (cleared t (rowWords * u .plan .views)) (u .plan .n) .sent) =
     x .0 .number ∙ ap (λ (y : List ℕ). 0 + length (enteredFirst u y (u .plan .n) .sent)) a in
+    let g : traffic ≡ trafficSent noTraffic (enteredFirst u (cleared t (rowWords * u .plan .views)) (u .plan .n) .sent) =
+    f ∙ ap (λ (y : Run). trafficSent (y .traffic) (pairs (held / 2))) e
+    ∙ paired-counted (enteredFirst u (cleared t (rowWords * u .plan .views)) (u .plan .n) .sent) held (first-paired u (cleared t (rowWords * u .plan .views)) (u .plan .n)) (omega (arith, h)) noTraffic in
     state-by _ _
-    (ap (withHeld held) e ∙ (λ i. runOf (u .plan) (u .faulty) 0 false 0 (h i) (sym (m .clocks-same) i) (sym (m .views-same) i)))
+    (ap (λ (y : Run). withTraffic traffic (withHeld held y)) e ∙ (λ i. runOf (u .plan) (u .faulty) 0 false 0 (h i) (sym (m .clocks-same) i) (sym (m .views-same) i) (g i)))
     (x .1 ∙ ap (λ (y : List ℕ). enteredFirst u y (u .plan .n) .tally) a)
     (x .0 .words ∙ ap₂ (λ (y z : List ℕ). posted z 0 0 (enteredFirst u y (u .plan .n) .sent)) a (b ∙ cleared-all ws))
 

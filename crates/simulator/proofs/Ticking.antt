@@ -2,15 +2,18 @@
 use mathlib.Core.Path.{_≡_, sym, ap, ap₂, _∙_}
 use mathlib.Core.Bool.{false}
 use mathlib.Core.List.{List}
-use Prim.Native.Nat.{ℕ, _+_, _-_, _≤_, _<_}
+use Prim.Native.Nat.{ℕ, _+_, _-_, _/_, _≤_, _<_}
 use native.Mathlib.Omega.{arith}
 use lib.ListN.{length, set}
 use Rattle.types.specs.declared.Run.{Run}
-use Rattle.model.specs.State.{State, stateOf, runOf, withHeld, withTime, withClocks, withViews, clockOf, viewOf, capacity}
-use Rattle.model.specs.Moves.{Entry, clocksOn, advanced, arrival, arrivals, made}
+use Rattle.types.specs.declared.Traffic.{Traffic}
+use Rattle.types.specs.Traffic.{trafficSent}
+use Rattle.model.specs.State.{State, stateOf, runOf, withHeld, withTime, withClocks, withViews, withTraffic, clockOf, viewOf, capacity}
+use Rattle.model.specs.Moves.{changed, Entry, clocksOn, advanced, arrival, arrivals, made}
 use Rattle.model.specs.Processors.{messagesOf}
 use Rattle.simulator.specs.declared.Reaction.{Reaction}
-use Rattle.simulator.specs.Inner.{Posts, sentBy, enteredBy, Arrives, seat, arrivedBelow}
+use Rattle.simulator.specs.Inner.{Posts, pairs, sentBy, enteredBy, Arrives, seat, arrivedBelow}
+use Rattle.simulator.proofs.Counting.{Paired, paired-counted, paired-entries, initially-arrives}
 use Rattle.simulator.proofs.Entries as entered
 use Rattle.simulator.proofs.Entries.{turn, entries-views}
 use Rattle.simulator.proofs.Arrivals.{clocks-ahead, arrived-clocks, same-processor, same-sent, clocks-more}
@@ -63,15 +66,22 @@ module _ (s : State) where
       posts-turn = entered.posts-turn entry (advanced s .run) (s .tally) k x is-processor is-sent (s .run .plan .n) (s .run .held) time held
           (s .network) ws low room posts
 
+  -- who enters in a tick enters an initial view
+  tick-paired : (k : ℕ) → Paired (arrivedBelow s k .sent)
+  tick-paired k = paired-entries entry (advanced s .run) (s .tally) k (initially-arrives (advanced s .run))
+
   -- what the second pass leaves is the tick
-  pub tick-made : s .run .plan .n ≤ length (s .run .clocks) → (next : Run) (held : ℕ) (t ws : List ℕ)
+  pub tick-made : s .run .plan .n ≤ length (s .run .clocks) → (next : Run) (held : ℕ) (traffic : Traffic) (t ws : List ℕ)
       → next ≡ withViews (arrivedBelow s (s .run .plan .n) .views) (withClocks (clocksOn (s .run) (s .run .plan .n)) (s .run))
       → t ≡ arrivedBelow s (s .run .plan .n) .tally
       → Posts (arrivedBelow s (s .run .plan .n) .sent) (s .run .held) (s .run .time + 1) (s .network) held ws
-      → stateOf (withHeld held (withTime (s .run .time + 1) next)) t ws ≡ made (advanced s) (arrivals (advanced s))
+      → traffic ≡ trafficSent (s .run .traffic) (pairs ((held - s .run .held) / 2))
+      → stateOf (withTraffic traffic (withHeld held (withTime (s .run .time + 1) next))) t ws ≡ made (advanced s) (arrivals (advanced s))
   unfolding made arrivals
-  tick-made long next held t ws e f g = state-by _ _
-      (ap (λ (y : Run). withHeld held (withTime (s .run .time + 1) y)) e
-      ∙ ap₂ (λ (h : ℕ) (c : List ℕ). runOf (s .run .plan) (s .run .faulty) (s .run .time + 1) (s .run .settled) (s .run .gst) h c
-      (arrivedBelow s (s .run .plan .n) .views)) (g .number) (sym (arrived-clocks s long (s .run .plan .n) (omega arith))))
+  tick-made long next held traffic t ws e f g h = state-by _ _
+      (ap (λ (y : Run). withTraffic traffic (withHeld held (withTime (s .run .time + 1) y))) e
+      ∙ ap₂ (λ (k : ℕ) (c : List ℕ). runOf (s .run .plan) (s .run .faulty) (s .run .time + 1) (s .run .settled) (s .run .gst) k c
+      (arrivedBelow s (s .run .plan .n) .views) traffic) (g .number) (sym (arrived-clocks s long (s .run .plan .n) (omega arith)))
+      ∙ ap (λ (y : Traffic). withTraffic y (withHeld (s .run .held + length (arrivedBelow s (s .run .plan .n) .sent)) (changed (advanced s .run) (arrivedBelow s (s .run .plan .n)))))
+      (h ∙ paired-counted (arrivedBelow s (s .run .plan .n) .sent) (held - s .run .held) (tick-paired (s .run .plan .n)) (omega (arith, g .number)) (s .run .traffic)))
       f (g .words)

@@ -2,7 +2,7 @@
 use mathlib.Core.Path.{_≡_}
 use mathlib.Core.Bool.{Bool, true, false, _&&_, cond}
 use mathlib.Core.List.{List, [], _∷_}
-use Prim.Native.Nat.{ℕ, _+_, _-_, _*_, _^_, _≤_, _<_}
+use Prim.Native.Nat.{ℕ, zero, suc, _+_, _-_, _*_, _^_, _≤_, _<_}
 use lib.Dec.{ltb}
 use lib.ListN.{length}
 use Rattle.types.specs.declared.Plan.{Plan}
@@ -11,17 +11,19 @@ use Rattle.types.specs.declared.Message.the-variants.{View, Vote, Vc, Qc}
 use Rattle.types.specs.declared.Event.{Event}
 use Rattle.types.specs.declared.Run.{Run}
 use Rattle.types.specs.declared.Head.{Head}
+use Rattle.types.specs.declared.Traffic.{Traffic}
 use Rattle.types.specs.declared.Processor.{Processor}
 use Rattle.types.specs.declared.Input.the-variants.{Tick}
 use Rattle.types.specs.declared.Sends.{Sends}
 use Rattle.types.specs.declared.Sends.the-variants.{Nothing, Vote as VoteFor, ViewAndVote}
 use Rattle.types.specs.Quantities.{nMost, correct}
 use Rattle.base.specs.Scan.{some}
+use Rattle.types.specs.Traffic.{trafficDelivered}
 use Rattle.types.specs.Messages.{viewStage, voteStage, lacksForm}
-use Rattle.model.specs.State.{State, After, stateOf, runFrom, withHeld, clockOf, viewOf, isCorrect, enteredWord, added, posted, capacity, checkOf, refused, done}
+use Rattle.model.specs.State.{State, After, stateOf, runFrom, withHeld, withTraffic, clockOf, viewOf, isCorrect, enteredWord, added, posted, capacity, checkOf, refused, done}
 use Rattle.model.specs.Moves.{Change, toCorrect, movedTo, formedMessages, heardChange, stay, entries, handling, advanced, arrival, arrivals, made}
 use Rattle.model.specs.Checks.{judged, planOutside, faultyOutside, unsound, clockOutside, atEnd, reachesEnd}
-use Rattle.model.specs.Events.{outcomeChecks, namedChecks, tickOnce, Ticks, tickRun, applied}
+use Rattle.model.specs.Events.{outcomeChecks, namedChecks, waitSince, tickOnce, Ticks, tickRun, applied}
 use Rattle.model.specs.Processors.{Moved, messagesOf, moving, movingBy}
 use Rattle.simulator.specs.declared.Reaction.{Reaction}
 use Rattle.simulator.specs.declared.Task.{Task}
@@ -52,6 +54,11 @@ CanEnter plan faulty p x held ws = (0 < plan .n) × (p < 64) × (held + length (
 -- that both are done: how many messages are held then, the network's words and the tally
 abbrev pub Enters : Plan → ℕ → ℕ → Sends → ℕ → ℕ → List ℕ → List ℕ → ℕ → List ℕ → List ℕ → Type 0
 Enters plan faulty p x held time t ws held' t' ws' = Posts (sentBy plan faulty p x) held time ws held' ws' × (t' ≡ enteredBy t p x)
+
+-- so many view messages, and as many votes
+abbrev pub pairs : ℕ → List Message
+pairs zero = []
+pairs (suc k) = View 0 0 ∷ Vote 0 0 ∷ pairs k
 
 -- ---- a reaction
 
@@ -180,14 +187,28 @@ abbrev pub heldWithout : ℕ → ℕ → ℕ
 heldWithout h i = cond (ltb i h) (h - 1) h
 
 abbrev pub headWithout : Head → ℕ → Head
-headWithout x i = record { plan = x .plan; faulty = x .faulty; time = x .time; settled = x .settled; gst = x .gst; held = heldWithout (x .held) i }
+headWithout x i = record {
+  plan = x .plan;
+  faulty = x .faulty;
+  time = x .time;
+  settled = x .settled;
+  gst = x .gst;
+  held = heldWithout (x .held) i;
+  traffic = x .traffic;
+}
 
-abbrev pub leaving : State → ℕ → State
-leaving s i = stateOf (withHeld (heldWithout (s .run .held) i) (s .run)) (s .tally) (taken (s .network) (s .run .held) i)
+-- the sums then: m, which was there, is delivered
+abbrev pub trafficWithout : Traffic → Message → ℕ → ℕ → ℕ → Traffic
+trafficWithout x m wait h i = cond (ltb i h) (trafficDelivered x m wait) x
+
+abbrev pub leaving : State → Message → ℕ → State
+leaving s m i =
+    let x = trafficWithout (s .run .traffic) m (waitSince (s .run .time) (s .network) i) (s .run .held) i in
+    stateOf (withTraffic x (withHeld (heldWithout (s .run .held) i) (s .run))) (s .tally) (taken (s .network) (s .run .held) i)
 
 -- m, held at place i or not held, is handled
 abbrev pub handled : State → Message → ℕ → After
-handled s m i = finished s (leaving s i) (handling (leaving s i .run) (s .tally) m)
+handled s m i = finished s (leaving s m i) (handling (leaving s m i .run) (s .tally) m)
 
 -- what it needs: a run that check 9 passed, names within their limits, and, of a certificate, a correct receiver
 pub record CanHandle (s : State) (m : Message) : Type 0 where

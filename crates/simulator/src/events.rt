@@ -11,9 +11,10 @@ use types::Message;
 use types::Plan;
 use types::Processor;
 use types::Sends;
+use types::Traffic;
 ghost use mathlib.Core.Path.{_≡_};
 ghost use mathlib.Core.Bool.{false, cond};
-ghost use Prim.Native.Nat.{ℕ, _+_, _^_, _<_, _≤_};
+ghost use Prim.Native.Nat.{ℕ, _+_, _-_, _^_, _<_, _≤_};
 ghost use lib.Dec.{ltb};
 ghost use mathlib.Core.List.{List};
 ghost use lib.ListN.{length, getD};
@@ -22,7 +23,8 @@ ghost use Rattle.types.specs.Messages.{viewIn, processorIn, stageOf};
 ghost use Rattle.model.specs.State.{stateOf, runFrom, leftBehind, capacity};
 ghost use Rattle.model.specs.Moves.{ripe, made, formedMessages, heardChange};
 ghost use Rattle.model.specs.Checks.{planOutside, faultyOutside};
-ghost use Rattle.simulator.specs.Inner.{Fit, Decides, ReachesCorrect, seat, namedCheck, CanEnter, movedChange, changeBy, sentFor, headWithout, CanHandle, handled};
+ghost use Rattle.model.specs.Events.{waitSince};
+ghost use Rattle.simulator.specs.Inner.{Fit, Decides, ReachesCorrect, seat, namedCheck, CanEnter, movedChange, changeBy, sentFor, headWithout, trafficWithout, CanHandle, handled};
 
 // A refusal: the check's number alone.
 pub(crate) fn refuse(head: Head, check: u64) -> AppliedHead
@@ -140,20 +142,24 @@ fn listen(
         ≡ made (stateOf (runFrom head c v) (now (tally .entry)) (now (network .entry)))
         (heardChange (stageOf message) (runFrom head c v) (now (tally .entry)) (viewIn message) (processorIn message) formed)) ⌝ }
 {
+    let stage = message.stage();
+    let w = message.view();
     let held = moves::hear(
         tally,
         network,
         head.held,
         head.plan,
         head.faulty,
-        message.stage(),
-        message.view(),
+        stage,
+        w,
         message.processor(),
         formed,
         head.time,
     );
+    let traffic = moves::note_formed(head.traffic, stage, w, held - head.held);
     let mut next = head;
     next.held = held;
+    next.traffic = traffic;
     next
 }
 
@@ -173,11 +179,13 @@ fn move_on(
 {
     let i = p as usize;
     let sends = x.sends;
+    // Copied out, since what is lent to a function is put into memory, the whole head with its plan.
+    let plan = head.plan;
     let held = moves::enter(
         tally,
         network,
         head.held,
-        head.plan,
+        plan,
         head.faulty,
         p,
         sends,
@@ -185,8 +193,10 @@ fn move_on(
     );
     clocks[i] = x.processor.clock;
     views[i] = x.processor.view;
+    let traffic = moves::note_entry(head.traffic, p, sends, held - head.held);
     let mut next = head;
     next.held = held;
+    next.traffic = traffic;
     next
 }
 
@@ -224,6 +234,16 @@ fn outcome_check(head: Head, message: Message, x: Reaction, room: usize) -> u64
     0
 }
 
+// For how long a message was in flight.
+fn wait_since(sent: u64, time: u64) -> u64
+    ensures { λ r. ⌜ r ≡ time - sent ⌝ }
+{
+    if time < sent {
+        return 0;
+    }
+    time - sent
+}
+
 // The head without the message at a place, if one is held there.
 fn head_without(head: Head, place: usize) -> Head
     ensures { λ r. ⌜ r ≡ headWithout head place ⌝ }
@@ -234,6 +254,20 @@ fn head_without(head: Head, place: usize) -> Head
     let mut next = head;
     next.held = head.held - 1;
     next
+}
+
+// The sums with the message, which is delivered if it is held at the place named.
+fn note_delivery(head: Head, message: Message, place: usize, network: &[u64]) -> Traffic
+    ensures { λ r. ⌜ r ≡ trafficWithout (head .traffic) message (waitSince (head .time) (now (network .entry)) place) (head .held) place ⌝ }
+{
+    if head.held <= place {
+        return head.traffic;
+    }
+    sums::deliver(
+        head.traffic,
+        message,
+        wait_since(buffers::sent(network, place), head.time),
+    )
 }
 
 // A message whose input no check refuses is handled: what it makes of whom it reaches is decided; then 17 and 18 are judged; then it leaves
@@ -251,12 +285,14 @@ pub(crate) fn handle(
     ensures { λ r. ⌜ leftBehind r (now (clocks .exit)) (now (views .exit)) (now (tally .exit)) (now (network .exit))
         ≡ handled (stateOf (runFrom head (now (clocks .entry)) (now (views .entry))) (now (tally .entry)) (now (network .entry))) message place ⌝ }
 {
-    let next = head_without(head, place);
+    let mut next = head_without(head, place);
     let x = decide(next, message, clocks, views, tally);
     let check = outcome_check(next, message, x, buffers::capacity(network));
     if 0 < check {
         return refuse(head, check);
     }
+    let traffic = note_delivery(head, message, place, network);
+    next.traffic = traffic;
     buffers::remove(network, head.held, place);
     done(perform(next, message, x, clocks, views, tally, network))
 }

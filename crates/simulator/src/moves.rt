@@ -3,17 +3,19 @@
 use types::Message;
 use types::Plan;
 use types::Sends;
+use types::Traffic;
 ghost use mathlib.Core.Path.{_≡_};
 ghost use mathlib.Core.List.{[], _∷_};
 ghost use mathlib.Core.Bool.{true, cond};
-ghost use Prim.Native.Nat.{_+_, _-_, _<_, _≤_};
-ghost use lib.ListN.{length};
+ghost use Prim.Native.Nat.{ℕ, _+_, _-_, _/_, _<_, _≤_};
+ghost use lib.ListN.{length, replicate};
 ghost use Rattle.base.specs.Sets.{size};
 ghost use Rattle.types.specs.Quantities.{lead, correct};
 ghost use Rattle.types.specs.Messages.{addressee};
+ghost use Rattle.types.specs.Traffic.{trafficSent};
 ghost use Rattle.model.specs.State.{capacity};
 ghost use Rattle.model.specs.Moves.{toCorrect, needed, ripe, certificate, toEach, heardTally, formedMessages};
-ghost use Rattle.simulator.specs.Inner.{Posts, sentBy, CanEnter, Enters};
+ghost use Rattle.simulator.specs.Inner.{Posts, sentBy, CanEnter, Enters, pairs};
 
 // The one way by which a message goes into the network: to a correct processor, behind the held ones. Answers how many are held then.
 pub(crate) fn send(
@@ -235,6 +237,36 @@ pub(crate) fn hear(
         return broadcast(network, held, plan, faulty, stage, w, time);
     }
     held
+}
+
+// The sums with a certificate of which so many copies were posted.
+pub(crate) fn note_formed(traffic: Traffic, stage: bool, w: u64, posted: usize) -> Traffic
+    ensures { λ r. ⌜ r ≡ trafficSent traffic (replicate posted (certificate stage w 0)) ⌝ }
+{
+    sums::send(traffic, certificate_of(stage, w, 0), posted as u64)
+}
+
+// The sums with entries into initial views that posted so many messages: as many view messages as votes.
+pub(crate) fn note_pairs(traffic: Traffic, posted: usize) -> Traffic
+    ensures { λ r. ⌜ r ≡ trafficSent traffic (pairs (posted / 2)) ⌝ }
+{
+    let k = posted as u64 / 2;
+    sums::send(
+        sums::send(traffic, Message::View(0, 0), k),
+        Message::Vote(0, 0),
+        k,
+    )
+}
+
+// The sums with what processor p sends in one move, of which so many messages were posted.
+pub(crate) fn note_entry(traffic: Traffic, p: u64, sends: Sends, posted: usize) -> Traffic
+    ensures { λ r. ⌜ ((plan : Plan) (faulty : ℕ) → posted ≡ length (sentBy plan faulty p sends) → r ≡ trafficSent traffic (sentBy plan faulty p sends)) ⌝ }
+{
+    match sends {
+        Sends::Nothing => traffic,
+        Sends::Vote(w) => sums::send(traffic, Message::Vote(w, p), posted as u64),
+        Sends::ViewAndVote(_) => note_pairs(traffic, posted),
+    }
 }
 
 // How many messages go out with a certificate that is formed or not.

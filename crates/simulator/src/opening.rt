@@ -4,6 +4,7 @@ use types::Plan;
 use types::Run;
 use types::Sends;
 use types::Setup;
+use types::Traffic;
 ghost use mathlib.Core.Path.{_≡_};
 ghost use mathlib.Core.Bool.{cond};
 ghost use mathlib.Core.List.{_++_};
@@ -62,6 +63,7 @@ fn blank(setup: Setup) -> Run
         held: 0,
         clocks: clocks,
         views: [0; 64],
+        traffic: Traffic::none(),
     }
 }
 
@@ -101,6 +103,8 @@ pub(crate) fn start(setup: Setup, tally: &mut [u64], network: &mut [u64]) -> Run
     zero(network, network.len());
     let mut run = blank(setup);
     let held = enter_all(setup, tally, network);
+    let traffic = moves::note_pairs(run.traffic, held);
     run.held = held;
+    run.traffic = traffic;
     run
 }

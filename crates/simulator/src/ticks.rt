@@ -182,9 +182,11 @@ fn arrive_all(
         held = moves::enter_by_tick(tally, network, held, head.plan, head.faulty, q, sends, time);
         q += 1;
     }
+    let traffic = moves::note_pairs(head.traffic, held - head.held);
     let mut next = head;
     next.time = time;
     next.held = held;
+    next.traffic = traffic;
     next
 }
 

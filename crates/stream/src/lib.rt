@@ -1,12 +1,16 @@
-// The simulate program between two open files. What is read and what is printed are the driver's; here bytes are moved.
+// The simulate program and the traffic program between two open files. What is read and what is printed are the driver's; here bytes are moved, and a
+// report is printed.
 use lines::Written;
 use printout::Session;
 ghost use mathlib.Core.Path.{_≡_};
+ghost use mathlib.Core.Bool.{cond};
 ghost use Prim.Native.Nat.{_+_, _-_, _≤_};
 ghost use lib.ListN.{length, take, drop, replicate};
-ghost use Rattle.lines.specs.Printout.{printedMost};
+ghost use Rattle.lines.specs.Contracts.{Prints};
+ghost use Rattle.lines.specs.Printout.{printedMost, totalsMost};
 ghost use lib.Seq.{paste};
 ghost use Rattle.printout.specs.Printout.{standingOf, tallyLent, networkLent};
+ghost use Rattle.printout.specs.Traffic.{reportText};
 ghost use Rattle.stream.specs.Threads.{Threads, Reaches};
 
 // The session, whether bytes of a line that is too long were passed over, and a number of bytes: used, or left unused at the start of the window.
@@ -30,7 +34,17 @@ fn keep(window: &mut [u8], used: usize, filled: usize) -> usize
     unused
 }
 
-// Every line that ends within the bytes is answered, and the answers written.
+// How many of the printed bytes are written: where there is to be a report, none.
+fn shown(reporting: bool, printed: usize) -> usize
+    ensures { λ r. ⌜ (r ≡ cond reporting 0 printed) × (r ≤ printed) ⌝ }
+{
+    if reporting {
+        return 0;
+    }
+    printed
+}
+
+// Every line that ends within the bytes is answered, and the answers written, unless there is to be a report.
 fn answer_all(
     session: Session,
     late: bool,
@@ -39,6 +53,7 @@ fn answer_all(
     network: &mut [u64],
     out: &mut [u8],
     to: i32,
+    reporting: bool,
 ) -> Progress
     ensures { λ r. ⌜ Threads (standingOf session (now (tally .entry)) (now (network .entry))) late (now (bytes .entry)) (now (out .entry))
         (now (tally .exit)) (now (network .exit)) r ⌝ }
@@ -48,7 +63,7 @@ fn answer_all(
     let mut used = 0;
     while used < bytes.len() {
         let served = driver::answer_lines(state, passed, &bytes[used..], tally, network, out);
-        let printed = served.printed;
+        let printed = shown(reporting, served.printed);
         io::write_all(to, &out[..printed]);
         state = served.session;
         passed = served.late;
@@ -86,6 +101,7 @@ fn answer_input(
     network: &mut [u64],
     window: &mut [u8],
     out: &mut [u8],
+    reporting: bool,
 ) -> Progress
     requires { ⌜ (now tally ≡ replicate tallyLent 0) × (now network ≡ replicate networkLent 0) × (printedMost ≤ length (now out)) ⌝ }
     ensures { λ r. ⌜ Reaches (now (tally .exit)) (now (network .exit)) (now (window .exit)) r ⌝ }
@@ -105,7 +121,16 @@ fn answer_input(
             };
         }
         let filled = unused + got;
-        let answered = answer_all(session, late, &window[..filled], tally, network, out, to);
+        let answered = answer_all(
+            session,
+            late,
+            &window[..filled],
+            tally,
+            network,
+            out,
+            to,
+            reporting,
+        );
         session = answered.session;
         late = answered.late;
         unused = keep(window, answered.bytes, filled);
@@ -117,10 +142,9 @@ fn answer_input(
     }
 }
 
-// What comes at the end is written.
-fn close_input(session: Session, late: bool, rest: &[u8], out: &mut [u8], to: i32) {
-    let end = driver::finish(session, late, rest, out);
-    let Written::Bytes(printed) = end else {
+// A text that was printed at the start of the bytes is written.
+fn write_text(text: Written, out: &[u8], to: i32) {
+    let Written::Bytes(printed) = text else {
         return;
     };
     if printed <= out.len() {
@@ -128,14 +152,65 @@ fn close_input(session: Session, late: bool, rest: &[u8], out: &mut [u8], to: i3
     }
 }
 
-// Reads a schedule to its end and writes its printout.
-pub fn run(from: i32, to: i32) {
+// What comes at the end is written.
+fn close_input(session: Session, late: bool, rest: &[u8], out: &mut [u8], to: i32) {
+    let end = driver::finish(session, late, rest, out);
+    write_text(end, out, to);
+}
+
+// The report of the run that is open; nothing where none is.
+fn print_report(session: Session, tally: &[u64], network: &[u64], out: &mut [u8]) -> Written
+    ensures { λ r. ⌜ Prints totalsMost (reportText (standingOf session (now (tally .entry)) (now (network .entry)))) (now (out .entry)) r (now (out .exit)) ⌝ }
+{
+    if session.opened {
+        let run = session.run;
+        let clocks = run.clocks;
+        let views = run.views;
+        let totals = sums::totals(types::head_of(run), &clocks, &views, tally, network);
+        return writer::write_totals(totals, out);
+    }
+    if out.len() < writer::TOTALS_MOST {
+        return Written::Refused(1);
+    }
+    Written::Bytes(0)
+}
+
+// The report is written.
+fn report_input(session: Session, tally: &[u64], network: &[u64], out: &mut [u8], to: i32) {
+    let text = print_report(session, tally, network, out);
+    write_text(text, out, to);
+}
+
+// Reads a schedule to its end, and writes its printout or the report of its traffic.
+fn serve(from: i32, to: i32, reporting: bool) {
     let mut tally = [0u64; printout::TALLY_LENT];
     let mut network = [0u64; printout::NETWORK_LENT];
     let mut window = io::large_buffer();
     let mut out = io::large_buffer();
-    let answered = answer_input(from, to, &mut tally, &mut network, &mut window, &mut out);
+    let answered = answer_input(
+        from,
+        to,
+        &mut tally,
+        &mut network,
+        &mut window,
+        &mut out,
+        reporting,
+    );
     let session = answered.session;
+    if reporting {
+        report_input(session, &tally, &network, &mut out, to);
+        return;
+    }
     let unused = answered.bytes;
     close_input(session, answered.late, &window[..unused], &mut out, to);
+}
+
+// Reads a schedule to its end and writes its printout.
+pub fn run(from: i32, to: i32) {
+    serve(from, to, false);
+}
+
+// Reads a schedule to its end and writes the report of the run that is then open.
+pub fn report(from: i32, to: i32) {
+    serve(from, to, true);
 }

@@ -2,4 +2,6 @@
 pub mod Quantities
 pub mod Messages
 pub mod PlanFunctions
+pub mod Traffic
+pub mod TrafficLaws
 pub mod Runs

@@ -27,10 +27,11 @@ runFrom h clocks views = record {
   held = h .held;
   clocks = clocks;
   views = views;
+  traffic = h .traffic;
 }
 
 abbrev pub headOf : Run → Head
-headOf r = record { plan = r .plan; faulty = r .faulty; time = r .time; settled = settledAs (r .settled); gst = r .gst; held = r .held }
+headOf r = record { plan = r .plan; faulty = r .faulty; time = r .time; settled = settledAs (r .settled); gst = r .gst; held = r .held; traffic = r .traffic }
 
 pub settled-back : (b : Bool) → isSettled (settledAs b) ≡ b
 settled-back true = refl
@@ -47,6 +48,7 @@ head-back r = ap (λ (b : Bool). record {
   held = r .held;
   clocks = r .clocks;
   views = r .views;
+  traffic = r .traffic;
 }) (settled-back (r .settled))
 
 abbrev pub setupWith : Plan → ℕ → List ℕ → Setup

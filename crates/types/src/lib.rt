@@ -2,6 +2,7 @@
 ghost use mathlib.Core.Path.{_≡_};
 ghost use Rattle.types.specs.Quantities.{tolerated, perLeader, turnStart, initial, correct};
 ghost use Rattle.types.specs.Messages.{kindOf, viewIn, processorIn, stageOf, isSignature, lacksForm};
+ghost use Rattle.types.specs.Traffic.{noCounts, noTraffic};
 ghost use Rattle.types.specs.Runs.{settledAs, runFrom, headOf};
 ghost use Rattle.types.specs.PlanFunctions.{leadWord, nextInitialWord, clockTimeWord, addresseeWord};
 
@@ -239,6 +240,55 @@ pub struct Setup {
     pub clocks: [u64; 64],
 }
 
+// So many messages of each kind.
+pub struct Counts {
+    pub views: u64,
+    pub votes: u64,
+    pub vcs: u64,
+    pub qcs: u64,
+}
+
+impl Counts {
+    // No message of any kind.
+    pub fn none() -> Counts
+        ensures { λ r. ⌜ r ≡ noCounts ⌝ }
+    {
+        Counts {
+            views: 0,
+            votes: 0,
+            vcs: 0,
+            qcs: 0,
+        }
+    }
+}
+
+// What was sent and what was delivered since the opening, and the sum of the times that the delivered ones were in flight; all modulo 2^64.
+pub struct Traffic {
+    pub sent: Counts,
+    pub delivered: Counts,
+    pub waits: u64,
+}
+
+impl Traffic {
+    // Nothing was sent yet.
+    pub fn none() -> Traffic
+        ensures { λ r. ⌜ r ≡ noTraffic ⌝ }
+    {
+        Traffic {
+            sent: Counts::none(),
+            delivered: Counts::none(),
+            waits: 0,
+        }
+    }
+}
+
+// A run's traffic, and the messages in flight; or the check that refuses to tell it.
+pub struct Totals {
+    pub check: u64,
+    pub traffic: Traffic,
+    pub held: Counts,
+}
+
 // The execution so far, without the lent buffers.
 pub struct Run {
     pub plan: Plan,
@@ -249,6 +299,7 @@ pub struct Run {
     pub held: usize,
     pub clocks: [u64; 64],
     pub views: [u64; 64],
+    pub traffic: Traffic,
 }
 
 // The execution so far but for its two tables, which are lent beside it: so nothing large is handed from function to function.
@@ -260,6 +311,7 @@ pub struct Head {
     pub settled: u64,
     pub gst: u64,
     pub held: usize,
+    pub traffic: Traffic,
 }
 
 // The number that says whether the network has settled.
@@ -277,6 +329,7 @@ pub fn head_of(run: Run) -> Head
     ensures { λ r. ⌜ r ≡ headOf run ⌝ }
 {
     let plan = run.plan;
+    let traffic = run.traffic;
     Head {
         plan: plan,
         faulty: run.faulty,
@@ -284,6 +337,7 @@ pub fn head_of(run: Run) -> Head
         settled: settled_as(run.settled),
         gst: run.gst,
         held: run.held,
+        traffic: traffic,
     }
 }
 
@@ -294,6 +348,7 @@ pub fn gather(head: Head, clocks: &[u64; 64], views: &[u64; 64]) -> Run
     let own_clocks = *clocks;
     let own_views = *views;
     let plan = head.plan;
+    let traffic = head.traffic;
     Run {
         plan: plan,
         faulty: head.faulty,
@@ -303,6 +358,7 @@ pub fn gather(head: Head, clocks: &[u64; 64], views: &[u64; 64]) -> Run
         held: head.held,
         clocks: own_clocks,
         views: own_views,
+        traffic: traffic,
     }
 }
 

@@ -1,5 +1,6 @@
 -- What is promised of loads, of their definitions alone: a reader accepts every line, and stands in the end where the load does; how they end; and
 -- that pieces of a load are the load. proofs/Promises.antt has a proof of each, under its name in small letters with hyphens.
+pub use Rattle.printout.specs.Printout.{standingAfter}
 use mathlib.Core.Path.{_≡_}
 use mathlib.Core.Bool.{true, false}
 use mathlib.Core.Logic.{_⊎_, _≢_}
@@ -31,11 +32,6 @@ use Rattle.loads.specs.Loads.{Point, pointOf, refusedOverdue, Load, halted, fol
 abbrev pub AllAccepted : Standing → List Cut → Type 0
 AllAccepted x [] = Unit {0}
 AllAccepted x (c ∷ cs) = let r = reply (cutRead reading c) x in (lineAccepted (r .answer) ≡ true) × AllAccepted (r .standing) cs
-
--- where they lead
-abbrev pub standingAfter : Standing → List Cut → Standing
-standingAfter x [] = x
-standingAfter x (c ∷ cs) = standingAfter (reply (cutRead reading c) x .standing) cs
 
 -- what holds of a load's lines, and where it leads, for a reader with whatever run, and with buffers as long as those that the load was made with
 abbrev pub OfLoads : (Standing → Load → Type 0) → Type 0

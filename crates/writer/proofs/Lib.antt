@@ -5,3 +5,4 @@ pub mod Lengths
 pub mod Writing
 pub mod Spacing
 pub mod Clocks
+pub mod Reporting

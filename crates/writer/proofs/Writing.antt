@@ -45,7 +45,7 @@ form-room {d} {form} e h = room-first form (newline ∷ []) (line-room form e h)
 pub newline-room : {d e form : List ℕ} {a k : ℕ} → Stamped d 0 form a e → k ≡ length form → k + 1 ≤ length d → Room e a (newline ∷ [])
 newline-room {d} {e} {form} s q h = room-second (newline ∷ []) s (line-room form q h)
 
-stamp-front : (d w : List ℕ) → stamp d 0 w ≡ w ++ drop (length w) d
+pub stamp-front : (d w : List ℕ) → stamp d 0 w ≡ w ++ drop (length w) d
 unfolding stamp
 stamp-front d w = rw zero-add
 

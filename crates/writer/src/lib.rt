@@ -1,15 +1,17 @@
-// Writing one line of a schedule or of its printout into lent bytes: a form and a newline.
+// Writing one line of a schedule or of its printout into lent bytes: a form and a newline. And a report of the traffic, which has several.
 mod answers;
 mod events;
 mod numbers;
 mod pieces;
 mod setups;
+mod totals;
 
 use lines::Written;
 use types::Answer;
 use types::Event;
 use types::Plan;
 use types::Setup;
+use types::Totals;
 ghost use mathlib.Core.Path.{_≡_};
 ghost use mathlib.Core.Bool.{false};
 ghost use Prim.Native.Nat.{_≤_, _<_};
@@ -17,9 +19,12 @@ ghost use lib.ListN.{length};
 ghost use Rattle.types.specs.Quantities.{nMost};
 ghost use Rattle.types.specs.Messages.{lacksForm};
 ghost use Rattle.lines.specs.Forms.{eventForm, setupForm, lacksSetupForm};
-ghost use Rattle.lines.specs.Printout.{answerForm, processorForm};
-ghost use Rattle.lines.specs.Contracts.{line, Writes};
+ghost use Rattle.lines.specs.Printout.{answerForm, processorForm, totalsText, totalsMost};
+ghost use Rattle.lines.specs.Contracts.{line, Writes, Prints};
 ghost use Rattle.types.specs.Runs.{setupWith};
+
+// The most bytes of a report.
+pub const TOTALS_MOST: usize = 468;
 
 // The line of an event.
 pub fn write_event(event: Event, out: &mut [u8]) -> Written
@@ -98,4 +103,18 @@ pub fn write_processor(number: u64, view: u64, clock: u64, out: &mut [u8]) -> Wr
 {
     let numbers = [number, view, clock];
     answers::write_numbers(b"cabinet", &numbers, out)
+}
+
+// The report of a run's traffic, or the line of the check that refuses it.
+pub fn write_totals(totals: Totals, out: &mut [u8]) -> Written
+    ensures { λ r. ⌜ Prints totalsMost (totalsText totals) (now (out .entry)) r (now (out .exit)) ⌝ }
+{
+    if out.len() < TOTALS_MOST {
+        return Written::Refused(1);
+    }
+    if totals.check == 0 {
+        let traffic = totals.traffic;
+        return Written::Bytes(totals::put_traffic(out, traffic, totals.held));
+    }
+    answers::write_refused(totals.check, out)
 }

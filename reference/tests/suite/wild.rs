@@ -3,6 +3,7 @@
 
 use crate::common::{setup, Draws, World, USUAL};
 use reference::{apply_sound, step, Answer, Event, Input, Message, Plan, Processor, Run, Stepped};
+use reference::{traffic, Sums};
 
 /// Check 9's sentence, each part as written, over wide numbers.
 fn unsound_as_written(world: &World) -> bool {
@@ -75,6 +76,12 @@ fn sound(draws: &mut Draws) -> World {
     if draws.below(2) == 0 {
         world.must(Event::Settle);
     }
+    // No check looks at the sums.
+    world.run.sums = Sums {
+        sent: [0; 4].map(|_: u64| edge(draws)),
+        delivered: [0; 4].map(|_: u64| edge(draws)),
+        waits: edge(draws),
+    };
     assert!(world.is_sound() && !unsound_as_written(&world));
     world
 }
@@ -142,6 +149,15 @@ fn soundness_is_its_sentence_and_apply_is_total() {
 
 /// Applies an event both ways to a run, sound or not.
 fn one_event(before: World, event: Event, is_sound: bool) {
+    let report = traffic(&before.run, &before.tally, &before.network);
+    assert_eq!(
+        report.map(|report| report.sums),
+        if is_sound {
+            Ok(before.run.sums)
+        } else {
+            Err(9)
+        }
+    );
     let mut world = before.clone();
     let answer = world.apply(event);
     if let Answer::Refused(check) = answer {

@@ -37,7 +37,7 @@ generate-requires : tie.Need-generate-requires
 generate-requires c κs = search needs
 
 put-load-requires : tie.Need-put-load-requires
-put-load-requires c κs = search needs
+put-load-requires c κs = (c .before .before .before .before .before .before .before .before .before .before .before .before .before .before .before .before .before .before .before .if2 .left, c .before .before .before .before .before .before .before .before .before .before .before .before .before .before .before .before .before .before .if3 .left)
 
 same-length : tie.Need-same-length
 same-length c = search needs

@@ -59,7 +59,7 @@ wrapping-add-u64-requires : tie.Need-wrapping-add-u64-requires Inv-loop μ-loop
 wrapping-add-u64-requires c κs = search needs
 
 returns : tie.Need-returns Inv-loop μ-loop
-returns c = let e : c .before .before .loop .q ≡ min (c .before .before .before .before .args .head .plan .n) nMost = omega (arith, c .before .before .before .least .ensures) in λ views. ap₂ (λ (t : ℕ) (l : List ℕ). runOf (c .before .before .before .before .args .head .plan) (c .before .before .before .before .args .head .faulty) t (isSettled (c .before .before .before .before .args .head .settled)) (c .before .before .before .before .args .head .gst) (c .before .before .before .before .args .head .held) l views) (c .wrapping-add-u64 .ensures) (c .before .before .loop .inv .1 ∙ ap (clocksBy (moreWord (c .before .before .before .before .args .count)) (c .before .before .before .before .args .head .plan) (c .before .before .before .before .args .head .faulty) (c .before .before .before .before .args .clocks .now)) e)
+returns c = let e : c .before .before .loop .q ≡ min (c .before .before .before .before .args .head .plan .n) nMost = omega (arith, c .before .before .before .least .ensures) in λ views. ap₂ (λ (t : ℕ) (l : List ℕ). runOf (c .before .before .before .before .args .head .plan) (c .before .before .before .before .args .head .faulty) t (isSettled (c .before .before .before .before .args .head .settled)) (c .before .before .before .before .args .head .gst) (c .before .before .before .before .args .head .held) l views (c .before .before .before .before .args .head .traffic)) (c .wrapping-add-u64 .ensures) (c .before .before .loop .inv .1 ∙ ap (clocksBy (moreWord (c .before .before .before .before .args .count)) (c .before .before .before .before .args .head .plan) (c .before .before .before .before .args .head .faulty) (c .before .before .before .before .args .clocks .now)) e)
 
 pub leap-spec : {M : Type 1} → statement M
 leap-spec =

@@ -15,10 +15,10 @@ use Rattle.stream.proofs.keep.Reads as keep-reads
 use Rattle.stream.proofs.read_behind.Reads as read-behind-reads
 
 abbrev Inv-loop : tie.InvT-loop
-Inv-loop from to tally₀ network₀ window₀ out₀ session₀ late₀ unused₀ turns₀ tally network window out session late unused turns = Reaches tally network window (record { session = session; late = late; bytes = unused }) × (length tally ≡ length tally₀) × (length network ≡ length network₀) × (length window ≡ length window₀) × (length out ≡ length out₀)
+Inv-loop from to tally₀ network₀ window₀ out₀ reporting session₀ late₀ unused₀ turns₀ tally network window out session late unused turns = Reaches tally network window (record { session = session; late = late; bytes = unused }) × (length tally ≡ length tally₀) × (length network ≡ length network₀) × (length window ≡ length window₀) × (length out ≡ length out₀)
 
 abbrev μ-loop : tie.MeasureT-loop
-μ-loop from to tally₀ network₀ window₀ out₀ session₀ late₀ unused₀ turns₀ tally network window out session late unused turns = turns
+μ-loop from to tally₀ network₀ window₀ out₀ reporting session₀ late₀ unused₀ turns₀ tally network window out session late unused turns = turns
 
 unopened-requires : tie.Need-unopened-requires Inv-loop μ-loop
 unopened-requires c κs = search needs

@@ -1,6 +1,6 @@
-use mathlib.Core.Path.{refl}
-use borrow.Author.Tests.{le-ltb, lt-ltb}
 use borrow.Author.Needs.{needs}
+use borrow.Author.Tests.{le-ltb, lt-ltb}
+use mathlib.Core.Path.{refl}
 use Rattle.simulator.proofs.events.head_without.Statement.{statement}
 use Rattle.simulator.proofs.events.head_without.Tie as tie
 use Rattle.simulator.proofs.events.head_without.Reads as reads

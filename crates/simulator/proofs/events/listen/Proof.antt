@@ -1,13 +1,17 @@
-use Rattle.simulator.proofs.Deciding.{made-by}
-use Rattle.model.specs.Moves.{heardChange}
-use Rattle.model.specs.State.{stateOf, runFrom}
-use mathlib.Core.Path.{sym}
+use Prim.Native.Nat.{_-_}
 use borrow.Author.Needs.{needs}
+use mathlib.Core.Path.{sym, _∙_}
+use native.Mathlib.Omega.{arith}
+use Rattle.model.specs.State.{stateOf, runFrom}
+use Rattle.model.specs.Moves.{heardChange}
+use Rattle.simulator.proofs.Deciding.{made-by}
+use Rattle.simulator.proofs.Counting.{formed-counted}
 use Rattle.simulator.proofs.events.listen.Statement.{statement}
 use Rattle.simulator.proofs.events.listen.Tie as tie
 use Rattle.simulator.proofs.events.listen.Reads as reads
 use Rattle.simulator.proofs.events.listen.Lts as lts
 use Rattle.simulator.proofs.moves.hear.Reads as hear-reads
+use Rattle.simulator.proofs.moves.note_formed.Reads as note-formed-reads
 use Rattle.types.proofs.Message.processor.Reads as processor-reads
 use Rattle.types.proofs.Message.stage.Reads as stage-reads
 use Rattle.types.proofs.Message.view.Reads as view-reads
@@ -22,7 +26,13 @@ processor-requires : tie.Need-processor-requires
 processor-requires c κs = search needs
 
 hear-requires : tie.Need-hear-requires
-hear-requires c κs = rw (c .before .before .stage .ensures, c .before .view .ensures, c .processor .ensures) (c .before .before .before .before .before .before .before .pre)
+hear-requires c κs = rw (c .before .before .before .before .stage .ensures, c .before .before .before .view .ensures, c .processor .ensures) (c .before .before .before .before .before .before .before .pre)
+
+sub-note-formed : tie.Need-sub-note-formed
+sub-note-formed c = search needs
+
+note-formed-requires : tie.Need-note-formed-requires
+note-formed-requires c κs = search needs
 
 same-length : tie.Need-same-length
 same-length c = search needs
@@ -32,8 +42,9 @@ same-length-2 c = search needs
 
 returns : tie.Need-returns
 returns c = λ cs vs.
-    rw (sym (c .before .before .before .before .before .before .before .stage .ensures), sym (c .before .before .before .before .before .before .view .ensures), sym (c .before .before .before .before .before .processor .ensures))
-    (made-by (stateOf (runFrom (c .before .before .before .before .before .before .before .before .before .before .before .before .args .head) cs vs) (c .before .before .before .before .before .before .before .before .before .before .before .before .args .tally .now) (c .before .before .before .before .before .before .before .before .before .before .before .before .args .network .now)) (heardChange (c .before .before .before .before .before .before .before .stage .result) (runFrom (c .before .before .before .before .before .before .before .before .before .before .before .before .args .head) cs vs) (c .before .before .before .before .before .before .before .before .before .before .before .before .args .tally .now) (c .before .before .before .before .before .before .view .result) (c .before .before .before .before .before .processor .result) (c .before .before .before .before .before .before .before .before .before .before .before .before .args .formed)) _ _ _ (c .before .before .before .before .hear .ensures .0) (c .before .before .before .before .hear .ensures .1))
+    rw (sym (c .before .before .before .before .before .before .before .before .before .before .before .stage .ensures), sym (c .before .before .before .before .before .before .before .before .before .before .view .ensures), sym (c .before .before .before .before .before .before .before .processor .ensures))
+    (made-by (stateOf (runFrom (c .before .before .before .before .before .before .before .before .before .before .before .before .before .before .args .head) cs vs) (c .before .before .before .before .before .before .before .before .before .before .before .before .before .before .args .tally .now) (c .before .before .before .before .before .before .before .before .before .before .before .before .before .before .args .network .now)) (heardChange (c .before .before .before .before .before .before .before .before .before .before .before .stage .result) (runFrom (c .before .before .before .before .before .before .before .before .before .before .before .before .before .before .args .head) cs vs) (c .before .before .before .before .before .before .before .before .before .before .before .before .before .before .args .tally .now) (c .before .before .before .before .before .before .before .before .before .before .view .result) (c .before .before .before .before .before .before .before .processor .result) (c .before .before .before .before .before .before .before .before .before .before .before .before .before .before .args .formed)) _ _ _ _ (c .before .before .before .before .before .before .hear .ensures .0) (c .before .before .before .before .before .before .hear .ensures .1)
+    (c .note-formed .ensures ∙ formed-counted (c .before .before .before .before .before .before .before .before .before .before .before .before .before .before .args .head .plan) (c .before .before .before .before .before .before .before .before .before .before .before .before .before .before .args .head .faulty) (c .before .before .before .before .before .before .before .before .before .before .before .stage .result) (c .before .before .before .before .before .before .before .before .before .before .view .result) (c .before .before .before .before .before .before .before .before .before .before .before .before .before .before .args .formed) (c .before .before .before .before .before .before .hear .result - c .before .before .before .before .before .before .before .before .before .before .before .before .before .before .args .head .held) (omega (arith, c .before .before .before .before .before .before .hear .ensures .0 .number)) (c .before .before .before .before .before .before .before .before .before .before .before .before .before .before .args .head .traffic)))
 
 pub listen-spec : {M : Type 1} → statement M
 listen-spec =
@@ -43,6 +54,8 @@ listen-spec =
     view-requires
     processor-requires
     hear-requires
+    sub-note-formed
+    note-formed-requires
     same-length
     same-length-2
     returns)

@@ -8,7 +8,7 @@ use Rattle.simulator.proofs.events.outcome_check.Lts as lts
 use Rattle.simulator.proofs.events.count_sent.Reads as count-sent-reads
 
 returns : tie.Need-returns
-returns c = search needs
+returns c = rw (c .if1 .taken) refl
 
 count-sent-requires : tie.Need-count-sent-requires
 count-sent-requires c κs = search needs

@@ -8,6 +8,7 @@ use Rattle.simulator.proofs.opening.blank.Tie as tie
 use Rattle.simulator.proofs.opening.blank.Reads as reads
 use Rattle.simulator.proofs.opening.blank.Lts as lts
 use Rattle.simulator.proofs.opening.start_clock.Reads as start-clock-reads
+use Rattle.types.proofs.Traffic.none.Reads as none-reads
 
 abbrev Inv-loop : tie.InvT-loop
 Inv-loop setup clocks₀ q₀ clocks q = (q ≤ 64) × startsBelow setup q clocks
@@ -42,8 +43,11 @@ loop-less c = search needs
 loop-again : tie.Need-loop-again Inv-loop μ-loop
 loop-again c = (omega arith, starts-more (c .before .before .before .before .before .args .t1) (c .before .before .before .before .loop .q) (c .before .before .before .before .loop .clocks) (c .start-clock .result) (c .before .before .before .loop-test .taken) (c .before .before .before .before .loop .inv .1) (c .start-clock .ensures))
 
+none-requires : tie.Need-none-requires Inv-loop μ-loop
+none-requires c κs = search needs
+
 returns : tie.Need-returns Inv-loop μ-loop
-returns c = let e : c .before .before .loop .q ≡ 64 = omega arith in rw (starts-all (c .before .before .before .args .t1) (c .before .before .loop .clocks) (subst (λ (k : ℕ). startsBelow (c .before .before .before .args .t1) k (c .before .before .loop .clocks)) e (c .before .before .loop .inv .1))) refl
+returns c = let e : c .before .before .before .loop .q ≡ 64 = omega arith in rw (c .none .ensures, starts-all (c .before .before .before .before .args .t1) (c .before .before .before .loop .clocks) (subst (λ (k : ℕ). startsBelow (c .before .before .before .before .args .t1) k (c .before .before .before .loop .clocks)) e (c .before .before .before .loop .inv .1))) refl
 
 pub blank-spec : {M : Type 1} → statement M
 blank-spec =
@@ -60,4 +64,5 @@ blank-spec =
     add-q
     loop-less
     loop-again
+    none-requires
     returns)

@@ -1,4 +1,5 @@
-use Rattle.simulator.proofs.Lasting.{end-reached}
+use mathlib.Core.Path.{refl}
+use Rattle.sums.proofs.Reporting.{end-reached}
 use borrow.Author.Needs.{needs}
 use Rattle.simulator.proofs.tasks.is_nine.Statement.{statement}
 use Rattle.simulator.proofs.tasks.is_nine.Tie as tie
@@ -7,7 +8,7 @@ use Rattle.simulator.proofs.tasks.is_nine.Lts as lts
 use Rattle.types.proofs.Plan.end_time.Reads as end-time-reads
 
 returns : tie.Need-returns
-returns c = search needs
+returns c = rw (c .if1 .taken) refl
 
 end-time-requires : tie.Need-end-time-requires
 end-time-requires c κs = search needs

@@ -1,24 +1,25 @@
-use mathlib.Core.Path.{_≡_, refl, ap, _∙_, subst}
-use mathlib.Core.Bool.{false}
-use Prim.Native.Nat.{ℕ, _+_, _-_, _≤_}
-use native.Mathlib.Omega.{arith}
-use lib.ListN.{length}
-use borrow.Author.Needs.{needs, zero≤}
-use Rattle.base.specs.ScanLaws.{some-not}
-use Rattle.model.specs.Processors.{processorUnsound}
-use Rattle.model.specs.State.{State, stateOf, runFrom, withClocks, withViews}
-use Rattle.model.specs.Moves.{entries, clocksOn}
-use Rattle.types.specs.declared.Processor.{Processor}
-use Rattle.pacemaker.proofs.LimitLaws.{within}
-use Rattle.simulator.specs.Inner.{Posts, Arrives, arrivedBelow, endsAt, seat}
-use Rattle.simulator.proofs.Fitness.{seat-sound}
-use Rattle.simulator.proofs.Posting.{posts-none}
 use Rattle.simulator.proofs.Ticking.{seat-kept, next-turn, tally-turn, arrival-fits, posts-turn, tick-made}
+use Rattle.simulator.proofs.Posting.{posts-none}
+use Rattle.simulator.proofs.Fitness.{seat-sound}
+use Rattle.simulator.specs.Inner.{Posts, Arrives, arrivedBelow, endsAt, seat}
+use Rattle.pacemaker.proofs.LimitLaws.{within}
+use Rattle.types.specs.declared.Processor.{Processor}
+use Rattle.model.specs.Moves.{entries, clocksOn}
+use Rattle.model.specs.State.{State, stateOf, runFrom, withClocks, withViews}
+use Rattle.model.specs.Processors.{processorUnsound}
+use Rattle.base.specs.ScanLaws.{some-not}
+use borrow.Author.Needs.{needs, zero≤}
+use lib.ListN.{length}
+use native.Mathlib.Omega.{arith}
+use Prim.Native.Nat.{ℕ, _+_, _-_, _≤_}
+use mathlib.Core.Bool.{false}
+use mathlib.Core.Path.{_≡_, refl, ap, _∙_, subst}
 use Rattle.simulator.proofs.ticks.arrive_all.Statement.{statement}
 use Rattle.simulator.proofs.ticks.arrive_all.Tie as tie
 use Rattle.simulator.proofs.ticks.arrive_all.Reads as reads
 use Rattle.simulator.proofs.ticks.arrive_all.Lts as lts
 use Rattle.simulator.proofs.moves.enter_by_tick.Reads as enter-by-tick-reads
+use Rattle.simulator.proofs.moves.note_pairs.Reads as note-pairs-reads
 use Rattle.simulator.proofs.ticks.arrive.Reads as arrive-reads
 
 abbrev Inv-loop : tie.InvT-loop
@@ -34,17 +35,17 @@ loop-holds : tie.Need-loop-holds Inv-loop μ-loop
 unfolding entries clocksOn
 loop-holds c = (zero≤, refl, refl, posts-none _ _ _, refl, refl)
 
-mul-t15 : tie.Need-mul-t15 Inv-loop μ-loop
-mul-t15 c = omega (arith, c .loop-test .taken, within (c .before .before .before .before .before .args .head .plan) (c .before .before .before .before .before .pre .fit .plan) .n-most)
+mul-t16 : tie.Need-mul-t16 Inv-loop μ-loop
+mul-t16 c = omega (arith, c .loop-test .taken, within (c .before .before .before .before .before .args .head .plan) (c .before .before .before .before .before .pre .fit .plan) .n-most)
 
-element-copy-out-t18 : tie.Need-element-copy-out-t18 Inv-loop μ-loop
-element-copy-out-t18 c = omega (arith, c .loop-test .taken, within (c .before .before .before .before .before .args .head .plan) (c .before .before .before .before .before .pre .fit .plan) .n-most)
+element-copy-out-t19 : tie.Need-element-copy-out-t19 Inv-loop μ-loop
+element-copy-out-t19 c = omega (arith, c .loop-test .taken, within (c .before .before .before .before .before .args .head .plan) (c .before .before .before .before .before .pre .fit .plan) .n-most)
 
-mul-t19 : tie.Need-mul-t19 Inv-loop μ-loop
-mul-t19 c = omega (arith, c .before .loop-test .taken, within (c .before .before .before .before .before .before .args .head .plan) (c .before .before .before .before .before .before .pre .fit .plan) .n-most)
+mul-t20 : tie.Need-mul-t20 Inv-loop μ-loop
+mul-t20 c = omega (arith, c .before .loop-test .taken, within (c .before .before .before .before .before .before .args .head .plan) (c .before .before .before .before .before .before .pre .fit .plan) .n-most)
 
-element-copy-out-t22 : tie.Need-element-copy-out-t22 Inv-loop μ-loop
-element-copy-out-t22 c = omega (arith, c .before .loop-test .taken, within (c .before .before .before .before .before .before .args .head .plan) (c .before .before .before .before .before .before .pre .fit .plan) .n-most)
+element-copy-out-t23 : tie.Need-element-copy-out-t23 Inv-loop μ-loop
+element-copy-out-t23 c = omega (arith, c .before .loop-test .taken, within (c .before .before .before .before .before .before .args .head .plan) (c .before .before .before .before .before .before .pre .fit .plan) .n-most)
 
 arrive-requires : tie.Need-arrive-requires Inv-loop μ-loop
 arrive-requires c κs =
@@ -91,6 +92,12 @@ loop-again c =
       omega arith,
     )
 
+sub-note-pairs : tie.Need-sub-note-pairs Inv-loop μ-loop
+sub-note-pairs c = search needs
+
+note-pairs-requires : tie.Need-note-pairs-requires Inv-loop μ-loop
+note-pairs-requires c κs = search needs
+
 same-length : tie.Need-same-length Inv-loop μ-loop
 same-length c = search needs
 
@@ -99,13 +106,13 @@ same-length-2 c = search needs
 
 returns : tie.Need-returns Inv-loop μ-loop
 returns c =
-    let s : State = stateOf (runFrom (c .before .before .before .before .before .args .head) (c .before .before .before .before .before .args .clocks .now) (c .before .before .before .before .before .args .views .now)) (c .before .before .before .before .before .args .tally .now) (c .before .before .before .before .before .args .network .now) in
-    let most : s .run .plan .n ≤ length (s .run .clocks) = c .before .before .before .before .before .pre .whole .clocks in
-    let e : c .before .loop .q ≡ s .run .plan .n = omega arith in
-    tick-made s most (runFrom (c .before .before .before .before .before .args .head) (c .before .loop .clocks) (c .before .loop .views)) (c .before .loop .held) _ _
-    (c .before .loop .inv .1 ∙ ap (λ (k : ℕ). withViews (arrivedBelow s k .views) (withClocks (clocksOn (s .run) k) (s .run))) e)
-    (c .before .loop .inv .2 ∙ ap (λ (k : ℕ). arrivedBelow s k .tally) e)
-    (subst (λ (k : ℕ). Posts (arrivedBelow s k .sent) (s .run .held) (s .run .time + 1) (s .network) (c .before .loop .held) (c .before .loop .network)) e (c .before .loop .inv .3))
+    let s : State = stateOf (runFrom (c .before .before .before .before .before .before .before .args .head) (c .before .before .before .before .before .before .before .args .clocks .now) (c .before .before .before .before .before .before .before .args .views .now)) (c .before .before .before .before .before .before .before .args .tally .now) (c .before .before .before .before .before .before .before .args .network .now) in
+    let most : s .run .plan .n ≤ length (s .run .clocks) = c .before .before .before .before .before .before .before .pre .whole .clocks in
+    let e : c .before .before .before .loop .q ≡ s .run .plan .n = omega arith in
+    tick-made s most (runFrom (c .before .before .before .before .before .before .before .args .head) (c .before .before .before .loop .clocks) (c .before .before .before .loop .views)) (c .before .before .before .loop .held) (c .note-pairs .result) _ _
+    (c .before .before .before .loop .inv .1 ∙ ap (λ (k : ℕ). withViews (arrivedBelow s k .views) (withClocks (clocksOn (s .run) k) (s .run))) e)
+    (c .before .before .before .loop .inv .2 ∙ ap (λ (k : ℕ). arrivedBelow s k .tally) e)
+    (subst (λ (k : ℕ). Posts (arrivedBelow s k .sent) (s .run .held) (s .run .time + 1) (s .network) (c .before .before .before .loop .held) (c .before .before .before .loop .network)) e (c .before .before .before .loop .inv .3)) (c .note-pairs .ensures)
 
 pub arrive-all-spec : {M : Type 1} → statement M
 arrive-all-spec =
@@ -115,10 +122,10 @@ arrive-all-spec =
     μ-loop
     add-time
     loop-holds
-    mul-t15
-    element-copy-out-t18
-    mul-t19
-    element-copy-out-t22
+    mul-t16
+    element-copy-out-t19
+    mul-t20
+    element-copy-out-t23
     arrive-requires
     mul-clocks
     element-write-clocks
@@ -128,6 +135,8 @@ arrive-all-spec =
     add-q
     loop-less
     loop-again
+    sub-note-pairs
+    note-pairs-requires
     same-length
     same-length-2
     returns)

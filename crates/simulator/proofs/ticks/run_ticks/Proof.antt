@@ -60,7 +60,7 @@ loop-less : tie.Need-loop-less Inv-loop μ-loop
 loop-less c = omega (arith, c .before .before .before .before .before .before .before .before .advance .ensures .number (omega (arith, c .before .if1 .left)) .0, c .before .before .before .before .before .before .before .before .advance .ensures .number (omega (arith, c .before .if1 .left)) .1, c .before .before .before .before .before .before .before .before .before .before .before .before .before .loop-test .taken)
 
 loop-again : tie.Need-loop-again Inv-loop μ-loop
-loop-again c = (omega (arith, c .before .before .before .before .before .before .before .before .advance .ensures .number (omega (arith, c .before .if1 .left)) .1, c .before .before .before .before .before .before .before .before .before .before .before .before .before .loop-test .taken), strides-also _ _ _ _ _ (c .before .before .before .before .before .before .before .before .before .before .before .before .before .before .loop .inv .1) (c .before .before .before .before .before .before .before .before .advance .ensures .went (omega (arith, c .before .if1 .left))), omega arith, omega arith)
+loop-again c = (omega (arith, c .before .before .before .before .before .before .before .before .advance .ensures .number (omega (arith, c .before .if1 .left)) .1, c .before .before .before .before .before .before .before .before .before .before .before .before .before .loop-test .taken), strides-also _ _ _ _ _ (c .before .before .before .before .before .before .before .before .before .before .before .before .before .before .loop .inv .1) (c .before .before .before .before .before .before .before .before .advance .ensures .went (omega (arith, c .before .if1 .left))), omega (arith, c .before .before .before .before .before .before .before .before .before .before .before .before .before .before .loop .inv .2, c .before .before .before .before .before .before .before .tally), omega (arith, c .before .before .before .before .before .before .before .before .before .before .before .before .before .before .loop .inv .3, c .before .before .before .before .before .network))
 
 same-length-3 : tie.Need-same-length-3 Inv-loop μ-loop
 same-length-3 c = search needs

@@ -1,8 +1,12 @@
 //! The reference behind calls shaped like the library's: numbers and lent
 //! words in, a check number or a length out.
 
+#[cfg(test)]
+mod tests;
+
 use crate::words::{
     self, Numbers, HELD, LOAD_WORDS, OPENING, READ_WORDS, RUN_WORDS, SETTLED, SETUP_WORDS, TIME,
+    TRAFFIC_WORDS,
 };
 use reference::{Answer, Input, Plan, Processor, Reading, Stepped};
 use std::panic::{catch_unwind, AssertUnwindSafe};
@@ -185,121 +189,19 @@ pub fn generate_more(
     }
 }
 
-#[cfg(test)]
-mod tests {
-    use super::*;
-    use crate::words::{BYTES, FULL, STEP};
-
-    /// n=4, delta 2, gamma 4, 6 views, all clocks 0.
-    fn setup() -> Vec<u64> {
-        let mut words = vec![0; SETUP_WORDS];
-        words[..4].copy_from_slice(&[4, 2, 4, 6]);
-        words
+/// Reports the traffic of a run.
+pub fn traffic(run: &[u64], tally: &[u64], network: &[u64], report: &mut [u64]) -> u64 {
+    if run.len() < RUN_WORDS || report.len() < TRAFFIC_WORDS {
+        return 1;
     }
-
-    #[test]
-    fn openings_and_events() {
-        let (mut run, mut tally, mut network) = (vec![0; RUN_WORDS], vec![0; 24], vec![0; 64]);
-        assert_eq!(open(&setup(), &mut run[..136], &mut tally, &mut network), 1);
-        assert_eq!(open(&setup(), &mut run, &mut tally[..23], &mut network), 6);
-        assert_eq!(open(&setup(), &mut run, &mut tally, &mut network), 0);
-        assert_eq!((run[0], run[8], network[0]), (4, 8, 1));
-        let mut call = |numbers| apply(&mut run, numbers, &mut tally, &mut network);
-        assert_eq!(call([1, 5, 0, 0]), 1);
-        assert_eq!(call([1, 1, 0, 0]), 0);
-        assert_eq!(call([1, 1, 0, 0]), 13);
-        assert_eq!(call([4, 77, 0, 99]), 0);
-        assert_eq!(call([5, 0, 3, 0]), 16);
-        assert_eq!((run[5], run[8]), (2, 7));
-        run[SETTLED] = 2;
-        assert_eq!(apply(&mut run, [5, 0, 1, 0], &mut tally, &mut network), 9);
-        assert_eq!(apply(&mut run, [5, 0, 0, 0], &mut tally, &mut network), 1);
+    if run[SETTLED] > 1 {
+        return 9;
     }
-
-    #[test]
-    fn events_together() {
-        let (mut run, mut tally, mut network) = (vec![0; RUN_WORDS], vec![0; 24], vec![0; 64]);
-        open(&setup(), &mut run, &mut tally, &mut network);
-        let events = [4, 1, 2, 3, 5, 6, 3, 7, 6, 5, 4, 3, 1, 1, 0, 0, 5, 0, 9];
-        let mut call = |run: &mut [u64]| {
-            let mut words = events;
-            let check = apply_all(run, &mut tally, &mut network, &mut words);
-            (check, words)
-        };
-        assert_eq!(call(&mut run[..136]), (1, events));
-        run[SETTLED] = 2;
-        assert_eq!(call(&mut run[..7]), (1, events));
-        assert_eq!(call(&mut run), (9, events));
-        run[SETTLED] = 0;
-        let answers = [4, 0, 0, 8, 5, 16, 2, 8, 6, 1, 0, 8, 1, 0, 0, 7, 5, 0, 9];
-        assert_eq!(call(&mut run), (0, answers));
-        assert_eq!((run[TIME], run[HELD]), (2, 7));
-        run[TIME] = 24;
-        let answers = [4, 9, 0, 7, 5, 9, 0, 7, 6, 1, 0, 7, 1, 9, 0, 7, 5, 0, 9];
-        assert_eq!(call(&mut run), (0, answers));
-    }
-
-    #[test]
-    fn loads() {
-        let (mut run, mut tally, mut network) = (vec![7; RUN_WORDS], vec![0; 24], vec![0; 64]);
-        let (mut load, mut out) = (vec![3, 0, 409, 7, 7, 7, 7], [b'x'; 60]);
-        let before = (run.clone(), load.clone());
-        let mut begin = |run: &mut [u64], load: &mut [u64], room: usize| {
-            let out = &mut out[..room];
-            generate(&setup(), run, &mut tally, &mut network, load, out)
-        };
-        assert_eq!(begin(&mut run[..136], &mut load, 60), 1);
-        assert_eq!(begin(&mut run, &mut load[..5], 60), 1);
-        assert_eq!((&run, &load), (&before.0, &before.1));
-        assert_eq!(begin(&mut run, &mut load, 26), 0);
-        assert_eq!((&run, &load[..]), (&before.0, &[3, 0, 409, 0, 0, 1, 7][..]));
-        assert_eq!(begin(&mut run, &mut load, 40), 0);
-        assert_eq!((load[STEP], load[BYTES], load[FULL]), (0, 36, 1));
-        assert_eq!(&out[..38], b"(open 4 2 4 6 0 (0 0 0 0))\n(settle)\nxx");
-        let mut go_on = |run: &mut [u64], load: &mut [u64]| {
-            generate_more(run, &mut tally, &mut network, load, &mut out)
-        };
-        assert_eq!(go_on(&mut run[..136], &mut load), 1);
-        assert_eq!(go_on(&mut run, &mut load[..5]), 1);
-        run[SETTLED] = 2;
-        assert_eq!(go_on(&mut run, &mut load), 9);
-        run[SETTLED] = 1;
-        assert_eq!(go_on(&mut run, &mut load), 0);
-        assert_eq!(
-            (run[TIME], load[STEP], load[BYTES], load[FULL]),
-            (2, 3, 39, 0)
-        );
-        assert!(out.starts_with(b"(tick 1)\n(tick 1)\n(deliver (view 0 0))\n"));
-    }
-
-    #[test]
-    fn steps() {
-        let plan = words::setup_of(&setup()).plan;
-        let mut record = [0, 2, 0, 7];
-        assert_eq!(step(plan, &mut record[..3], 4, 2), 1);
-        assert_eq!(step(plan, &mut record, 1, 2), 1);
-        assert_eq!(step(plan, &mut record, 4, 5), 17);
-        assert_eq!(record, [0, 2, 0, 7]);
-        assert_eq!(step(plan, &mut record, 4, 2), 0);
-        assert_eq!(record, [0, 12, 3, 2]);
-    }
-
-    #[test]
-    fn lines() {
-        let mut words = vec![7; READ_WORDS + 1];
-        assert_eq!(read_line(b"(tick 5", &mut words), 1);
-        assert_eq!(read_line(b"(tick 5)", &mut words[..72]), 1);
-        assert!(words.iter().all(|&word| word == 7));
-        assert_eq!(read_line(b"(tick 5)", &mut words), 0);
-        assert_eq!(
-            (&words[..4], words[4], words[73]),
-            (&[5, 0, 5, 0][..], 0, 7)
-        );
-        let mut bytes = [1; 10];
-        assert_eq!(write_event([5, 3, 5, 3], &mut bytes), 9);
-        assert_eq!(&bytes, b"(tick 5)\n\x01");
-        assert_eq!(write_event([5, 0, 0, 0], &mut bytes), 0);
-        assert_eq!(write_setup(&setup()[..68], &mut bytes), 0);
-        assert_eq!(write_setup(&setup(), &mut [0; 27]), 27);
+    match reference::traffic(&words::run_of(run), tally, network) {
+        Err(check) => check,
+        Ok(traffic) => {
+            report[..TRAFFIC_WORDS].copy_from_slice(&words::traffic_words(&traffic));
+            0
+        }
     }
 }

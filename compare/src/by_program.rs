@@ -10,6 +10,7 @@ use crate::pending;
 use crate::readers::{compare_one, compare_report, shown_by, Readers};
 use crate::report;
 use crate::schedules;
+use crate::search_counts::schedules::MOST_PIECE;
 use crate::trace::{Complaint, Trace};
 use std::mem;
 
@@ -42,17 +43,19 @@ pub fn compare(readers: Readers, seed: u64, rounds: u64) -> Result<Counts, Diffe
     Ok(counts)
 }
 
-/// Compares one input, handed over in pieces of each size, and watches it.
+/// Compares one input, handed over in pieces of each size and in small ones,
+/// and watches it.
 pub fn replay(readers: Readers, input: &[u8]) -> Result<(), Difference> {
     let trace = Trace::of(input);
     PIECES
         .into_iter()
+        .chain(1..=MOST_PIECE)
         .try_for_each(|piece| compare_both(readers, &trace, piece))
 }
 
 /// Compares the printouts and the reports of an input, and the report with what
 /// its history tells.
-fn compare_both(readers: Readers, trace: &Trace, piece: usize) -> Result<(), Difference> {
+pub fn compare_both(readers: Readers, trace: &Trace, piece: usize) -> Result<(), Difference> {
     uncomplained(trace)?;
     compare_one(readers.simulator, trace.text(), piece)?;
     let report = compare_report(readers.reporter, trace.text(), piece)?;

@@ -11,7 +11,7 @@ pub struct Difference {
     pub what: String,
     /// The name of the file that shows it.
     pub name: String,
-    /// What the file holds: a schedule, or a raw call as numbers.
+    /// What the file holds: a schedule, a raw call as numbers, or bytes in hex.
     pub contents: Vec<u8>,
 }
 

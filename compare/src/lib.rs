@@ -1,14 +1,15 @@
 //! The proved simulator and the reference, run side by side: schedules, loads
-//! and reports through the programs, raw calls through the library, and what
-//! each of them costs.
+//! and reports through the programs, raw calls through the library, the search
+//! for newlines, and what each of them costs.
 //!
 //! Both sides render document 01. Where they differ, one of them is wrong; what
-//! is found is saved as a schedule or a call that shows it again.
+//! is found is saved: a schedule, which `--replay` shows again, or a call or
+//! bytes to look at.
 //!
 //! The program `compare` compares: without words as the gate does, always the
 //! same; with `--rounds N --seed S` for longer; with `--replay FILE` one
 //! schedule. The program `bench`, built with `--release`, prints ratios of
-//! speeds. Both need the proved programs and library in the repository's
+//! speeds. Both need the proved programs and archives in the repository's
 //! `target`, and `./fever compare` and `./fever bench` put them there first.
 
 #![deny(missing_docs)]
@@ -18,6 +19,7 @@ pub mod adversary;
 pub mod by_generator;
 pub mod by_library;
 pub mod by_program;
+pub mod by_search;
 pub mod calls;
 pub mod counts;
 pub mod damage;
@@ -30,6 +32,7 @@ pub mod lies;
 pub mod list;
 pub mod load_counts;
 pub mod measure;
+pub mod near;
 pub mod openings;
 pub mod options;
 pub mod pending;
@@ -41,6 +44,7 @@ pub mod report_counts;
 pub mod retell;
 pub mod scene;
 pub mod schedules;
+pub mod search_counts;
 pub mod shorten;
 pub mod summary;
 pub mod text;

@@ -140,6 +140,21 @@ fn scatter(
     last
 }
 
+/// The setup whose line is the longest of all. Check 3 refuses it.
+pub const fn longest() -> Setup {
+    let plan = Plan {
+        n: 64,
+        delta: u64::MAX,
+        gamma: u64::MAX,
+        views: u64::MAX,
+    };
+    Setup {
+        plan,
+        faulty: u64::MAX,
+        clocks: [u64::MAX; 64],
+    }
+}
+
 /// A setup that one of checks 2 to 8 refuses, most often by the least step
 /// over its limit. `most_views` is what the lent words are enough for.
 pub fn refused(draws: &mut Draws, most_views: u64) -> Setup {
@@ -225,5 +240,6 @@ mod tests {
             }
         }
         assert!(met[2..=8].iter().all(|&times| times > 100), "{met:?}");
+        assert_eq!(answer(&longest()), Answer::Refused(3));
     }
 }

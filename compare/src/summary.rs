@@ -1,13 +1,14 @@
 //! What a comparison met, in a few lines, and whether that is enough.
 
 use crate::counts::Counts;
+use crate::search_counts::SearchCounts;
 use std::fmt::{self, Display, Formatter};
 
 /// The events that the gate's comparison has besides those of loads, at least.
 const LEAST_EVENTS: u64 = 200_000;
 /// How often it meets each check on each way, and how often 16, 17 and 18 each
 /// end ticks there, at least; and all that is counted of events together, of
-/// loads and of traffic.
+/// loads, of traffic and of the search for newlines.
 const LEAST_MET: u64 = 5;
 
 /// What a comparison met.
@@ -15,6 +16,8 @@ const LEAST_MET: u64 = 5;
 pub struct Summary {
     /// How many rounds it had.
     pub rounds: u64,
+    /// The search for newlines.
+    pub search: SearchCounts,
     /// Through the program.
     pub program: Counts,
     /// Through the program that makes loads.
@@ -27,6 +30,7 @@ impl Summary {
     /// All parts together.
     pub fn all(&self) -> Counts {
         let mut all = self.program.clone();
+        all.add(&self.search.schedules.lines);
         all.add(&self.generator);
         all.add(&self.library(|_| true));
         all
@@ -44,8 +48,8 @@ impl Summary {
     /// What is missing of a comparison that says something: enough events,
     /// every check met on both ways and by events together, and every one that
     /// ends ticks; all that is counted of calls for events together and for
-    /// loads, and of traffic; reports of loads; demand 3 due whole as often as
-    /// there are rounds.
+    /// loads, of traffic and of the search for newlines; reports of loads;
+    /// demand 3 due whole as often as there are rounds.
     pub fn missing(&self) -> Option<String> {
         let alone = |counts: &Counts| counts.together.calls == 0 && counts.loads.is_empty();
         let library = self.library(alone);
@@ -71,33 +75,44 @@ impl Summary {
         if !together.together.met(LEAST_MET) {
             return Some(format!("events together, {}", together.together));
         }
-        if let Some(few) = self.generator.loads.program_lacks(LEAST_MET) {
-            return Some(format!("loads of the program, {few}"));
-        }
-        if let Some(few) = self.generator.traffic.reports.lacks(LEAST_MET) {
-            return Some(format!("reports of loads, {few}"));
-        }
-        let loads = self.library(|counts| !counts.loads.is_empty()).loads;
-        if let Some(few) = loads.library_lacks(LEAST_MET) {
-            return Some(format!("loads of the library, {few}"));
-        }
-        if let Some(few) = self.program.traffic.program_lacks(LEAST_MET) {
-            return Some(format!("traffic of the program, {few}"));
-        }
-        let traffic = self.library(|_| true).traffic;
-        if let Some(few) = traffic.library_lacks(LEAST_MET) {
-            return Some(format!("traffic of the library, {few}"));
+        if let Some(few) = self.counted_too_little() {
+            return Some(few);
         }
         let (due, calls) = (self.program.due, library.due);
         (due < self.rounds || calls == 0).then(|| {
             format!("demand 3's second sentence was due {due} times, through the library {calls}")
         })
     }
+
+    /// What was met less often of all that is counted of loads, of traffic and
+    /// of the search for newlines.
+    fn counted_too_little(&self) -> Option<String> {
+        let (program, generator) = (&self.program.traffic, &self.generator);
+        let loads = self.library(|counts| !counts.loads.is_empty()).loads;
+        let library = self.library(|_| true).traffic;
+        let parts = [
+            ("search for newlines", self.search.lacks(LEAST_MET)),
+            (
+                "loads of the program",
+                generator.loads.program_lacks(LEAST_MET),
+            ),
+            (
+                "reports of loads",
+                generator.traffic.reports.lacks(LEAST_MET),
+            ),
+            ("loads of the library", loads.library_lacks(LEAST_MET)),
+            ("traffic of the program", program.program_lacks(LEAST_MET)),
+            ("traffic of the library", library.library_lacks(LEAST_MET)),
+        ];
+        let mut parts = parts.into_iter();
+        parts.find_map(|(part, few)| few.map(|few| format!("{part}, {few}")))
+    }
 }
 
 impl Display for Summary {
     fn fmt(&self, out: &mut Formatter) -> fmt::Result {
         let program = &self.program;
+        write!(out, "{}", self.search)?;
         write!(out, "program, lines: {program}")?;
         write!(out, "program, loads: {}", self.generator)?;
         for (name, counts) in &self.library {
@@ -119,8 +134,8 @@ mod tests {
     use crate::load_counts::Loads;
     use crate::traffic_counts::TrafficCounts;
 
-    #[test]
-    fn too_little_is_told() {
+    /// A comparison of which each count is just enough.
+    fn enough() -> Summary {
         let mut program = Counts {
             events: 1,
             ..Counts::default()
@@ -152,19 +167,25 @@ mod tests {
         loads.traffic = TrafficCounts::met_everywhere(LEAST_MET);
         program.due = 3;
         program.events = LEAST_EVENTS;
-        let enough = Summary {
+        Summary {
             rounds: 3,
+            search: SearchCounts::met_everywhere(LEAST_MET),
             program,
             generator: loads,
             library,
-        };
-        assert_eq!(enough.missing(), None);
-        let lacks = |spoil: fn(&mut Summary), told: &str| {
-            let mut summary = enough.clone();
-            spoil(&mut summary);
-            let missing = summary.missing().unwrap_or_default();
-            assert!(missing.contains(told), "{missing}");
-        };
+        }
+    }
+
+    fn lacks(spoil: fn(&mut Summary), told: &str) {
+        let mut summary = enough();
+        spoil(&mut summary);
+        let missing = summary.missing().unwrap_or_default();
+        assert!(missing.contains(told), "{missing}");
+    }
+
+    #[test]
+    fn too_little_is_told() {
+        assert_eq!(enough().missing(), None);
         lacks(|summary| summary.rounds = 4, "due 3 times");
         lacks(|summary| summary.library[0].1.due = 0, "library 0");
         lacks(|summary| summary.library[0].1.met[17] = 1, "check 17");
@@ -189,5 +210,15 @@ mod tests {
         lacks(spoil, "traffic of the library, 0 calls in which waits");
         let spoil = |summary: &mut Summary| summary.library[0].1.traffic.bound_met = 0;
         lacks(spoil, "traffic of the library, 0 views with 2n");
+    }
+
+    #[test]
+    fn too_little_of_the_search_is_told() {
+        let spoil = |summary: &mut Summary| summary.search.words.near = 0;
+        lacks(spoil, "search for newlines, words: 0 near one");
+        let spoil = |summary: &mut Summary| summary.search.bytes.behind[0] = 0;
+        lacks(spoil, "newlines, bytes at hand: 0 without one, the next");
+        let spoil = |summary: &mut Summary| summary.search.schedules.pieces[0] = 0;
+        lacks(spoil, "newlines, schedules: 0 in pieces of 1");
     }
 }

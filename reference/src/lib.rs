@@ -1,8 +1,9 @@
 //! The Fever pacemaker step of one processor, and a simulator that moves n
 //! such processors through a schedule of events.
 //!
-//! Everything here renders document 01, loads document 02's request 1/13 and
-//! traffic its request 2/13; comments quote the sentence a piece stands for.
+//! Everything here renders document 01, loads document 02's request 1/13,
+//! traffic its request 2/13 and newlines its request 3/13; comments quote the
+//! sentence a piece stands for.
 //! The words of the code for the words of that page: a processor is one of the
 //! n numbered parties, the tally holds what was entered, heard and formed per
 //! view, the network holds the messages sent and not yet delivered, `faulty`
@@ -23,6 +24,7 @@ mod limits;
 mod load;
 mod message;
 mod network;
+mod newline;
 mod opening;
 mod plan;
 mod print;
@@ -44,6 +46,7 @@ pub use apply::{apply, apply_sound};
 pub use generator::{run_generator, Ended};
 pub use load::{generate, generate_more, Load, Piece};
 pub use message::{Event, Message};
+pub use newline::{before_newline, has_newline};
 pub use opening::open;
 pub use plan::Plan;
 pub use processor::{step, Input, Processor, Stepped};

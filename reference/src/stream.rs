@@ -1,7 +1,11 @@
 //! Cutting an input into lines, in bounded memory.
 
+use crate::newline::before_newline;
 use crate::reader::LONGEST_LINE;
 use crate::session::Session;
+
+/// The bytes of an input after which answers that nobody reads are dropped.
+const PIECE: usize = 1 << 12;
 
 /// A session fed with bytes in pieces of any size.
 #[derive(Clone, Default, Debug)]
@@ -20,8 +24,7 @@ impl Stream {
 
     /// Answers each line that ends within these bytes.
     pub fn feed(&mut self, mut bytes: &[u8], out: &mut Vec<u8>) {
-        while let Some(end) = bytes.iter().position(|&byte| byte == b'\n') {
-            let line = &bytes[..end];
+        while let (line, [_, behind @ ..]) = bytes.split_at(before_newline(bytes)) {
             if self.pending.is_empty() {
                 self.session.answer_line(line, out);
             } else {
@@ -29,7 +32,7 @@ impl Stream {
                 self.session.answer_line(&self.pending, out);
                 self.pending.clear();
             }
-            bytes = &bytes[end + 1..];
+            bytes = behind;
         }
         self.keep(bytes);
     }
@@ -74,8 +77,8 @@ pub fn simulate(input: &[u8]) -> Vec<u8> {
 pub fn report_traffic(input: &[u8]) -> Vec<u8> {
     let (mut answers, mut out) = (Vec::new(), Vec::new());
     let mut stream = Stream::new();
-    for line in input.split_inclusive(|&byte| byte == b'\n') {
-        stream.feed(line, &mut answers);
+    for piece in input.chunks(PIECE) {
+        stream.feed(piece, &mut answers);
         answers.clear();
     }
     stream.session().report(&mut out);

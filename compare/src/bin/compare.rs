@@ -1,5 +1,5 @@
 //! Compares the proved simulator with the reference: through the programs and
-//! through the library. The first difference ends it.
+//! through the library, and the search for newlines. The first difference ends it.
 
 #![forbid(unsafe_code)]
 
@@ -7,7 +7,7 @@ use compare::difference::Difference;
 use compare::options::{self, Options, USAGE};
 use compare::readers::Readers;
 use compare::summary::Summary;
-use compare::{by_generator, by_library, by_program, program};
+use compare::{by_generator, by_library, by_program, by_search, program};
 use std::fs;
 use std::path::Path;
 use std::process::ExitCode;
@@ -53,10 +53,11 @@ fn compare(readers: Readers, rounds: u64, seed: u64, gate: bool) -> ExitCode {
     }
 }
 
-/// Through the programs, then through the library.
+/// The search for newlines, then through the programs and through the library.
 fn both_ways(readers: Readers, rounds: u64, seed: u64) -> Result<Summary, Difference> {
     Ok(Summary {
         rounds,
+        search: by_search::compare(readers, seed, rounds)?,
         program: by_program::compare(readers, seed, rounds)?,
         generator: by_generator::compare(&program::generator(), readers, seed, rounds)?,
         library: by_library::compare(seed, rounds)?,

@@ -11,7 +11,7 @@ use crate::text;
 use crate::wild;
 use crate::words::{numbers_of, setup_words, Numbers, READ_WORDS, SETUP_WORDS};
 use fever::raw;
-use reference::{Plan, Setup};
+use reference::Setup;
 
 /// The views that openings of lines have, at most.
 const MOST_VIEWS: u64 = 6_000;
@@ -80,24 +80,9 @@ fn setup(draws: &mut Draws) -> Setup {
         setup.clocks.fill(u64::MAX);
     }
     if draws.per_mille(20) {
-        return longest();
+        return openings::longest();
     }
     setup
-}
-
-/// The setup whose line is the longest of all.
-const fn longest() -> Setup {
-    let plan = Plan {
-        n: 64,
-        delta: u64::MAX,
-        gamma: u64::MAX,
-        views: u64::MAX,
-    };
-    Setup {
-        plan,
-        faulty: u64::MAX,
-        clocks: [u64::MAX; 64],
-    }
 }
 
 /// Writes one event or setup with every number of lent bytes near the needed

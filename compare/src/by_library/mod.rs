@@ -60,7 +60,7 @@ pub fn compare(seed: u64, rounds: u64) -> Result<Vec<(&'static str, Counts)>, Di
 
 /// A panic outside of the calls that are compared, as where a state is made
 /// ready.
-fn panicked(which: &str) -> Result<(), Difference> {
+pub fn panicked(which: &str) -> Result<(), Difference> {
     Err(Difference {
         what: "a panic outside of the calls that are compared".to_owned(),
         name: "panic.case".to_owned(),

@@ -7,6 +7,7 @@ pub mod lines;
 pub mod loads;
 mod plain;
 pub mod programs;
+pub mod search;
 pub mod ticks;
 pub mod traffic;
 

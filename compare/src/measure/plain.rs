@@ -22,6 +22,12 @@ pub fn step(plan: Plan, processor: &mut Processor, input: Input) -> Stepped {
     reference::step(plan, processor, input)
 }
 
+/// Looks for a newline, one byte after the other.
+#[inline(never)]
+pub fn before_newline(bytes: &[u8]) -> usize {
+    reference::before_newline(bytes)
+}
+
 /// Reads a line.
 #[inline(never)]
 pub fn read_line(line: &[u8]) -> Reading {

@@ -175,9 +175,16 @@ nexts =
     ∷ nextLine (replicate 4801 32 ++ (newline ∷ 40 ∷ []))
     ∷ nextLine (replicate 4800 32)
     ∷ nextLine (replicate 4801 32)
+    ∷ nextLine (replicate 7 138 ++ (newline ∷ []))
+    ∷ nextLine (replicate 8 11 ++ (newline ∷ []))
+    ∷ nextLine (replicate 31 138 ++ (newline ∷ newline ∷ []))
+    ∷ nextLine (replicate 32 11 ++ (newline ∷ replicate 8 newline))
+    ∷ nextLine (replicate 39 138)
     ∷ []
 
-pub nexts-hold : nexts ≡ (Unfinished ∷ Line 0 ∷ Line 2 ∷ Unfinished ∷ Line 4800 ∷ Long 4801 ∷ Unfinished ∷ Endless ∷ [])
+-- the last five around the end of a word and of four
+pub nexts-hold : nexts
+    ≡ (Unfinished ∷ Line 0 ∷ Line 2 ∷ Unfinished ∷ Line 4800 ∷ Long 4801 ∷ Unfinished ∷ Endless ∷ Line 7 ∷ Line 8 ∷ Line 31 ∷ Line 32 ∷ Unfinished ∷ [])
 unfolding nexts nextLine beforeNewline
 nexts-hold = refl
 

@@ -1,5 +1,5 @@
--- What is promised of lines: one for each event, and how an input is cut into them.
-use Prim.Native.Nat.{ℕ, suc, _≤_, _<_}
+-- What is promised of lines: one for each event, which words are reported where their ends are looked for, and how an input is cut into them.
+use Prim.Native.Nat.{ℕ, suc, _/_, _%_, _^_, _≤_, _<_}
 use mathlib.Core.Path.{_≡_}
 use mathlib.Core.Bool.{Bool, true, false}
 use mathlib.Core.Logic.{_⊎_, inl, inr}
@@ -13,10 +13,11 @@ use Rattle.types.specs.declared.Totals.{Totals}
 use Rattle.lines.specs.declared.Reading.{Reading}
 use Rattle.lines.specs.declared.Next.{Next}
 use Rattle.lines.specs.declared.Next.the-variants.{Line, Long, Unfinished, Endless}
-use Rattle.lines.specs.Forms.{EventLine, SetupLine, trimmed}
+use Rattle.lines.specs.Forms.{newline, EventLine, SetupLine, trimmed}
 use Rattle.lines.specs.Printout.{answerForm, processorForm, printedMost, totalsText, totalsMost}
 use Rattle.lines.specs.declared.Written.{Written}
 use Rattle.lines.specs.Contracts.{eventReading, openingReading, readCheck, Reads, line, Writes, writtenCheck}
+use Rattle.lines.specs.Search.{wordBytes, reported}
 use Rattle.lines.specs.Splitting.{lineMost, nextLine, ended, linesAfter, inputLines, cutRead}
 
 -- ---- forms
@@ -76,6 +77,14 @@ ShortProcessors = (p view clock : ℕ) → length (line (processorForm p view cl
 -- and so many every report
 abbrev pub ShortReports : Type 0
 ShortReports = (x : Totals) → length (totalsText x) ≤ totalsMost
+
+-- ---- words
+
+-- "A word is reported exactly when one of its bytes is a newline", byte i of it being w / 256^i % 256: none is reported falsely, and none missed
+abbrev pub ReportsExactly : Type 0
+ReportsExactly = (w : ℕ)
+    → (reported w ≡ true → (i : ℕ) × (i < wordBytes) × (w / 256 ^ i % 256 ≡ newline))
+    × ((i : ℕ) → i < wordBytes → w / 256 ^ i % 256 ≡ newline → reported w ≡ true)
 
 -- ---- the next line within the bytes at hand
 

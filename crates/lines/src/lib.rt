@@ -1,4 +1,6 @@
 // What lines of a schedule are, and where the next one ends.
+pub mod search;
+
 use types::Event;
 use types::Setup;
 ghost use mathlib.Core.Path.{_≡_};
@@ -35,11 +37,13 @@ pub enum Next {
 // The most bytes of a line, without its newline.
 const LINE_MOST: usize = 4800;
 
-// How many bytes stand before the first newline; all where there is none.
-fn before_newline(bytes: &[u8]) -> usize
+// How many bytes stand before the first newline; all where there is none. Looked for in words, and singly in the remainder. Exported for the comparison and
+// the benchmark.
+#[no_mangle]
+pub extern "C" fn before_newline(bytes: &[u8]) -> usize
     ensures { λ r. ⌜ r ≡ beforeNewline (now (bytes .entry)) ⌝ }
 {
-    let mut i = 0;
+    let mut i = search::words_before(bytes);
     while i < bytes.len() {
         if bytes[i] == b'\n' {
             return i;

@@ -7,6 +7,7 @@ mod limits;
 mod lines;
 mod loads;
 mod near_misses;
+mod newlines;
 mod pieces;
 mod printout;
 mod reports;

@@ -1,5 +1,6 @@
 use borrow.Author.Needs.{needs}
-use Rattle.lines.proofs.Newlines.{Searched, searched-none, searched-more, searched-here, searched-all}
+use native.Mathlib.Omega.{arith}
+use Rattle.lines.proofs.Newlines.{Searched, searched-from, searched-more, searched-here, searched-all}
 use lib.ListN.{length}
 use Prim.Native.Nat.{_-_}
 use Rattle.lines.proofs.before_newline.Statement.{statement}
@@ -13,8 +14,11 @@ Inv-loop bytes i₀ i = Searched bytes i
 abbrev μ-loop : tie.MeasureT-loop
 μ-loop bytes i₀ i = length bytes - i
 
+words-before-requires : tie.Need-words-before-requires Inv-loop μ-loop
+words-before-requires c κs = search needs
+
 loop-holds : tie.Need-loop-holds Inv-loop μ-loop
-loop-holds c = searched-none _
+loop-holds c = searched-from _ _ (omega (arith, c .words-before .ensures))
 
 shared-slice-read-if1 : tie.Need-shared-slice-read-if1 Inv-loop μ-loop
 shared-slice-read-if1 c = search needs
@@ -40,6 +44,7 @@ before-newline-spec =
     (tie.spec
     Inv-loop
     μ-loop
+    words-before-requires
     loop-holds
     shared-slice-read-if1
     returns

@@ -7,7 +7,7 @@ use native.Mathlib.Numerals.{add-one}
 use native.Mathlib.Omega.{arith}
 use mathlib.Core.List.{List, [], _∷_}
 use lib.Dec.{eqb}
-use lib.ListN.{length, getD, take, drop, length-drop, drop-of-length-le}
+use lib.ListN.{length, getD, take, drop, length-drop}
 use lib.Seq.{drop-cons}
 use borrow.Author.Tests.{eq-eqb, ne-eqb}
 use Rattle.lines.specs.Forms.{newline}
@@ -101,25 +101,14 @@ later : (s : List ℕ) (i : ℕ) → i < length s → getD s i 0 ≢ newline →
 unfolding beforeNewline
 later s i h e = rw (drop-cons s i 0 h, ne-eqb _ _ e, add-one)
 
-none : (s : List ℕ) (i : ℕ) → length s ≤ i → beforeNewline (drop i s) ≡ 0
-unfolding beforeNewline
-none s i h = rw (drop-of-length-le s h)
-
--- none stands before place i
-abbrev pub Searched : List ℕ → ℕ → Type 0
-Searched s i = (i ≤ length s) × (beforeNewline s ≡ i + beforeNewline (drop i s))
-
-pub searched-from : (s : List ℕ) (i : ℕ) → i ≤ beforeNewline s → Searched s i
-searched-from s i x = (omega (arith, before-most s), before-from s i x)
-
-pub searched-more : (s : List ℕ) (i : ℕ) → Searched s i → i < length s → getD s i 0 ≢ newline → Searched s (i + 1)
-searched-more s i x h e =
-    let n : beforeNewline (drop i s) ≡ suc (beforeNewline (drop (i + 1) s)) = later s i h e in (omega arith, omega (arith, x .1))
+-- none stands before place i, nor there
+pub none-here : (s : List ℕ) (i : ℕ) → i ≤ beforeNewline s → i < length s → getD s i 0 ≢ newline → i + 1 ≤ beforeNewline s
+none-here s i x h e = omega (arith, before-from s i x, later s i h e)
 
 -- it stands there
-pub searched-here : (s : List ℕ) (i : ℕ) → Searched s i → i < length s → getD s i 0 ≡ newline → i ≡ beforeNewline s
-searched-here s i x h e = let n : beforeNewline (drop i s) ≡ 0 = here s i h e in omega (arith, x .1)
+pub first-here : (s : List ℕ) (i : ℕ) → i ≤ beforeNewline s → i < length s → getD s i 0 ≡ newline → i ≡ beforeNewline s
+first-here s i x h e = omega (arith, before-from s i x, here s i h e)
 
 -- there is none
-pub searched-all : (s : List ℕ) (i : ℕ) → Searched s i → length s ≤ i → i ≡ beforeNewline s
-searched-all s i x h = let n : beforeNewline (drop i s) ≡ 0 = none s i h in omega (arith, x .1)
+pub none-at-all : (s : List ℕ) (i : ℕ) → i ≤ beforeNewline s → length s ≤ i → i ≡ beforeNewline s
+none-at-all s i x h = omega (arith, before-most s)

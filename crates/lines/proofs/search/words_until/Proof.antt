@@ -1,10 +1,10 @@
 use borrow.Author.Needs.{needs}
 use native.Mathlib.Omega.{arith}
 use mathlib.Core.Path.{_≡_}
-use Prim.Native.Nat.{_-_, _*_, _/_, _≤_, _<_}
+use Prim.Native.Nat.{_-_, _*_, _/_, _≤_}
 use Rattle.base.specs.Choice.{flag}
 use Rattle.lines.specs.Splitting.{beforeNewline}
-use Rattle.lines.specs.Search.{wordBytes}
+use Rattle.lines.specs.Search.{wordBytes, bytesIn}
 use Rattle.lines.proofs.Newlines.{before-most, none-in-word, first-in-word}
 use Rattle.lines.proofs.search.words_until.Statement.{statement}
 use Rattle.lines.proofs.search.words_until.Tie as tie
@@ -33,9 +33,9 @@ first-in-requires : tie.Need-first-in-requires Inv-loop μ-loop
 first-in-requires c κs = search needs
 
 add-result : tie.Need-add-result Inv-loop μ-loop
+unfolding bytesIn
 add-result c =
-    let f = first-in-word _ _ _ _ (c .before .before .before .before .before .loop .inv .0) (c .before .before .before .word-at .ensures) (flag _ _ _ (c .before .before .has-newline .ensures) (c .before .if1 .taken)) (c .first-in .ensures) in
-    let k : c .first-in .result < wordBytes = f .1 in search needs
+    let k : c .first-in .result ≤ wordBytes = omega (arith, c .first-in .ensures, before-most (bytesIn wordBytes (c .before .before .before .word-at .result))) in search needs
 
 returns : tie.Need-returns Inv-loop μ-loop
 returns c =

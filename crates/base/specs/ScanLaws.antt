@@ -61,6 +61,11 @@ unfolding some
 some-ext f g zero h = refl
 some-ext f g (suc k) h = rw (some-ext f g k (λ i l. h i (omega arith)), h k (omega arith)) refl
 
+pub first-ext : (f g : ℕ → Bool) (k : ℕ) → ((i : ℕ) → i < k → f i ≡ g i) → first f k ≡ first g k
+unfolding first
+first-ext f g zero h = refl
+first-ext f g (suc k) h = rw (first-ext f g k (λ i l. h i (omega arith)), h k (omega arith)) refl
+
 pub first-at : (f : ℕ → Bool) (k : ℕ) → first f k < k → T (f (first f k))
 unfolding first
 first-at f zero h = absurd (omega arith)

@@ -9,7 +9,7 @@ use lib.Seq.{take-add, drop-at, length-take-le, drop-drop, slice, paste, paste-s
 use Rattle.types.specs.declared.Message.{Message}
 use Rattle.types.specs.Quantities.{messageWords}
 use Rattle.types.specs.Messages.{kindOf, viewIn, processorIn}
-use Rattle.model.specs.State.{sentAt, posted, removed}
+use Rattle.model.specs.State.{heldAt, posted, removed}
 use Rattle.buffers.specs.Network.{moved}
 
 -- four stores in a row
@@ -30,7 +30,7 @@ posted-one ws h m sent l =
     rw e (four ws (messageWords * h) (kindOf m) (viewIn m) (processorIn m) sent l)
 
 -- beyond the last place that is whole there is no sending time
-pub sent-beyond : (ws : List ℕ) (i : ℕ) → length ws / messageWords ≤ i → 0 ≡ sentAt ws i
+pub sent-beyond : (ws : List ℕ) (i : ℕ) → length ws / messageWords ≤ i → 0 ≡ heldAt ws i .sent
 sent-beyond ws i l = sym (List·getD-eq-default ws 0 (omega arith))
 
 pub moved-none : (ws : List ℕ) (a : ℕ) → ws ≡ moved ws a 0

@@ -1,29 +1,29 @@
 -- What a decoded message says of its words, and an unknown one of its kind. Assumes nothing.
 use mathlib.Core.Path.{_≡_, refl, subst}
-use mathlib.Core.Bool.{Bool, true, false, _||_}
+use mathlib.Core.Bool.{Bool, true, false}
 use mathlib.Core.List.{List}
 use Prim.Native.Nat.{ℕ, zero, suc, _<_}
 use native.Mathlib.Omega.{arith}
 use lib.Dec.{T, eqb, ltb, eqb→eq}
-use borrow.Author.Tests.{lt-ltb}
-use Rattle.base.specs.Choice.{or-second}
+use borrow.Author.Tests.{lt-ltb, le-ltb}
+use Rattle.base.specs.Choice.{or-second, or-neither}
 use Rattle.base.specs.Tests.{by-cond}
 use Rattle.types.specs.declared.Message.{Message}
 use Rattle.types.specs.declared.Message.the-variants.{View, Vote, Vc, Qc}
-use Rattle.types.specs.Messages.{kindOf, viewIn, processorIn, kindLeast, kindMost}
-use Rattle.model.specs.State.{kindAt, viewAt, processorAt, capacity}
+use Rattle.types.specs.Messages.{kindLeast, kindMost, IsKind}
+use Rattle.model.specs.State.{Held, heldAs, heldAt, capacity}
+use Rattle.model.specs.Checks.{kindOutside}
 use Rattle.buffers.specs.declared.Stored.{Stored}
 use Rattle.buffers.specs.declared.Stored.the-variants.{Holds, Unknown}
 use Rattle.buffers.specs.Kinds.{storedAs, stored}
 
--- check 9: "a held message with kind .. out of range"
-abbrev pub kindOutside : ℕ → Bool
-kindOutside kind = ltb kind kindLeast || ltb kindMost kind
+pub kind-inside : (k : ℕ) → IsKind k → kindOutside k ≡ false
+kind-inside k x = or-neither (ltb k kindLeast) (ltb kindMost k) (le-ltb k kindLeast (x .0)) (le-ltb kindMost k (x .1))
 
--- what the answer says of kind, view and processor
-abbrev Says : ℕ → ℕ → ℕ → Stored → Type 0
-Says kind w p (Holds m) = (kind ≡ kindOf m) × (w ≡ viewIn m) × (p ≡ processorIn m) × (kindOutside kind ≡ false)
-Says kind w p Unknown = kindOutside kind ≡ true
+-- what the answer says of the numbers that are held
+abbrev Says : Held → Stored → Type 0
+Says h (Holds m) = h ≡ heldAs (h .sent) m
+Says h Unknown = kindOutside (h .kind) ≡ true
 
 outside : (kind : ℕ) → (T (eqb kind 1) → ⊥) → (T (eqb kind 2) → ⊥) → (T (eqb kind 3) → ⊥) → (T (eqb kind 4) → ⊥) → kindOutside kind ≡ true
 outside zero a b c d = refl
@@ -36,31 +36,27 @@ outside (suc (suc (suc (suc (suc k))))) a b c d =
     let l : kindMost < kind = omega arith in
     or-second (ltb kind kindLeast) (ltb kindMost kind) (lt-ltb kindMost kind l)
 
-says : (kind w p : ℕ) → Says kind w p (storedAs kind w p)
-says kind w p =
-    by-cond (Says kind w p) (eqb kind 1) (Holds (View w p)) _ (λ t. held 1 refl t) λ a.
-    by-cond (Says kind w p) (eqb kind 2) (Holds (Vote w p)) _ (λ t. held 2 refl t) λ b.
-    by-cond (Says kind w p) (eqb kind 3) (Holds (Vc w p)) _ (λ t. held 3 refl t) λ c.
-    by-cond (Says kind w p) (eqb kind 4) (Holds (Qc w p)) Unknown (λ t. held 4 refl t) λ d. outside kind a b c d
+says : (h : Held) → Says h (storedAs (h .kind) (h .view) (h .processor))
+says h =
+    by-cond (Says h) (eqb (h .kind) 1) (Holds (View (h .view) (h .processor))) _ (of-kind 1) λ a.
+    by-cond (Says h) (eqb (h .kind) 2) (Holds (Vote (h .view) (h .processor))) _ (of-kind 2) λ b.
+    by-cond (Says h) (eqb (h .kind) 3) (Holds (Vc (h .view) (h .processor))) _ (of-kind 3) λ c.
+    by-cond (Says h) (eqb (h .kind) 4) (Holds (Qc (h .view) (h .processor))) Unknown (of-kind 4) λ d. outside (h .kind) a b c d
   where
-    held : (k : ℕ) → kindOutside k ≡ false → T (eqb kind k) → (kind ≡ k) × (w ≡ w) × (p ≡ p) × (kindOutside kind ≡ false)
-    held k o t = let e : kind ≡ k = eqb→eq kind k t in (e, refl, refl, rw e o)
+    of-kind : (k : ℕ) → T (eqb (h .kind) k) → h ≡ record { kind = k; view = h .view; processor = h .processor; sent = h .sent }
+    of-kind k t = λ i. record { kind = eqb→eq (h .kind) k t i; view = h .view; processor = h .processor; sent = h .sent }
 
 abbrev unknown : Stored → Bool
 unknown (Holds m) = false
 unknown Unknown = true
 
 -- the words are those of the message
-pub stored-holds : (ws : List ℕ) (i : ℕ) (m : Message) → stored ws i ≡ Holds m
-    → (kindAt ws i ≡ kindOf m) × (viewAt ws i ≡ viewIn m) × (processorAt ws i ≡ processorIn m) × (kindOutside (kindAt ws i) ≡ false)
+pub stored-holds : (ws : List ℕ) (i : ℕ) (m : Message) → stored ws i ≡ Holds m → heldAt ws i ≡ heldAs (heldAt ws i .sent) m
 stored-holds ws i m e =
-    by-cond (λ (s : Stored). s ≡ Holds m → Says (kindAt ws i) (viewAt ws i) (processorAt ws i) (Holds m))
-    (ltb i (capacity ws)) (storedAs (kindAt ws i) (viewAt ws i) (processorAt ws i)) Unknown
-    (λ t q. subst (Says (kindAt ws i) (viewAt ws i) (processorAt ws i)) q (says (kindAt ws i) (viewAt ws i) (processorAt ws i)))
-    (λ t q. absurd (subst (λ (s : Stored). T (unknown s)) q tt)) e
+    let h : Held = heldAt ws i in
+    by-cond (λ (s : Stored). s ≡ Holds m → Says h (Holds m)) (ltb i (capacity ws)) (storedAs (h .kind) (h .view) (h .processor)) Unknown
+    (λ t q. subst (Says h) q (says h)) (λ t q. absurd (subst (λ (s : Stored). T (unknown s)) q tt)) e
 
 -- the kind is out of range
-pub stored-unknown : (ws : List ℕ) (i : ℕ) → i < capacity ws → stored ws i ≡ Unknown → kindOutside (kindAt ws i) ≡ true
-stored-unknown ws i l e =
-    subst (Says (kindAt ws i) (viewAt ws i) (processorAt ws i)) (rw (lt-ltb i (capacity ws) l) at e)
-    (says (kindAt ws i) (viewAt ws i) (processorAt ws i))
+pub stored-unknown : (ws : List ℕ) (i : ℕ) → i < capacity ws → stored ws i ≡ Unknown → kindOutside (heldAt ws i .kind) ≡ true
+stored-unknown ws i l e = subst (Says (heldAt ws i)) (rw (lt-ltb i (capacity ws) l) at e) (says (heldAt ws i))

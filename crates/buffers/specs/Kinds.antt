@@ -4,7 +4,7 @@ use mathlib.Core.List.{List}
 use Prim.Native.Nat.{ℕ}
 use lib.Dec.{eqb, ltb}
 use Rattle.types.specs.declared.Message.the-variants.{View, Vote, Vc, Qc}
-use Rattle.model.specs.State.{kindAt, viewAt, processorAt, capacity}
+use Rattle.model.specs.State.{heldAt, capacity}
 use Rattle.buffers.specs.declared.Stored.{Stored}
 use Rattle.buffers.specs.declared.Stored.the-variants.{Holds, Unknown}
 
@@ -18,4 +18,4 @@ storedAs kind w p =
 
 -- message i, where so many fit
 abbrev pub stored : List ℕ → ℕ → Stored
-stored ws i = cond (ltb i (capacity ws)) (storedAs (kindAt ws i) (viewAt ws i) (processorAt ws i)) Unknown
+stored ws i = let h = heldAt ws i in cond (ltb i (capacity ws)) (storedAs (h .kind) (h .view) (h .processor)) Unknown

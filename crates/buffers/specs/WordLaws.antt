@@ -7,8 +7,7 @@ use lib.ListN.{length, take, drop, length-append, length-drop, take-append-drop}
 use lib.Seq.{take-at, drop-at, drop-drop, length-take-le}
 use Rattle.types.specs.declared.Message.{Message}
 use Rattle.types.specs.Quantities.{messageWords}
-use Rattle.types.specs.Messages.{kindOf, viewIn, processorIn}
-use Rattle.model.specs.State.{wordsOf, posted, capacity}
+use Rattle.model.specs.State.{heldAs, heldWords, wordsOf, posted, capacity}
 
 pub length-wordsOf : (now : ℕ) (ms : List Message) → length (wordsOf now ms) ≡ messageWords * length ms
 length-wordsOf now [] = refl
@@ -16,7 +15,7 @@ length-wordsOf now (m ∷ ms) = omega (arith, length-wordsOf now ms)
 
 pub wordsOf-append : (now : ℕ) (a b : List Message) → wordsOf now (a ++ b) ≡ wordsOf now a ++ wordsOf now b
 wordsOf-append now [] b = refl
-wordsOf-append now (m ∷ a) b = ap (λ (l : List ℕ). kindOf m ∷ viewIn m ∷ processorIn m ∷ now ∷ l) (wordsOf-append now a b)
+wordsOf-append now (m ∷ a) b = ap (λ (l : List ℕ). heldWords (heldAs now m) ++ l) (wordsOf-append now a b)
 
 pub posted-none : (ws : List ℕ) (h now : ℕ) → ws ≡ posted ws h now []
 unfolding posted

@@ -7,7 +7,7 @@ ghost use lib.ListN.{length, take, drop};
 ghost use Rattle.base.specs.Scan.{first};
 ghost use Rattle.base.specs.Sets.{member};
 ghost use Rattle.types.specs.Quantities.{messageWords};
-ghost use Rattle.model.specs.State.{capacity, word, added, enteredWord, heardWord, marksWord, markBit, posted, removed, sentAt};
+ghost use Rattle.model.specs.State.{capacity, word, added, enteredWord, heardWord, marksWord, markBit, heldAt, posted, removed};
 ghost use Rattle.model.specs.Checks.{isAt};
 ghost use Rattle.buffers.specs.Tally.{place, addedWord};
 ghost use Rattle.buffers.specs.Network.{appended, found, taken, moved};
@@ -284,7 +284,7 @@ pub fn decode(network: &[u64], i: usize) -> Stored
 
 // When message i was sent; 0 beyond the end.
 pub fn sent(network: &[u64], i: usize) -> u64
-    ensures { λ r. ⌜ r ≡ sentAt (now (network .entry)) i ⌝ }
+    ensures { λ r. ⌜ r ≡ heldAt (now (network .entry)) i .sent ⌝ }
 {
     let room = network.len() / MESSAGE_WORDS;
     if room <= i {

@@ -85,7 +85,7 @@ module _ (s : State) where
   faulty-out = faultyOutside (s .run .plan) (s .run .faulty)
 
   abbrev buffers-out : Bool
-  buffers-out = buffersOutside (s .run .plan) (s .tally) (s .network)
+  buffers-out = buffersOutside s
 
   -- the plan is within its limits
   pub plan-passes : limits ≡ false → plan-out ≡ false

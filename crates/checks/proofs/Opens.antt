@@ -5,7 +5,6 @@ use mathlib.Core.List.{List, [], _∷_}
 use Prim.Native.Nat.{ℕ, zero, suc, _≤_, _<_}
 use native.Mathlib.Omega.{arith}
 use lib.Dec.{T, eqb, ltb, ltb→lt}
-use lib.ListN.{length}
 use borrow.Author.Tests.{eq-eqb, ne-eqb, eqb-true}
 use Rattle.base.specs.Tests.{T-left, T-right}
 use Rattle.base.specs.Choice.{cond-no}
@@ -16,7 +15,7 @@ use Rattle.model.specs.Checks.{Check, judged, nOutside, delaysOutside, viewsOut
 use Rattle.model.specs.Opening.{openingChecks}
 use Rattle.pacemaker.specs.Limits.{planCheck}
 use Rattle.pacemaker.proofs.LimitLaws.{check-passes}
-use Rattle.checks.specs.Setups.{setupCheck}
+use Rattle.checks.specs.Setups.{setupCheck, openingCheck}
 
 -- none of the checks has the number 0
 abbrev pub numbered : List Check → Bool
@@ -38,13 +37,13 @@ by-number {A} refusal (c ∷ cs) a h = go (c .1) (by-number refusal cs a (T-righ
     go false ih = ih
 
 -- check 6 reads the lengths alone
-setup-of : (u : Setup) (s : State) → judged (λ r. r) (openingChecks u s) 0 ≡ setupCheck u (length (s .tally)) (length (s .network))
+setup-of : (u : Setup) (s : State) → judged (λ r. r) (openingChecks u s) 0 ≡ openingCheck u s
 unfolding setupCheck
 setup-of u s = refl
 
 -- an opening, by the number of the first check that refuses
 pub setup-check : (u : Setup) (s : State) (a : After) → judged (refused s) (openingChecks u s) a
-    ≡ cond (eqb (setupCheck u (length (s .tally)) (length (s .network))) 0) a (refused s (setupCheck u (length (s .tally)) (length (s .network))))
+    ≡ cond (eqb (openingCheck u s) 0) a (refused s (openingCheck u s))
 setup-check u s a =
     by-number (refused s) (openingChecks u s) a tt
     ∙ ap (λ (r : ℕ). cond (eqb r 0) a (refused s r)) (setup-of u s)

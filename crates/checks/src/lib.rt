@@ -13,8 +13,7 @@ ghost use lib.ListN.{length, drop};
 ghost use Rattle.base.specs.Count.{bit};
 ghost use Rattle.base.specs.Scan.{some};
 ghost use Rattle.types.specs.Quantities.{nMost, correct, startLimit};
-ghost use Rattle.model.specs.State.{stateOf, runFrom, capacity};
-ghost use Rattle.types.specs.Messages.{kindOf, viewIn, processorIn};
+ghost use Rattle.model.specs.State.{stateOf, runFrom, heldAs, capacity};
 ghost use Rattle.model.specs.Checks.{planOutside, faultyOutside, lengthsOutside, clockOutside, outsideAt, heldUnsound, messageUnsound, someNonZero, startTooHigh, supporting, aloneAt, tooFarAhead};
 ghost use Rattle.pacemaker.specs.Limits.{Within};
 ghost use Rattle.checks.specs.Scans.{flying, nonZeroFrom, turnWords};
@@ -115,7 +114,7 @@ fn clocks_unsound(plan: Plan, faulty: u64, clocks: &[u64], views: &[u64]) -> boo
 // Whether the message names too much, is for no correct processor or was sent later than now.
 fn held_unsound(plan: Plan, faulty: u64, time: u64, message: Message, sent: u64) -> bool
     requires { ⌜ Within plan ⌝ }
-    ensures { λ r. ⌜ r ≡ heldUnsound plan faulty time (kindOf message) (viewIn message) (processorIn message) sent ⌝ }
+    ensures { λ r. ⌜ r ≡ heldUnsound plan faulty time (heldAs sent message) ⌝ }
 {
     if plan.views <= message.view() {
         return true;

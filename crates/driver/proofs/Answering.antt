@@ -14,6 +14,9 @@ use borrow.Author.Tests.{le-ltb, ltb-false}
 use Rattle.lines.proofs.Read as ReadType
 use Rattle.lines.proofs.Next as NextType
 use Rattle.base.specs.Choice.{cond-no}
+use Rattle.types.specs.declared.Run.{Run}
+use Rattle.types.specs.declared.Answer.{Answer}
+use Rattle.types.specs.declared.Answer.the-variants.{Refused}
 use Rattle.types.specs.declared.Setup.{Setup}
 use Rattle.types.specs.declared.Head.{Head}
 use Rattle.model.specs.State.{State, After, stateOf, runFrom}
@@ -26,18 +29,18 @@ use Rattle.lines.specs.declared.Read.{Read}
 use Rattle.lines.specs.declared.Read.the-variants as Read
 use Rattle.lines.specs.declared.Next.{Next}
 use Rattle.lines.specs.declared.Next.the-variants.{Line, Unfinished}
-use Rattle.lines.specs.declared.Reading.{Reading}
-use Rattle.lines.specs.Contracts.{noSetup, line, Put}
+use Rattle.lines.specs.Contracts.{Reading, noSetup, line, Put}
 use Rattle.lines.specs.Printout.{answerForm, printedMost}
 use Rattle.lines.specs.Splitting.{nextLine}
-use Rattle.reader.specs.Lines.{reading}
+use Rattle.reader.specs.Lines.{reading, skimmed, openingOr}
+use Rattle.reader.proofs.Skimming.{no-opening, some-opening, skims-opening, skims-plain}
 use Rattle.printout.specs.declared.Served.{Served}
 use Rattle.printout.specs.Printout.{Standing, leaving, Reply, staysOpen, openingReply, readReply, reply, lineReply, printedLine}
 use Rattle.printout.specs.Contracts.{placeAt, Advance, Begun, fed}
 use Rattle.driver.specs.Inner.{sessionFrom, replying, Passes, dueLine, NotDue, Turns}
 use Rattle.driver.specs.Batches.{readNumbers, gathered, NoOpening, replied, Gathers, worded, wordsAnswered, printedUpTo, advanced}
 use Rattle.driver.proofs.Serving.{turn-passed}
-use Rattle.driver.proofs.Gathering.{no-setup, plain-read}
+use Rattle.driver.proofs.Gathering.{plain-read}
 use Rattle.driver.proofs.Batching.{batched}
 
 -- ---- what the simulator left, and what was printed
@@ -57,18 +60,24 @@ batch-passes opened k ws s out head clocks views tally network ws' p after e l w
       (subst (λ (z : ℕ). Put (printedUpTo opened ws' z) out p after) (ap (λ (z : ℕ). z / eventWords) l) w);
 }
 
+-- of a line that may be an opening, and is none
+pub none-passes : (opened : Bool) (k : ℕ) (u : Setup) (out : List ℕ) (run : Run) (tally network : List ℕ) (p : ℕ) (after : List ℕ)
+    → u .plan .n ≡ 0 → Put (line (answerForm (Refused 1))) out p after
+    → Passes k (replying (reply (openingOr u) (leaving opened (stateOf run tally network)))) out tally network
+    (record { session = record { opened = opened; run = run }; late = false; used = k; printed = p }) after
+none-passes opened k u out run tally network p after h w = rw (no-opening u h) (record { used = refl; late = refl; state = refl; put = w })
+
 -- of an opening
-pub opening-passes : (opened : Bool) (k : ℕ) (u : Setup) (s : State) (out : List ℕ) (o : Bool) (a : After) (p : ℕ) (after : List ℕ)
-    → a ≡ opening u s → o ≡ staysOpen opened (a .answer) → Put (line (answerForm (a .answer))) out p after
-    → Passes k (replying (openingReply u (leaving opened s))) out (a .state .tally) (a .state .network)
-    (record { session = record { opened = o; run = a .state .run }; late = false; used = k; printed = p }) after
+pub opening-passes : (opened : Bool) (k : ℕ) (u : Setup) (s : State) (out : List ℕ) (o : Bool) (run : Run) (tally network : List ℕ) (answer : Answer) (p : ℕ) (after : List ℕ)
+    → u .plan .n ≢ 0 → record { state = stateOf run tally network; answer = answer } ≡ opening u s → o ≡ staysOpen opened answer → Put (line (answerForm answer)) out p after
+    → Passes k (replying (reply (openingOr u) (leaving opened s))) out tally network (record { session = record { opened = o; run = run }; late = false; used = k; printed = p }) after
 unfolding openingReply
-opening-passes opened k u s out o a p after e q w = record {
+opening-passes opened k u s out o run tally network answer p after some e q w = rw (some-opening u some) (record {
   used = refl;
   late = refl;
-  state = rw (q, e) refl;
+  state = ap (λ (b : Bool). leaving b (stateOf run tally network)) q ∙ ap (λ (a : After). leaving (staysOpen opened (a .answer)) (a .state)) e;
   put = subst (λ (z : After). Put (line (answerForm (z .answer))) out p after) e w;
-}
+})
 
 -- ---- a line by itself
 
@@ -76,28 +85,27 @@ opening-passes opened k u s out o a p after e q w = record {
 passes-as : (k : ℕ) (f g : Advance) (out tally network : List ℕ) (r : Served) (after : List ℕ) → f ≡ g → Passes k f out tally network r after → Passes k g out tally network r after
 passes-as k f g out tally network r after e p = subst (λ (z : Advance). Passes k z out tally network r after) e p
 
-pub line-opened : (k : ℕ) (s : List ℕ) (x : Standing) (a : Reading) (out tally network : List ℕ) (r : Served) (after : List ℕ) → a ≡ reading s → a .read ≡ Read.Opening
-    → Passes k (replying (openingReply (a .setup) x)) out tally network r after → Passes k (replying (lineReply s x)) out tally network r after
-line-opened k s x a out tally network r after h q p =
-    passes-as k _ _ out tally network r after
-    (ap replying (ap (λ (z : Read). readReply z (a .setup) x) (sym q) ∙ ap (λ (z : Reading). reply z x) h)) p
+pub line-opened : (k : ℕ) (s : List ℕ) (x : Standing) (a : Read) (u : Setup) (out tally network : List ℕ) (r : Served) (after : List ℕ) → a ≡ skimmed s → a ≡ Read.Opening
+    → u ≡ reading s .setup → Passes k (replying (reply (openingOr u) x)) out tally network r after → Passes k (replying (lineReply s x)) out tally network r after
+line-opened k s x a u out tally network r after h q v p =
+    passes-as k _ _ out tally network r after (ap (λ (z : Reading). replying (reply z x)) (skims-opening s a u h q v)) p
 
 -- four words of one line
 one-replied : (r : Read) (x : Standing) → replied (r ∷ []) x ≡ replying (readReply r noSetup x)
 one-replied r x = let y : Reply = readReply r noSetup x in
     ap (λ (t : List ℕ). record { place = placeAt (y .standing) []; text = t }) (append-nil (printedLine y))
 
-pub line-batched : (n : ℕ) (s : List ℕ) (opened : Bool) (st : State) (a : Reading) (k : Numbers) (ws out tally network : List ℕ) (r : Served) (after : List ℕ) → a ≡ reading s
-    → OneOf (0 ∷ 2 ∷ []) (tagOf ReadType.the-type (a .read)) → k ≡ readNumbers (a .read) → ws ≡ numbersPut (0 ∷ 0 ∷ 0 ∷ 0 ∷ []) 0 k
+pub line-batched : (n : ℕ) (s : List ℕ) (opened : Bool) (st : State) (a : Read) (k : Numbers) (ws out tally network : List ℕ) (r : Served) (after : List ℕ) → a ≡ skimmed s
+    → OneOf (0 ∷ 2 ∷ []) (tagOf ReadType.the-type a) → k ≡ readNumbers a → ws ≡ numbersPut (0 ∷ 0 ∷ 0 ∷ 0 ∷ []) 0 k
     → Passes n (advanced opened (eventsIn ws) (wordsAnswered opened ws st)) out tally network r after → Passes n (replying (lineReply s (leaving opened st))) out tally network r after
 line-batched n s opened st a k ws out tally network r after h o q w p =
     let x : Standing = leaving opened st in
-    let plain : NoOpening (a .read ∷ []) = plain-read (a .read) o in
+    let plain : NoOpening (a ∷ []) = plain-read a o in
     passes-as n _ _ out tally network r after
     (ap (λ (z : List ℕ). advanced opened (eventsIn z) (wordsAnswered opened z st))
     (w ∙ four-numbers k ∙ ap (λ (z : Numbers). z .form ∷ z .kind ∷ z .view ∷ z .processor ∷ []) q)
-    ∙ sym (batched (a .read ∷ []) opened st plain) ∙ one-replied (a .read) x
-    ∙ ap replying (sym (no-setup (a .read) (a .setup) x plain) ∙ ap (λ (z : Reading). reply z x) h)) p
+    ∙ sym (batched (a ∷ []) opened st plain) ∙ one-replied a x
+    ∙ ap (λ (z : Reading). replying (reply z x)) (skims-plain s a h o)) p
 
 -- ---- which line is next
 

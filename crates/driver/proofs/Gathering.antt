@@ -1,6 +1,6 @@
 -- Lines gathered as words, one after the other. Assumes nothing.
-use mathlib.Core.Path.{_≡_, refl, sym, ap, ap₂, _∙_, subst}
-use mathlib.Core.Logic.{_≢_, _⊎_, ⊎-elim}
+use mathlib.Core.Path.{_≡_, refl, sym, ap, ap₂, _∙_}
+use mathlib.Core.Logic.{_≢_}
 use mathlib.Core.List.{List, [], _∷_, _++_, append-assoc, append-nil}
 use Prim.Native.Nat.{ℕ, _+_, _-_, _≤_, _<_}
 use native.Mathlib.Omega.{arith}
@@ -14,16 +14,16 @@ use Rattle.lines.specs.declared.Read.{Read}
 use Rattle.lines.specs.declared.Read.the-variants as Read
 use Rattle.lines.specs.declared.Next.{Next}
 use Rattle.lines.specs.declared.Next.the-variants.{Line}
-use Rattle.types.specs.declared.Setup.{Setup}
-use Rattle.lines.specs.Contracts.{noSetup}
+use Rattle.lines.specs.Contracts.{Reading, noSetup}
 use Rattle.lines.specs.Splitting.{nextLine}
 use Rattle.lines.proofs.Splitting.{line-inside}
 use Rattle.lines.proofs.Putting.{left-over, rest-lent}
-use Rattle.reader.specs.Lines.{reading, skimmed, skimmed-read}
+use Rattle.reader.specs.Lines.{skimmed}
+use Rattle.reader.proofs.Skimming.{skims-plain}
 use Rattle.words.specs.declared.Numbers.{Numbers}
 use Rattle.words.specs.Events.{eventsIn, fourNumbers, numbersPut}
 use Rattle.words.proofs.Turning.{put-parts}
-use Rattle.printout.specs.Printout.{Standing, Reply, readReply, printedLine}
+use Rattle.printout.specs.Printout.{Standing, Reply, readReply, reply, printedLine}
 use Rattle.printout.specs.Contracts.{Place, placeAt, Advance, behind, fed}
 use Rattle.printout.proofs.Feeding.{fed-append}
 use Rattle.driver.specs.declared.Noted.{Noted}
@@ -32,18 +32,6 @@ use Rattle.driver.specs.Batches.{readNumbers, gathered, NoOpening, repli
 use Rattle.driver.proofs.Serving.{fed-read}
 
 -- ---- one line
-
--- nothing stands beside a line that is no opening
-pub no-setup : (r : Read) (u : Setup) (x : Standing) → NoOpening (r ∷ []) → readReply r u x ≡ readReply r noSetup x
-no-setup (Read.Event e) u x plain = refl
-no-setup Read.Opening u x plain = absurd plain
-no-setup Read.NoForm u x plain = refl
-
-line-fed : (s : List ℕ) (e : ℕ) (r : Read) (x : Standing) → nextLine s ≡ Line e → reading (take e s) .read ≡ r → NoOpening (r ∷ [])
-    → fed (placeAt x []) (take (e + 1) s) ≡ replying (readReply r noSetup x)
-line-fed s e r x q h plain =
-    fed-read x s (nextLine s) e refl q [] refl
-    ∙ ap replying (ap (λ (z : Read). readReply z (reading (take e s) .setup) x) h ∙ no-setup r (reading (take e s) .setup) x plain)
 
 -- which variants are left
 pub plain-read : (r : Read) → OneOf (0 ∷ 2 ∷ []) (tagOf the-type r) → NoOpening (r ∷ [])
@@ -60,15 +48,12 @@ unread Read.NoForm o = refl
 pub noted : (s : List ℕ) (n : Next) (e : ℕ) (r : Read) (k : Numbers) → n ≡ nextLine s → n ≡ Line e → r ≡ skimmed (take e s)
     → OneOf (0 ∷ 2 ∷ []) (tagOf the-type r) → k ≡ readNumbers r → Notes s (record { used = e + 1; numbers = k })
 noted s n e r k q p z o h =
-    let plain : NoOpening (r ∷ []) = plain-read r o in
-    let is : reading (take e s) .read ≡ r = ⊎-elim (λ (y : skimmed (take e s) ≡ Read.Opening). absurd (subst (λ (x : Read). NoOpening (x ∷ [])) (z ∙ y) plain))
-    (λ (y : skimmed (take e s) ≡ reading (take e s) .read). sym (z ∙ y)) (skimmed-read (take e s)) in
     record {
       within = omega (arith, line-inside s n e q p);
       read = r;
-      plain = plain;
+      plain = plain-read r o;
       numbers = h;
-      feeds = λ x. line-fed s e r x (sym q ∙ p) is plain;
+      feeds = λ x. fed-read x s (nextLine s) e refl (sym q ∙ p) [] refl ∙ ap (λ (y : Reading). replying (reply y x)) (sym (skims-plain (take e s) r z o));
     }
 
 -- ---- one line more

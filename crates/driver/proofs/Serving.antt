@@ -2,7 +2,7 @@
 use mathlib.Core.Path.{_≡_, refl, sym, ap, _∙_, subst}
 use mathlib.Core.Logic.{_⊎_}
 use mathlib.Core.Bool.{Bool, true, false}
-use Prim.Native.Nat.{ℕ, _+_, _-_, _≤_, _<_}
+use Prim.Native.Nat.{ℕ, _+_, _≤_, _<_}
 use native.Mathlib.Omega.{arith}
 use native.Mathlib.Numerals.{add-one}
 use mathlib.Core.List.{List, [], _++_}
@@ -12,12 +12,11 @@ use borrow.Author.Tests.{le-leb, lt-leb}
 use Rattle.base.specs.Choice.{cond-yes, cond-no}
 use Rattle.lines.specs.declared.Next.{Next}
 use Rattle.lines.specs.declared.Next.the-variants.{Line, Long, Unfinished, Endless}
-use Rattle.lines.specs.declared.Reading.{Reading}
 use Rattle.lines.specs.Printout.{printedMost}
 use Rattle.lines.specs.Splitting.{lineMost, beforeNewline, nextLine}
 use Rattle.lines.proofs.Splitting.{found}
 use Rattle.lines.proofs.Putting.{put-none, put-then, put-inside}
-use Rattle.lines.specs.Contracts.{Put}
+use Rattle.lines.specs.Contracts.{Reading, Put}
 use Rattle.printout.specs.declared.Session.{Session}
 use Rattle.printout.specs.declared.Served.{Served}
 use Rattle.printout.specs.Printout.{Standing, standingOf, reply, refusedReply, lineReply}

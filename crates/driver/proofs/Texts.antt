@@ -14,7 +14,7 @@ use Rattle.types.specs.declared.Answer.{Answer}
 use Rattle.types.specs.declared.Answer.the-variants as Answer
 use Rattle.types.specs.declared.Run.{Run}
 use Rattle.types.specs.Quantities.{tableClocks}
-use Rattle.model.specs.State.{isCorrect, viewOf, clockOf}
+use Rattle.model.specs.State.{State, withRun, isCorrect, viewOf, clockOf}
 use Rattle.lines.specs.declared.Written.the-variants.{Bytes, Refused}
 use Rattle.lines.specs.Contracts.{line, Put}
 use Rattle.lines.specs.Printout.{answerForm, processorForm, printedMost}
@@ -23,7 +23,7 @@ use Rattle.lines.proofs.Printing.{answer-length, processor-length}
 use Rattle.lines.proofs.Putting.{left-over, put-inside, put-none, put-part, too-few, put-prints}
 use Rattle.printout.specs.declared.Session.{Session}
 use Rattle.printout.specs.declared.Served.{Served}
-use Rattle.printout.specs.Printout.{Standing, standingOf, lineReply, printedLine, processorLines, closing, printedFrom}
+use Rattle.printout.specs.Printout.{Standing, leaving, standingOf, lineReply, printedLine, processorLines, closing, printedFrom}
 use Rattle.printout.specs.Contracts.{AnswersLine, Begun, closingMost, Closes}
 use Rattle.driver.specs.Inner.{replying, Passes}
 
@@ -102,12 +102,12 @@ module _ {run : Run} {out : List ℕ} {p at : ℕ} {e : List ℕ} (t : Told (pro
 abbrev pub leftText : Bool → List ℕ
 leftText t = cond t (line (answerForm (Answer.Refused 1))) []
 
-pub closing-text : (s : Session) (tally network begun : List ℕ) (late : Bool) (rest : List ℕ) → Begun late begun
-    → printedFrom (standingOf s tally network) (remainder (begun ++ rest)) ≡ leftText (late || ltb 0 (length rest)) ++ closing s
-closing-text s tally network [] true rest b = absurd (omega arith)
-closing-text s tally network (c ∷ begun) true rest b = refl
-closing-text s tally network begun false [] b = rw b refl
-closing-text s tally network begun false (c ∷ rest) b = let l : 0 < length (c ∷ rest) = omega arith in let h : ltb 0 (length (c ∷ rest)) ≡ true = lt-ltb _ _ l in rw (b, h) refl
+pub closing-text : (s : Session) (x : State) (begun : List ℕ) (late : Bool) (rest : List ℕ) → Begun late begun
+    → printedFrom (leaving (s .opened) (withRun (s .run) x)) (remainder (begun ++ rest)) ≡ leftText (late || ltb 0 (length rest)) ++ closing s
+closing-text s x [] true rest b = absurd (omega arith)
+closing-text s x (c ∷ begun) true rest b = refl
+closing-text s x begun false [] b = rw b refl
+closing-text s x begun false (c ∷ rest) b = let l : 0 < length (c ∷ rest) = omega arith in let h : ltb 0 (length (c ∷ rest)) ≡ true = lt-ltb _ _ l in rw (b, h) refl
 
 -- ---- one line
 
@@ -149,11 +149,11 @@ closing-fits t out k e words m f p h l q n =
     omega (arith, left-inside t out k e p h l, left-over k e, put-inside words (midOf k (length e - k) e) m f q n)
 
 pub closes-few : (s : Session) (late : Bool) (rest out : List ℕ) → length out < closingMost → Closes s late rest out (Refused 1) out
-closes-few s late rest out h tally network begun b = too-few closingMost (printedFrom (standingOf s tally network) (remainder (begun ++ rest))) out h
+closes-few s late rest out h x begun b = too-few closingMost (printedFrom (leaving (s .opened) (withRun (s .run) x)) (remainder (begun ++ rest))) out h
 
 pub closes : (s : Session) (late : Bool) (rest out : List ℕ) (k : ℕ) (e : List ℕ) (m : ℕ) (f : List ℕ) → closingMost ≤ length out
     → Put (leftText (late || ltb 0 (length rest))) out k e → k ≤ length e → Put (closing s) (midOf k (length e - k) e) m f
     → Closes s late rest out (Bytes (k + m)) (putMid k (length e - k) e f)
-closes s late rest out k e m f h p l q tally network begun b =
-    put-prints closingMost (printedFrom (standingOf s tally network) (remainder (begun ++ rest))) out (k + m) (putMid k (length e - k) e f) h
-    (subst (λ (w : List ℕ). Put w out (k + m) (putMid k (length e - k) e f)) (sym (closing-text s tally network begun late rest b)) (put-part p l q))
+closes s late rest out k e m f h p l q x begun b =
+    put-prints closingMost (printedFrom (leaving (s .opened) (withRun (s .run) x)) (remainder (begun ++ rest))) out (k + m) (putMid k (length e - k) e f) h
+    (subst (λ (w : List ℕ). Put w out (k + m) (putMid k (length e - k) e f)) (sym (closing-text s x begun late rest b)) (put-part p l q))

@@ -12,7 +12,8 @@ ghost use lib.ListN.{length};
 ghost use Rattle.model.specs.State.{stateOf, runFrom};
 ghost use Rattle.words.specs.Events.{eventsIn};
 ghost use Rattle.lines.specs.Printout.{printedMost};
-ghost use Rattle.printout.specs.Printout.{staysOpen, openingReply, lineReply};
+ghost use Rattle.reader.specs.Lines.{openingOr};
+ghost use Rattle.printout.specs.Printout.{staysOpen, reply, lineReply};
 ghost use Rattle.driver.specs.Inner.{standingFrom, servedAs, replying, Passes};
 ghost use Rattle.driver.specs.Batches.{wordsAnswered, advanced};
 
@@ -57,7 +58,7 @@ fn stays_open(opened: bool, answer: Answer) -> bool
     }
 }
 
-// An opening.
+// A line that begins as an opening: it is one, unless its setup has no processors.
 fn answer_opening(
     opened: bool,
     head: Head,
@@ -71,9 +72,18 @@ fn answer_opening(
 ) -> Turned
     requires { ⌜ printedMost ≤ length (now out) ⌝ }
     ensures { λ r. ⌜ Passes used
-        (replying (openingReply setup (standingFrom opened head (now (clocks .entry)) (now (views .entry)) (now (tally .entry)) (now (network .entry))))) (now (out .entry))
+        (replying (reply (openingOr setup) (standingFrom opened head (now (clocks .entry)) (now (views .entry)) (now (tally .entry)) (now (network .entry))))) (now (out .entry))
         (now (tally .exit)) (now (network .exit)) (servedAs r (now (clocks .exit)) (now (views .exit))) (now (out .exit)) ⌝ }
 {
+    if setup.plan.n == 0 {
+        return Turned {
+            opened: opened,
+            head: head,
+            late: false,
+            used: used,
+            printed: printing::print_answer(Answer::Refused(1), out),
+        };
+    }
     let outcome = simulator::open_lent(head, setup, clocks, views, tally, network);
     let next = outcome.head;
     let answer = outcome.answer;
@@ -103,15 +113,13 @@ pub(crate) fn answer_whole(
         (now (tally .exit)) (now (network .exit)) (servedAs r (now (clocks .exit)) (now (views .exit))) (now (out .exit)) ⌝ }
 {
     let used = line.len() + 1;
-    let reading = reader::read_line(line);
-    let read = reading.read;
+    let read = reader::skim_line(line);
     if let Read::Opening = read {
-        let setup = reading.setup;
         return answer_opening(
             opened,
             head,
             used,
-            setup,
+            reader::read_setup(line),
             clocks,
             views,
             tally,

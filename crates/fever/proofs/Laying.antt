@@ -1,18 +1,24 @@
 -- The words of a run and of what was read, written piece by piece. Assumes nothing.
-use mathlib.Core.Path.{_≡_, refl, ap, ap₂, _∙_}
+use mathlib.Core.Path.{_≡_, refl, sym, ap, ap₂, _∙_}
+use mathlib.Core.Logic.{_≢_}
 use mathlib.Core.List.{List, [], _∷_, _++_}
 use Prim.Native.Nat.{ℕ, _+_, _≤_}
 use native.Mathlib.Omega.{arith}
 use lib.ListN.{length, drop, length-append}
+use Rattle.types.specs.declared.Event.{Event}
 use Rattle.types.specs.declared.Run.{Run}
 use Rattle.types.specs.declared.Setup.{Setup}
 use Rattle.types.specs.Quantities.{tableClocks}
-use Rattle.lines.specs.declared.Reading.{Reading}
+use Rattle.lines.specs.Contracts.{Reading, noSetup, eventReading, readCheck}
+use Rattle.reader.specs.Lines.{openingOr}
+use Rattle.reader.proofs.Skimming.{no-opening, some-opening}
 use Rattle.writer.specs.Stamps.{stamp, Room, Stamped}
 use Rattle.writer.proofs.Stamping.{room-second, written-then}
 use Rattle.words.specs.declared.Numbers.{Numbers}
-use Rattle.types.specs.Runs.{settledAs}
-use Rattle.fever.specs.Layout.{clocksWord, runLength, runNumbers, sumWords, runOver, readingLength, readNumbers, readingWords}
+use Rattle.words.specs.Events.{eventNumbers}
+use Rattle.types.specs.Runs.{settledAs, planNumbers}
+use Rattle.fever.specs.Layout.{clocksWord, runLength, runNumbers, sumWords, runOver, setupWords, readingLength}
+use Rattle.fever.specs.Contracts.{readingLeft}
 
 -- words from the first on
 pub laid : (d e w : List ℕ) (b n : ℕ) → length w ≡ n → Stamped d 0 w b e → e ≡ w ++ drop n d
@@ -64,12 +70,21 @@ module _ (numbers clocks d : List ℕ) (nine : length numbers ≡ clocksWord) (c
   table-laid : (e f : List ℕ) (a b : ℕ) → Stamped d 0 numbers a e → Stamped e a clocks b f → f ≡ numbers ++ clocks ++ drop readingLength d
   table-laid e f a b x y = laid d f (numbers ++ clocks) b readingLength reading-length (written-then clocks x (λ r. y) reading-room)
 
--- the numbers before the clocks
-abbrev headingWith : Numbers → Setup → List ℕ
-headingWith k u = k .form ∷ k .kind ∷ k .view ∷ k .processor ∷ u .plan .n ∷ u .plan .delta ∷ u .plan .gamma ∷ u .plan .views ∷ u .faulty ∷ []
+-- of a line that may be an opening, and is none, or is one
+pub none-laid : (u : Setup) (d : List ℕ) → u .plan .n ≡ 0 → (1 ≡ readCheck (openingOr u .read)) × (d ≡ readingLeft d (openingOr u))
+none-laid u d h = (ap (λ (x : Reading). readCheck (x .read)) (sym (no-opening u h)), ap (readingLeft d) (sym (no-opening u h)))
 
-pub reading-laid : (x : Reading) (k : Numbers) (d e f : List ℕ) (a b : ℕ) → length (x .setup .clocks) ≡ tableClocks → readingLength ≤ length d → k ≡ readNumbers (x .read)
-    → Stamped d 0 (headingWith k (x .setup)) a e → Stamped e a (x .setup .clocks) b f → f ≡ readingWords x ++ drop readingLength d
-reading-laid x k d e f a b c fits q y z =
-    table-laid (headingWith k (x .setup)) (x .setup .clocks) d refl c fits e f a b y z
-    ∙ ap (λ (n : Numbers). headingWith n (x .setup) ++ x .setup .clocks ++ drop readingLength d) q
+pub setup-laid : (u : Setup) (d e f : List ℕ) (a b : ℕ) → u .plan .n ≢ 0 → length (u .clocks) ≡ tableClocks → readingLength ≤ length d
+    → Stamped d 0 (6 ∷ 0 ∷ 0 ∷ 0 ∷ planNumbers (u .plan) ++ (u .faulty ∷ [])) a e → Stamped e a (u .clocks) b f
+    → (0 ≡ readCheck (openingOr u .read)) × (f ≡ readingLeft d (openingOr u))
+setup-laid u d e f a b some c fits y z = (
+  ap (λ (x : Reading). readCheck (x .read)) (sym (some-opening u some)),
+  table-laid (6 ∷ 0 ∷ 0 ∷ 0 ∷ planNumbers (u .plan) ++ (u .faulty ∷ [])) (u .clocks) d refl c fits e f a b y z ∙ ap (readingLeft d) (sym (some-opening u some)),
+)
+
+-- of an event: zeros behind its four numbers
+pub event-laid : (v : Event) (k : Numbers) (d e : List ℕ) (b : ℕ) → k ≡ eventNumbers v
+    → Stamped d 0 (k .form ∷ k .kind ∷ k .view ∷ k .processor ∷ setupWords noSetup) b e → e ≡ readingLeft d (eventReading v)
+event-laid v k d e b q x =
+    laid d e (k .form ∷ k .kind ∷ k .view ∷ k .processor ∷ setupWords noSetup) b readingLength refl x
+    ∙ ap (λ (n : Numbers). n .form ∷ n .kind ∷ n .view ∷ n .processor ∷ setupWords noSetup ++ drop readingLength d) q

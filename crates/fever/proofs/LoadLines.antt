@@ -16,9 +16,8 @@ use Rattle.model.specs.Lists.{after}
 use Rattle.liveness.proofs.Answers.{no-yes}
 use Rattle.liveness.proofs.Judging.{by-applied}
 use Rattle.liveness.proofs.Soundness.{SoundRun, sound-of}
-use Rattle.lines.specs.declared.Reading.{Reading}
 use Rattle.lines.specs.Forms.{newline, eventForm}
-use Rattle.lines.specs.Contracts.{eventReading, line}
+use Rattle.lines.specs.Contracts.{Reading, eventReading, line}
 use Rattle.lines.specs.Promises.{scheduleOf}
 use Rattle.reader.specs.Lines.{reading}
 use Rattle.reader.proofs.RoundTrip.{reading-reads}

@@ -2,23 +2,25 @@
 use mathlib.Core.Path.{_≡_, refl, sym, ap, _∙_, subst}
 use mathlib.Core.Bool.{Bool, true}
 use mathlib.Core.Logic.{_⊎_, inl, inr, _≢_}
-use mathlib.Core.List.{List, [], _∷_, _++_}
+use mathlib.Core.List.{List, [], _∷_}
 use Prim.Native.Nat.{ℕ, _<_, _≤_}
 use native.Mathlib.Omega.{arith}
-use lib.ListN.{length, drop, length-append}
-use borrow.Author.Tests.{lt-ltb, le-ltb, eq-eqb, ne-eqb}
+use lib.ListN.{length, length-append}
+use borrow.Author.Tests.{lt-ltb, le-ltb, ne-eqb}
 use Rattle.base.specs.Choice.{cond-yes, cond-no}
 use Rattle.base.specs.Tests.{eq?, by-cond}
 use Rattle.types.specs.declared.Event.{Event}
 use Rattle.types.specs.declared.Setup.{Setup}
 use Rattle.types.specs.Messages.{lacksForm}
-use Rattle.lines.specs.declared.Reading.{Reading}
+use Rattle.lines.specs.declared.Read.{Read}
+use Rattle.lines.specs.declared.Read.the-variants as Read
 use Rattle.lines.specs.declared.Written.{Written}
 use Rattle.lines.specs.declared.Written.the-variants.{Bytes, Refused}
 use Rattle.lines.specs.Forms.{newline, eventForm, setupForm, lacksSetupForm}
-use Rattle.lines.specs.Contracts.{readCheck, line, notWritten, writtenAs, writtenIn, Writes, writtenCheck}
-use Rattle.reader.specs.Lines.{reading}
-use Rattle.fever.specs.Layout.{setupLength, setupIn, readingLength, readingWords}
+use Rattle.lines.specs.Contracts.{Reading, eventReading, noForm, readCheck, line, notWritten, writtenAs, writtenIn, Writes, writtenCheck}
+use Rattle.reader.specs.Lines.{reading, skimmed}
+use Rattle.reader.proofs.Skimming.{skims-plain}
+use Rattle.fever.specs.Layout.{setupLength, setupIn, readingLength}
 use Rattle.fever.specs.Contracts.{readingLeft, ReadsWords, writtenBy, StandsFor, WritesLine, WritesEvent, WritesSetup}
 use Rattle.fever.specs.Promises.{BytesTell, BytesTold}
 
@@ -28,22 +30,20 @@ pub reads-short : (line d : List ℕ) → length d < readingLength → ReadsWord
 reads-short line d l =
     record { check = cond-yes _ _ _ _ (lt-ltb (length d) readingLength l) refl; words = cond-yes _ _ _ _ (lt-ltb (length d) readingLength l) refl }
 
--- a line that is one of the forms, or none
-reads : (line d : List ℕ) (x : Reading) (r : ℕ) (e : List ℕ) → readingLength ≤ length d → x ≡ reading line → r ≡ readCheck (x .read) → e ≡ readingLeft d x → ReadsWords line d r e
-reads line d x r e l h k q =
+-- enough are lent: by what the line is skimmed as, and its setup
+pub reads-line : (line d : List ℕ) (x : Reading) (r : ℕ) (e : List ℕ) → readingLength ≤ length d → x ≡ reading line → r ≡ readCheck (x .read) → e ≡ readingLeft d x
+    → ReadsWords line d r e
+reads-line line d x r e l h k q =
     record {
       check = cond-no _ _ _ _ (le-ltb (length d) readingLength l) (k ∙ ap (λ (y : Reading). readCheck (y .read)) h);
       words = cond-no _ _ _ _ (le-ltb (length d) readingLength l) (q ∙ ap (readingLeft d) h);
     }
 
-pub reads-form : (line d : List ℕ) (x : Reading) (r : ℕ) (e : List ℕ) → readingLength ≤ length d → x ≡ reading line → readCheck (x .read) ≡ 0 → r ≡ 0
-    → e ≡ readingWords x ++ drop readingLength d → ReadsWords line d r e
-reads-form line d x r e l h k z q = reads line d x r e l h (z ∙ sym k) (cond-yes _ _ _ _ (eq-eqb (readCheck (x .read)) 0 k) q)
+pub reads-event : (line : List ℕ) (a : Read) (v : Event) → a ≡ skimmed line → a ≡ Read.Event v → eventReading v ≡ reading line
+reads-event line a v h q = skims-plain line (Read.Event v) (sym q ∙ h) (inl refl)
 
-pub reads-none : (line d : List ℕ) (x : Reading) → readingLength ≤ length d → x ≡ reading line → readCheck (x .read) ≡ 1 → ReadsWords line d 1 d
-reads-none line d x l h k =
-    let none : readCheck (x .read) ≡ 0 → ⊥ = λ z. absurd (omega arith) in
-    reads line d x 1 d l h (sym k) (cond-no _ _ _ _ (ne-eqb (readCheck (x .read)) 0 none) refl)
+pub reads-none : (line : List ℕ) (a : Read) → a ≡ skimmed line → a ≡ Read.NoForm → noForm ≡ reading line
+reads-none line a h q = skims-plain line Read.NoForm (sym q ∙ h) (inr refl)
 
 -- ---- writing
 

@@ -18,11 +18,10 @@ use Rattle.model.specs.State.{State, After, stateOf, checkOf, accepted}
 use Rattle.model.specs.Opening.{opening}
 use Rattle.model.specs.Events.{applied}
 use Rattle.model.specs.Processors.{Moved, refusing, stepped}
-use Rattle.lines.specs.declared.Reading.{Reading}
 use Rattle.lines.specs.declared.Written.{Written}
 use Rattle.lines.specs.declared.Written.the-variants.{Bytes, Refused}
 use Rattle.lines.specs.Forms.{eventForm, setupForm, lacksSetupForm}
-use Rattle.lines.specs.Contracts.{readCheck, writtenAs, writtenIn}
+use Rattle.lines.specs.Contracts.{Reading, readCheck, writtenAs, writtenIn}
 use Rattle.reader.specs.Lines.{reading}
 use Rattle.words.specs.Events.{eventOf}
 use Rattle.words.specs.Batches.{Worded, wordsApplied}

@@ -5,26 +5,22 @@ use mathlib.Core.List.{List, [], _∷_, _++_}
 use Prim.Native.Nat.{ℕ, _+_}
 use lib.Dec.{eqb, ltb}
 use lib.ListN.{getD, take, drop}
-use Rattle.types.specs.declared.Plan.{Plan}
 use Rattle.types.specs.declared.Setup.{Setup}
 use Rattle.types.specs.declared.Run.{Run}
 use Rattle.types.specs.declared.Counts.{Counts}
 use Rattle.types.specs.declared.Traffic.{Traffic}
 use Rattle.types.specs.declared.Processor.{Processor}
 use Rattle.types.specs.Quantities.{tableClocks}
-use Rattle.types.specs.Runs.{settledAs}
+use Rattle.types.specs.Runs.{settledAs, planNumbers, planIn}
 use Rattle.types.specs.Traffic.{countsOf, trafficOf, countNumbers}
 use Rattle.model.specs.State.{runOf}
 use Rattle.lines.specs.declared.Read.{Read}
 use Rattle.lines.specs.declared.Read.the-variants as Read
-use Rattle.lines.specs.declared.Reading.{Reading}
+use Rattle.lines.specs.Contracts.{Reading}
 use Rattle.words.specs.declared.Numbers.{Numbers}
 use Rattle.words.specs.Events.{fourNumbers, eventNumbers}
 
--- ---- a plan: n, Δ, Γ, V, the first four words of a run and of a setup
-
-abbrev pub planIn : List ℕ → Plan
-planIn ws = record { n = getD ws 0 0; delta = getD ws 1 0; gamma = getD ws 2 0; views = getD ws 3 0 }
+-- ---- the first words of a run and of a setup: the plan's numbers, then the faulty set
 
 abbrev pub faultyWord : ℕ
 faultyWord = 4
@@ -45,7 +41,7 @@ unfoldable pub setupIn : List ℕ → Setup
 setupIn ws = record { plan = planIn ws; faulty = getD ws faultyWord 0; clocks = tableIn startWord ws }
 
 abbrev pub setupWords : Setup → List ℕ
-setupWords u = u .plan .n ∷ u .plan .delta ∷ u .plan .gamma ∷ u .plan .views ∷ u .faulty ∷ u .clocks
+setupWords u = planNumbers (u .plan) ++ (u .faulty ∷ u .clocks)
 
 -- ---- a run: the plan, the faulty set, the time, whether the network has settled (0 or 1) and when, the messages held, 64 clocks, 64 views; then the
 -- messages sent and those delivered, four kinds each, and the sum of waits
@@ -96,8 +92,7 @@ abbrev pub neitherSettled : List ℕ → Bool
 neitherSettled ws = ltb 1 (getD ws settledWord 0)
 
 abbrev pub runNumbers : Run → List ℕ
-runNumbers r =
-    r .plan .n ∷ r .plan .delta ∷ r .plan .gamma ∷ r .plan .views ∷ r .faulty ∷ r .time ∷ settledAs (r .settled) ∷ r .gst ∷ r .held ∷ []
+runNumbers r = planNumbers (r .plan) ++ (r .faulty ∷ r .time ∷ settledAs (r .settled) ∷ r .gst ∷ r .held ∷ [])
 
 abbrev pub sumWords : Traffic → List ℕ
 sumWords x = countNumbers (x .sent) ++ (countNumbers (x .delivered) ++ (x .waits ∷ []))

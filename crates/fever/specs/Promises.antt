@@ -18,9 +18,8 @@ use Rattle.model.specs.Events.{applied}
 use Rattle.model.specs.Traffic.{historyTotals}
 use Rattle.model.specs.Lists.{after, Since, sinceSettling, hasSettled, ticksSince}
 use Rattle.simulator.specs.Demands.{Demanded}
-use Rattle.lines.specs.declared.Reading.{Reading}
 use Rattle.lines.specs.Forms.{eventForm, setupForm}
-use Rattle.lines.specs.Contracts.{eventReading, line, writtenAs, writtenCheck, Put}
+use Rattle.lines.specs.Contracts.{Reading, eventReading, line, writtenAs, writtenCheck, Put}
 use Rattle.lines.specs.Promises.{scheduleOf}
 use Rattle.loads.specs.Loads.{lineBytes}
 use Rattle.words.specs.declared.Numbers.{Numbers}

@@ -1,23 +1,23 @@
 // Setups, runs and what was read, from words and into words.
-use lines::Read;
-use lines::Reading;
 use types::Answer;
 use types::AppliedHead;
 use types::Counts;
+use types::Event;
 use types::Head;
 use types::Plan;
 use types::Setup;
 use types::Traffic;
-use words::Numbers;
 ghost use mathlib.Core.Path.{_≡_};
-ghost use mathlib.Core.List.{_++_};
 ghost use Prim.Native.Nat.{_+_, _≤_};
-ghost use lib.ListN.{length, drop};
+ghost use lib.ListN.{length};
 ghost use Rattle.types.specs.Quantities.{tableClocks};
+ghost use Rattle.types.specs.Runs.{planIn};
 ghost use Rattle.model.specs.State.{runFrom, headOf, checkOf};
+ghost use Rattle.lines.specs.Contracts.{eventReading, readCheck};
+ghost use Rattle.reader.specs.Lines.{openingOr};
 ghost use Rattle.writer.specs.Stamps.{Room, Stamped};
-ghost use Rattle.fever.specs.Layout.{planIn, tableIn, countsAt, setupLength, setupIn, runLength, runIn, runOver, readingLength, readNumbers, readingWords};
-ghost use Rattle.fever.specs.Contracts.{runLeft};
+ghost use Rattle.fever.specs.Layout.{tableIn, countsAt, setupLength, setupIn, runLength, runIn, runOver, readingLength};
+ghost use Rattle.fever.specs.Contracts.{runLeft, readingLeft};
 
 pub(crate) const SETUP_WORDS: usize = 69;
 
@@ -50,6 +50,9 @@ const WAITS: usize = 145;
 
 // The clocks of a table.
 const TABLE: usize = 64;
+
+// What stands for an opening where a line was read.
+const OPENING: u64 = 6;
 
 // The 64 words from a place on.
 pub(crate) fn table_in(words: &[u64], at: usize) -> [u64; 64]
@@ -207,30 +210,34 @@ pub(crate) fn put_outcome(
     }
 }
 
-// The numbers of what a line is read as.
-fn numbers_of(read: Read) -> Numbers
-    ensures { λ r. ⌜ r ≡ readNumbers read ⌝ }
+// The first 73 words become those of the line of an event.
+pub(crate) fn put_event(words: &mut [u64], event: Event) -> u64
+    requires { ⌜ readingLength ≤ length (now words) ⌝ }
+    ensures { λ r. ⌜ (r ≡ 0) × (now (words .exit) ≡ readingLeft (now (words .entry)) (eventReading event)) ⌝ }
 {
-    match read {
-        Read::Event(event) => words::numbers_of(event),
-        Read::Opening => words::bare(6, 0),
-        Read::NoForm => words::bare(0, 0),
-    }
+    let numbers = words::numbers_of(event);
+    let mut reading = [0u64; READING_WORDS];
+    reading[0] = numbers.form;
+    reading[1] = numbers.kind;
+    reading[2] = numbers.view;
+    reading[3] = numbers.processor;
+    put_words(words, 0, &reading);
+    0
 }
 
-// The first 73 words become those of a line that is one of the forms.
-pub(crate) fn put_reading(words: &mut [u64], reading: Reading) -> u64
+// The first 73 words become those of the line of a setup; where it has no processors, the line was none of the forms. Answers the check, or 0.
+pub(crate) fn put_setup(words: &mut [u64], setup: Setup) -> u64
     requires { ⌜ readingLength ≤ length (now words) ⌝ }
-    ensures { λ r. ⌜ (r ≡ 0) × (now (words .exit) ≡ readingWords reading ++ drop readingLength (now (words .entry))) ⌝ }
+    ensures { λ r. ⌜ (r ≡ readCheck (openingOr setup .read)) × (now (words .exit) ≡ readingLeft (now (words .entry)) (openingOr setup)) ⌝ }
 {
-    let read = reading.read;
-    let numbers = numbers_of(read);
-    let setup = reading.setup;
+    if setup.plan.n == 0 {
+        return 1;
+    }
     let heading = [
-        numbers.form,
-        numbers.kind,
-        numbers.view,
-        numbers.processor,
+        OPENING,
+        0,
+        0,
+        0,
         setup.plan.n,
         setup.plan.delta,
         setup.plan.gamma,

@@ -10,8 +10,8 @@ use lines::Written;
 use types::Plan;
 use words::Numbers;
 ghost use mathlib.Core.List.{[], _∷_};
+ghost use Rattle.types.specs.Runs.{planIn};
 ghost use Rattle.words.specs.Events.{eventOf};
-ghost use Rattle.fever.specs.Layout.{planIn};
 ghost use Rattle.fever.specs.Contracts.{lentOf, OpensWords, AppliesWords, AppliesEvents, moveOf, StepsWords, ReadsWords, StandsFor, WritesEvent, WritesSetup};
 ghost use Rattle.fever.specs.Loads.{GeneratesWords, GeneratesMore};
 ghost use Rattle.fever.specs.Traffic.{ReportsTraffic};
@@ -128,11 +128,10 @@ pub extern "C" fn fever_read_line(line: &[u8], words: &mut [u64]) -> u64
     if words.len() < layout::READING_WORDS {
         return 1;
     }
-    let reading = reader::read_line(line);
-    let read = reading.read;
+    let read = reader::skim_line(line);
     match read {
-        Read::Event(_) => layout::put_reading(words, reading),
-        Read::Opening => layout::put_reading(words, reading),
+        Read::Event(event) => layout::put_event(words, event),
+        Read::Opening => layout::put_setup(words, reader::read_setup(line)),
         Read::NoForm => 1,
     }
 }

@@ -96,8 +96,8 @@ uncut u steps settle seed room least tally network r c =
 pub written-accepted : WrittenAccepted
 written-accepted u steps settle seed r w table below x tally network =
     let made = uncut u steps settle seed (w .room) (w .least) (w .tally) (w .network) (r .last) (w .whole .load) in
-    let t : length (x .tally) ≡ length (startState .tally) = tally ∙ sym (length-replicate {A = ℕ} tallyLent 0) in
-    let n : length (x .network) ≡ length (startState .network) = network ∙ sym (length-replicate {A = ℕ} networkLent 0) in
+    let t : length (x .state .tally) ≡ length (startState .tally) = tally ∙ sym (length-replicate {A = ℕ} tallyLent 0) in
+    let n : length (x .state .network) ≡ length (startState .network) = network ∙ sym (length-replicate {A = ℕ} networkLent 0) in
     record {
       accepts = subst (λ (l : Load). AllAccepted x (inputLines (scheduleOf (l .forms)))) (made .1)
           (load-accepted u startState steps settle seed (made .0) table below x t n);

@@ -7,18 +7,18 @@ use Rattle.types.specs.declared.Setup.{Setup}
 use Rattle.model.specs.State.{State, stateOf, checkOf}
 use Rattle.model.specs.Opening.{opening}
 use Rattle.lines.specs.Promises.{formMost}
-use Rattle.printout.specs.Printout.{standingState, atStart}
+use Rattle.printout.specs.Printout.{atStart}
 use Rattle.loads.specs.Loads.{Point, pointOf, Load, furtherLoad, wholeLoad}
 use Rattle.workload.specs.declared.Generated.{Generated}
 use Rattle.generate.specs.declared.pieces.WrittenLoad.{WrittenLoad}
 
 -- no run, and words of 0, as many as the simulate program lends
 abbrev pub startState : State
-startState = standingState atStart
+startState = atStart .state
 
 -- the check that refuses the opening there, or 0
-abbrev pub openingCheck : Setup → ℕ
-openingCheck u = checkOf (opening u startState .answer)
+abbrev pub startCheck : Setup → ℕ
+startCheck u = checkOf (opening u startState .answer)
 
 -- so many bytes hold two lines of any form
 abbrev pub pieceLeast : ℕ
@@ -55,7 +55,7 @@ Resumes steps settle room tally network f tally' network' r = (first : Load) →
 
 -- that the whole load was, from the program's start, and its opening answered
 pub record WritesWhole (u : Setup) (steps settle seed room : ℕ) (tally network : List ℕ) (r : WrittenLoad) : Type 0 where
-  pub check : r .check ≡ openingCheck u
+  pub check : r .check ≡ startCheck u
   pub load : Completes steps settle room (wholeLoad u startState steps settle seed room) tally network (r .last)
 
 -- the same, with as many bytes for each piece as hold two lines, and with whatever is left in the lent words

@@ -42,5 +42,5 @@ writtenLines u steps settle seed r w =
 abbrev pub WrittenAccepted : Type 0
 WrittenAccepted =
     (u : Setup) (steps settle seed : ℕ) (r : WrittenLoad) (w : ProgramWrites u steps settle seed r) → length (u .clocks) ≡ tableClocks → Below (setupFields u)
-    → (x : Standing) → length (x .tally) ≡ tallyLent → length (x .network) ≡ networkLent
+    → (x : Standing) → length (x .state .tally) ≡ tallyLent → length (x .state .network) ≡ networkLent
     → Replayed (r .last) (w .tally) (w .network) (scheduleOf (writtenLines u steps settle seed r w)) x

@@ -4,7 +4,6 @@ mod pieces;
 use libc::STDERR_FILENO;
 use libc::STDOUT_FILENO;
 use lines::Read;
-use lines::Reading;
 use lines::Written;
 use reader::Decimal;
 use types::Answer;
@@ -29,14 +28,7 @@ fn tell_refused(check: u64) {
     }
 }
 
-// An argument that is longer than the buffer, and so than any line that opens a run, is read as an empty one, which opens none.
-fn line_argument(i: usize) -> Reading {
-    let mut text = io::buffer();
-    let n = os::arg(i, &mut text);
-    reader::read_line(&text[..n])
-}
-
-// One that is longer than the buffer is read as an empty one, which is no number.
+// An argument that is longer than the buffer is read as an empty one, which is no number.
 fn number_argument(i: usize) -> Decimal {
     let mut text = io::buffer();
     let n = os::arg(i, &mut text);
@@ -60,13 +52,14 @@ fn main() {
         tell_usage();
         return;
     };
-    let reading = line_argument(1);
-    let read = reading.read;
-    let Read::Opening = read else {
+    // A line that is longer than the buffer, and so than any opening, is read as an empty one, which opens none.
+    let mut text = io::buffer();
+    let n = os::arg(1, &mut text);
+    let Read::Opening = reader::read_line(&text[..n]) else {
         tell_refused(1);
         return;
     };
-    let setup = reading.setup;
+    let setup = reader::read_setup(&text[..n]);
     let written = pieces::run(setup, steps, settle, seed, STDOUT_FILENO);
     if 0 < written.check {
         tell_refused(written.check);

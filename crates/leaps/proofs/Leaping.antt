@@ -15,7 +15,7 @@ use Rattle.types.specs.declared.Run.{Run}
 use Rattle.types.specs.declared.Answer.the-variants.{Done}
 use Rattle.types.specs.Quantities.{endTime}
 use Rattle.types.specs.Traffic.{countsMore}
-use Rattle.model.specs.State.{State, After, stateOf, withHeld, withTime, withClocks, clockOf, viewOf, isCorrect, capacity, checkOf, refused}
+use Rattle.model.specs.State.{State, After, withRun, withNetwork, withHeld, withTime, withClocks, clockOf, viewOf, isCorrect, roomIn, checkOf, refused}
 use Rattle.model.specs.Moves.{Change, changed, still, also, Entry, stay, byClock, entries, taking, advanced, arrival, arrivals, made}
 use Rattle.model.specs.Checks.{atEnd, overdue, reachesEnd, overfull}
 use Rattle.model.specs.Events.{tickOnce, Ticks, continued, ticks}
@@ -32,7 +32,7 @@ use Rattle.leaps.proofs.Resting.{clock-inside, next-small, from-view}
 -- a change that moves nothing and sends nothing leaves all as it is
 pub still-made : (s : State) → s ≡ made s (still (s .run) (s .tally))
 unfolding made countsMore
-still-made s = ap₂ (λ (h : ℕ) (ws : List ℕ). stateOf (withHeld h (s .run)) (s .tally) ws) (sym (add-zero (s .run .held)))
+still-made s = ap₂ (λ (h : ℕ) (ws : List ℕ). withRun (withHeld h (s .run)) (withNetwork ws s)) (sym (add-zero (s .run .held)))
     (posted-none (s .network) (s .run .held) (s .run .time))
 
 -- ---- one quiet tick
@@ -43,7 +43,7 @@ entries-none e r t zero h = refl
 entries-none e r t (suc k) h =
     ap₂ (λ (c : Change) (x : Entry). also c (taking (changed r c) (c .tally) k x)) (entries-none e r t k (λ p l. h p (omega arith))) (h k (omega arith))
 
-module _ (s : State) (steady : Steady (s .run)) (room : s .run .held ≤ capacity (s .network)) (rests : NoneArrives (s .run) 1) (waits : overdue s ≡ false) where
+module _ (s : State) (steady : Steady (s .run)) (room : s .run .held ≤ roomIn s) (rests : NoneArrives (s .run) 1) (waits : overdue s ≡ false) where
   abbrev r : Run
   r = s .run
 
@@ -74,7 +74,7 @@ module _ (s : State) (steady : Steady (s .run)) (room : s .run .held ≤ capacit
   quiet-tick : tickOnce s ≡ record { state = advanced s; answer = Done 1 (r .held) }
   unfolding tickOnce overdue
   quiet-tick =
-      let fits : r .held + 0 ≤ capacity (s .network) = omega (arith, room) in
+      let fits : r .held + 0 ≤ roomIn s = omega (arith, room) in
       let to : Change → After = λ c. record { state = made (advanced s) c; answer = Done 1 (made (advanced s) c .run .held) } in
       sym (ap (λ (y : State). record { state = y; answer = Done 1 (y .run .held) }) (still-made (advanced s))
       ∙ ap to (sym nothing)
@@ -87,7 +87,7 @@ module _ (s : State) (steady : Steady (s .run)) (room : s .run .held ≤ capacit
 -- ---- several
 
 later-none : (s : State) → later s 0 ≡ s
-later-none s = ap₂ (λ (t : ℕ) (c : List ℕ). stateOf (withTime t (withClocks c (s .run))) (s .tally) (s .network))
+later-none s = ap₂ (λ (t : ℕ) (c : List ℕ). withRun (withTime t (withClocks c (s .run))) s)
     (add-zero (s .run .time)) (by-none (s .run .plan) (s .run .faulty) (s .run .clocks) (s .run .plan .n))
 
 -- some ticks being let pass, no message is late now
@@ -98,7 +98,7 @@ module _ (s : State) (steady : Steady (s .run)) where
   later-more : (d : ℕ) → advanced (later s d) ≡ later s (suc d)
   later-more d =
       let t : s .run .time + d + 1 ≡ s .run .time + suc d = omega arith in
-      ap₂ (λ (t : ℕ) (c : List ℕ). stateOf (withTime t (withClocks c (s .run))) (s .tally) (s .network))
+      ap₂ (λ (t : ℕ) (c : List ℕ). withRun (withTime t (withClocks c (s .run))) s)
       t (on-by (leapt (s .run) d) (s .run .plan .n) ∙ by-then (s .run .plan) (s .run .faulty) (s .run .clocks) d (s .run .plan .n) (steady .clocks))
 
   -- every correct clock has gone on by as much

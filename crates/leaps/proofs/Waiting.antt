@@ -9,7 +9,8 @@ use borrow.Author.Tests.{le-leb, lt-leb}
 use Rattle.base.specs.Tests.{T-true, le?}
 use Rattle.base.specs.Scan.{some}
 use Rattle.base.specs.ScanLaws.{some-start, some-on, some-here, some-by, some-gives}
-use Rattle.model.specs.State.{State, sentAt}
+use Rattle.types.specs.declared.Run.{Run}
+use Rattle.model.specs.State.{State, stateOf, heldAt}
 use Rattle.model.specs.Checks.{late, overdue, lateAt}
 use Rattle.leaps.specs.Leaps.{WaitsFor, WaitsForAll, Waits}
 
@@ -53,7 +54,7 @@ module _ (gst delta time : ℕ) (ws : List ℕ) (most : ℕ) where
   pub waits-start : WaitsForAll gst delta time ws 0 most most
   waits-start = record { few = omega arith; quiet = λ j l. some-start _; ends = λ z l. absurd (omega arith) }
 
-  pub waits-more : (k w r : ℕ) → WaitsForAll gst delta time ws k most w → WaitsFor gst delta time (sentAt ws k) w r → WaitsForAll gst delta time ws (k + 1) most r
+  pub waits-more : (k w r : ℕ) → WaitsForAll gst delta time ws k most w → WaitsFor gst delta time (heldAt ws k .sent) w r → WaitsForAll gst delta time ws (k + 1) most r
   waits-more k w r x y = record {
     few = omega (arith, x .few, y .few);
     quiet = λ j l. some-on (lateAt gst delta (time + j) ws) k (x .quiet j (omega (arith, y .few))) (y .quiet j l);
@@ -63,10 +64,10 @@ module _ (gst delta time : ℕ) (ws : List ℕ) (most : ℕ) where
         (le? w 0);
   }
 
-pub waits-settled : (s : State) (most r : ℕ) → s .run .settled ≡ true
-    → WaitsForAll (s .run .gst) (s .run .plan .delta) (s .run .time) (s .network) (s .run .held) most r → Waits s most r
+pub waits-settled : (run : Run) (t ws : List ℕ) (most r : ℕ) → run .settled ≡ true
+    → WaitsForAll (run .gst) (run .plan .delta) (run .time) ws (run .held) most r → Waits (stateOf run t ws) most r
 unfolding overdue
-waits-settled s most r e x = record {
+waits-settled run t ws most r e x = record {
   few = x .few;
   quiet = λ j l. rw e (x .quiet j l);
   ends = λ z l. rw e (x .ends z l);

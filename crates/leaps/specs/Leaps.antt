@@ -9,7 +9,7 @@ use Rattle.types.specs.declared.Plan.{Plan}
 use Rattle.types.specs.declared.Run.{Run}
 use Rattle.types.specs.Quantities.{nMost, nextInitial, clockTime, correct}
 use Rattle.types.specs.PlanFunctions.{nextInitialWord, clockTimeWord}
-use Rattle.model.specs.State.{State, stateOf, withTime, withClocks, clockOf, viewOf, isCorrect, capacity}
+use Rattle.model.specs.State.{State, withRun, withTime, withClocks, clockOf, viewOf, isCorrect, roomIn}
 use Rattle.model.specs.Checks.{late, lateAt, overdue, clockOutside}
 use Rattle.model.specs.Events.{ticks}
 use Rattle.pacemaker.specs.Limits.{Within}
@@ -30,7 +30,7 @@ abbrev pub leapt : Run → ℕ → Run
 leapt r d = withTime (more d (r .time)) (withClocks (clocksBy (more d) (r .plan) (r .faulty) (r .clocks) (r .plan .n)) r)
 
 abbrev pub later : State → ℕ → State
-later s d = stateOf (leapt (s .run) d) (s .tally) (s .network)
+later s d = withRun (leapt (s .run) d) s
 
 -- d ticks bring no correct clock to an initial view's clock time
 abbrev pub NoneArrives : Run → ℕ → Type 0
@@ -50,7 +50,7 @@ pub record Steady (r : Run) : Type 0 where
 
 -- Quiet ticks only add, however many they are: a leap over them is the run of them.
 abbrev pub QuietTicksAdd : Type 0
-QuietTicksAdd = (s : State) (d : ℕ) → Steady (s .run) → s .run .held ≤ capacity (s .network) → Quiet s d
+QuietTicksAdd = (s : State) (d : ℕ) → Steady (s .run) → s .run .held ≤ roomIn s → Quiet s d
     → ticks d s ≡ record { state = later s d; count = d; check = 0 }
 
 -- ---- how many ticks find no message late

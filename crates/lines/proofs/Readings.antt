@@ -8,9 +8,8 @@ use Rattle.types.specs.declared.Event.{Event}
 use Rattle.types.specs.declared.Setup.{Setup}
 use Rattle.lines.specs.declared.Read.{Read}
 use Rattle.lines.specs.declared.Read.the-variants as Read
-use Rattle.lines.specs.declared.Reading.{Reading}
 use Rattle.lines.specs.Forms.{EventLine, SetupLine}
-use Rattle.lines.specs.Contracts.{readCheck, Reads}
+use Rattle.lines.specs.Contracts.{Reading, readCheck, Reads}
 use Rattle.lines.specs.Promises.{Formed, OneReading, Judges}
 
 -- a form is not refused

@@ -14,8 +14,9 @@ use Rattle.types.specs.declared.Message.the-variants.{View, Vote, Vc, Qc}
 use Rattle.types.specs.declared.Event.{Event}
 use Rattle.types.specs.declared.Event.the-variants.{Deliver, Sign, Show, Settle, Tick}
 use Rattle.types.specs.declared.Setup.{Setup}
+use Rattle.types.specs.Runs.{planNumbers}
 use Rattle.lines.specs.Decimal.{digit, digitsIn, decimal}
-use Rattle.lines.specs.Forms.{newline, closeBracket, messageForm, eventForm, furtherClocks, clocksForm, lineClocks, setupForm, EventLine, SetupLine, oneBlank, openBracket, joined, spaced, messageFields, headingNumbers}
+use Rattle.lines.specs.Forms.{newline, closeBracket, messageForm, eventForm, furtherClocks, clocksForm, lineClocks, setForm, setupForm, EventLine, SetupLine, oneBlank, openBracket, joined, spaced, messageFields}
 use Rattle.lines.specs.Contracts.{line}
 use Rattle.lines.specs.Splitting.{beforeNewline, ended, linesAfter, inputLines}
 use Rattle.lines.specs.Promises.{Formed, scheduleOf, CutsBack}
@@ -78,8 +79,9 @@ clean-clocks (c ∷ l) = clean-number c (furtherClocks l) (clean-further l)
 clean-setup : (u : Setup) → T (clean (setupForm u))
 unfolding setupForm
 clean-setup u =
-    clean-spaced (headingNumbers (u .plan) (u .faulty)) (oneBlank ∷ openBracket ∷ clocksForm (lineClocks u) ∷ closeBracket ∷ closeBracket ∷ [])
-    (clean-append (clocksForm (lineClocks u)) (joined (closeBracket ∷ closeBracket ∷ [])) (clean-clocks (lineClocks u)) tt)
+    let table : List (List ℕ) = oneBlank ∷ openBracket ∷ clocksForm (lineClocks u) ∷ closeBracket ∷ closeBracket ∷ [] in
+    clean-spaced (planNumbers (u .plan)) (setForm (u .faulty) ∷ table)
+    (clean-number (u .faulty) (joined table) (clean-append (clocksForm (lineClocks u)) (joined (closeBracket ∷ closeBracket ∷ [])) (clean-clocks (lineClocks u)) tt))
 
 clean-form : (s : List ℕ) → Formed s → T (clean s)
 clean-form s = ⊎-elim (λ (x : (e : Event) × EventLine s e). rw (x .1 .bytes) (clean-event (x .0))) (λ (x : (u : Setup) × SetupLine s u). rw (x .1 .bytes) (clean-setup (x .0)))

@@ -10,25 +10,32 @@ use Rattle.types.specs.declared.Setup.{Setup}
 use Rattle.types.specs.Quantities.{tableClocks}
 use Rattle.lines.specs.declared.Read.{Read}
 use Rattle.lines.specs.declared.Read.the-variants as Read
-use Rattle.lines.specs.declared.Reading.{Reading}
 use Rattle.lines.specs.declared.Written.{Written}
 use Rattle.lines.specs.declared.Written.the-variants.{Bytes, Refused}
 use Rattle.lines.specs.Forms.{newline, EventLine, SetupLine, trimmed}
 
 -- ---- reading
 
+-- what a line is read as, and the setup of an opening
+pub record Reading : Type 0 where
+  pub read : Read
+  pub setup : Setup
+
+abbrev pub readAs : Read → Setup → Reading
+readAs r u = record { read = r; setup = u }
+
 -- what stands beside anything but an opening
 abbrev pub noSetup : Setup
 noSetup = record { plan = record { n = 0; delta = 0; gamma = 0; views = 0 }; faulty = 0; clocks = replicate tableClocks 0 }
 
 abbrev pub eventReading : Event → Reading
-eventReading e = record { read = Read.Event e; setup = noSetup }
+eventReading e = readAs (Read.Event e) noSetup
 
 abbrev pub openingReading : Setup → Reading
-openingReading u = record { read = Read.Opening; setup = u }
+openingReading u = readAs Read.Opening u
 
 abbrev pub noForm : Reading
-noForm = record { read = Read.NoForm; setup = noSetup }
+noForm = readAs Read.NoForm noSetup
 
 -- document 01's number of each answer: "The line is not one of the forms above"
 abbrev pub readCheck : Read → ℕ

@@ -8,7 +8,6 @@ use Rattle.types.specs.declared.Answer.the-variants as Answer
 use Rattle.types.specs.declared.Message.the-variants.{View, Vote, Vc, Qc}
 use Rattle.types.specs.declared.Event.the-variants.{Deliver, Sign, Show, Settle, Tick}
 use Rattle.model.specs.Rows.{planOf, standard, setupOf}
-use Rattle.lines.specs.declared.Reading.{Reading}
 use Rattle.types.specs.declared.Setup.{Setup}
 use Rattle.types.specs.declared.Counts.{Counts}
 use Rattle.types.specs.declared.Totals.{Totals}
@@ -21,7 +20,7 @@ use Rattle.lines.specs.declared.Next.the-variants.{Line, Long, Unfinishe
 use Rattle.lines.specs.Decimal.{decimal}
 use Rattle.lines.specs.Forms.{newline, joined, messageForm, eventForm, setupForm, lacksSetupForm, trimmed}
 use Rattle.lines.specs.Printout.{answerForm, processorForm, totalsText}
-use Rattle.lines.specs.Contracts.{eventReading, noForm, readCheck, writtenAs, writtenIn, writtenCheck}
+use Rattle.lines.specs.Contracts.{Reading, eventReading, noForm, readCheck, writtenAs, writtenIn, writtenCheck}
 use Rattle.lines.specs.Splitting.{beforeNewline, nextLine, Cut, ended, left, inputLines, cutRead}
 
 -- ---- forms

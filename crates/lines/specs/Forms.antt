@@ -10,9 +10,9 @@ use Rattle.types.specs.declared.Message.{Message}
 use Rattle.types.specs.declared.Message.the-variants.{View, Vote, Vc, Qc}
 use Rattle.types.specs.declared.Event.{Event}
 use Rattle.types.specs.declared.Event.the-variants.{Deliver, Sign, Show, Settle, Tick}
-use Rattle.types.specs.declared.Plan.{Plan}
 use Rattle.types.specs.declared.Setup.{Setup}
 use Rattle.types.specs.Quantities.{nMost, tableClocks}
+use Rattle.types.specs.Runs.{planNumbers}
 use Rattle.types.specs.Messages.{viewIn, processorIn, lacksForm}
 use Rattle.lines.specs.Decimal.{decimal, fieldLimit}
 
@@ -138,15 +138,18 @@ clocksForm (c ∷ l) = decimal c ++ furtherClocks l
 abbrev pub lineClocks : Setup → List ℕ
 lineClocks u = take (u .plan .n) (u .clocks)
 
--- "n Δ Γ V mask"
-abbrev pub headingNumbers : Plan → ℕ → List ℕ
-headingNumbers plan faulty = plan .n ∷ plan .delta ∷ plan .gamma ∷ plan .views ∷ faulty ∷ []
+-- an opening: a word, numbers, a set and a table in its brackets
+abbrev pub openingForm : List ℕ → List ℕ → List ℕ → List ℕ → List ℕ
+openingForm w ns set table = joined (
+    openBracket ∷ w ∷ spaced ns ++ (set ∷ oneBlank ∷ openBracket ∷ table ∷ closeBracket ∷ closeBracket ∷ []))
+
+-- its set: " mask"
+abbrev pub setForm : ℕ → List ℕ
+setForm faulty = oneBlank ++ decimal faulty
 
 -- "(open n Δ Γ V mask (c0 c1 ..))"
 unfoldable pub setupForm : Setup → List ℕ
-setupForm u = joined (
-    openBracket ∷ openWord ∷ spaced (headingNumbers (u .plan) (u .faulty))
-    ++ (oneBlank ∷ openBracket ∷ clocksForm (lineClocks u) ∷ closeBracket ∷ closeBracket ∷ []))
+setupForm u = openingForm openWord (planNumbers (u .plan)) (setForm (u .faulty)) (clocksForm (lineClocks u))
 
 -- ---- what has a form
 
@@ -163,7 +166,7 @@ eventFields Settle = []
 eventFields (Tick m) = m ∷ []
 
 abbrev pub setupFields : Setup → List ℕ
-setupFields u = headingNumbers (u .plan) (u .faulty) ++ lineClocks u
+setupFields u = planNumbers (u .plan) ++ (u .faulty ∷ lineClocks u)
 
 -- "below 2^64"
 abbrev pub Below : List ℕ → Type 0

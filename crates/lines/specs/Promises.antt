@@ -10,13 +10,12 @@ use Rattle.types.specs.declared.Answer.{Answer}
 use Rattle.types.specs.declared.Event.{Event}
 use Rattle.types.specs.declared.Setup.{Setup}
 use Rattle.types.specs.declared.Totals.{Totals}
-use Rattle.lines.specs.declared.Reading.{Reading}
 use Rattle.lines.specs.declared.Next.{Next}
 use Rattle.lines.specs.declared.Next.the-variants.{Line, Long, Unfinished, Endless}
 use Rattle.lines.specs.Forms.{newline, EventLine, SetupLine, trimmed}
 use Rattle.lines.specs.Printout.{answerForm, processorForm, printedMost, totalsText, totalsMost}
 use Rattle.lines.specs.declared.Written.{Written}
-use Rattle.lines.specs.Contracts.{eventReading, openingReading, readCheck, Reads, line, Writes, writtenCheck}
+use Rattle.lines.specs.Contracts.{Reading, eventReading, openingReading, readCheck, Reads, line, Writes, writtenCheck}
 use Rattle.lines.specs.Search.{wordBytes, reported}
 use Rattle.lines.specs.Splitting.{lineMost, nextLine, ended, linesAfter, inputLines, cutRead}
 

@@ -4,11 +4,10 @@ use mathlib.Core.Bool.{cond}
 use mathlib.Core.List.{List, [], _∷_, _++_}
 use lib.ListN.{length}
 use lib.Dec.{eqb, leb, ltb}
-use Rattle.lines.specs.declared.Reading.{Reading}
 use Rattle.lines.specs.declared.Next.{Next}
 use Rattle.lines.specs.declared.Next.the-variants.{Line, Long, Unfinished, Endless}
 use Rattle.lines.specs.Forms.{newline}
-use Rattle.lines.specs.Contracts.{noForm}
+use Rattle.lines.specs.Contracts.{Reading, noForm}
 
 abbrev pub lineMost : ℕ
 lineMost = 4800

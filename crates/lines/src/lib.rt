@@ -2,21 +2,14 @@
 pub mod search;
 
 use types::Event;
-use types::Setup;
 ghost use mathlib.Core.Path.{_≡_};
 ghost use Rattle.lines.specs.Splitting.{beforeNewline, nextLine};
 
-// What a line is read as: an event, an opening, whose setup stands beside this, or none of the forms (check 1).
+// What a line is read as: an event, an opening, whose setup is read by itself, or none of the forms (check 1).
 pub enum Read {
     Event(Event),
     Opening,
     NoForm,
-}
-
-// What a line is read as, and the setup of an opening; 0 everywhere beside anything else.
-pub struct Reading {
-    pub read: Read,
-    pub setup: Setup,
 }
 
 // The answer to writing a line: the bytes written, its newline among them, or the check.

@@ -11,7 +11,7 @@ use Rattle.base.specs.ScanLaws.{some-ext}
 use Rattle.types.specs.declared.Plan.{Plan}
 use Rattle.types.specs.Runs.{setupWith}
 use Rattle.types.specs.Quantities.{tableClocks, tolerated, startLimit, correct}
-use Rattle.model.specs.State.{State, withClocks}
+use Rattle.model.specs.State.{State, withRun, withClocks}
 use Rattle.model.specs.Moves.{entries, made}
 use Rattle.model.specs.Checks.{supporting, startTooHigh, tooFarAhead}
 use Rattle.model.specs.Opening.{startClocks, blank, firstEntry, opened, opening}
@@ -49,7 +49,7 @@ module _ (plan : Plan) (faulty : ℕ) (xs ys : List ℕ) (same : (p : ℕ) → T
   unfolding blank
   blank-alike s =
       let b = blank (setupWith plan faulty ys) s in
-      λ i. record { run = withClocks (start-alike i) (b .run); tally = b .tally; network = b .network }
+      λ i. withRun (withClocks (start-alike i) (b .run)) b
 
   opened-alike : (s : State) → opened (setupWith plan faulty xs) s ≡ opened (setupWith plan faulty ys) s
   unfolding opened

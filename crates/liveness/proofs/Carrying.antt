@@ -4,7 +4,7 @@ use mathlib.Core.Path.{_≡_, sym, ap, subst}
 use mathlib.Core.Bool.{Bool, not, _||_}
 use mathlib.Core.Logic.{⊎-elim}
 use mathlib.Core.List.{List, _++_}
-use Prim.Native.Nat.{ℕ, zero, suc, _*_, _/_, _≤_, _<_}
+use Prim.Native.Nat.{ℕ, zero, suc, _*_, _≤_, _<_}
 use native.Mathlib.Omega.{arith}
 use lib.Dec.{T, ltb, leb→le, ltb→lt, T-not}
 use lib.ListN.{length, drop, replicate}
@@ -14,19 +14,20 @@ use Rattle.types.specs.declared.Plan.{Plan}
 use Rattle.types.specs.declared.Message.{Message}
 use Rattle.types.specs.declared.Run.{Run}
 use Rattle.types.specs.Quantities.{messageWords}
-use Rattle.types.specs.Messages.{kindLeast, kindMost, addressee}
-use Rattle.model.specs.State.{State, clockOf, viewOf, isCorrect, kindAt, viewAt, processorAt, sentAt}
+use Rattle.types.specs.Messages.{kindLeast, kindMost, IsKind, addressee}
+use Rattle.types.proofs.MessageLaws.{kind-of-message}
+use Rattle.model.specs.State.{State, clockOf, viewOf, isCorrect, Held, heldIn, roomIn}
 use Rattle.model.specs.Moves.{Change, made}
-use Rattle.model.specs.Checks.{noProcessor, noView, planOutside, faultyOutside, buffersOutside, limitsBroken, messageUnsound, settlingUnsound, someNonZero, placeOf, notHeld, overfull}
+use Rattle.model.specs.Checks.{noProcessor, noView, planOutside, faultyOutside, buffersOutside, limitsBroken, kindOutside, heldUnsound, messageUnsound, settlingUnsound, someNonZero, placeOf, notHeld, overfull}
 use Rattle.model.specs.Events.{without}
-use Rattle.liveness.proofs.Flight.{Sent, sentAs, stamped, laid-beyond, Shows, shown-at, Found, found-in, rest, rest-in}
+use Rattle.liveness.proofs.Flight.{Sent, sentAs, numbers, stamped, laid-beyond, Found, found-in, rest, rest-in}
 use Rattle.liveness.proofs.Sending.{in-stamped}
 use Rattle.liveness.proofs.Judging.{neither, nor, not-ltb, not-leb}
-use Rattle.liveness.proofs.Link.{Planned, Wire, wire-length, wire-posted, length-posted, wire-removed, length-without, wire-found}
+use Rattle.liveness.proofs.Link.{Planned, Wire, wire-length, wire-read, wire-posted, length-posted, wire-removed, length-without, wire-found}
 use Rattle.liveness.proofs.Tracks.{limitsFor}
 use Rattle.liveness.proofs.Opens.{planned-within}
 use Rattle.liveness.proofs.Soundness.{SoundRun, InsideRun, not-outside}
-use Rattle.liveness.proofs.Laying.{IsKind, kind-of-message, seen}
+use Rattle.liveness.proofs.Laying.{seen}
 use Rattle.liveness.proofs.Addressing.{Addressed, Sends}
 
 -- ---- a message that check 9 takes
@@ -35,63 +36,60 @@ use Rattle.liveness.proofs.Addressing.{Addressed, Sends}
 abbrev pub Fine : Run → Sent → Type 0
 Fine r x = Addressed (r .plan) (r .faulty) (x .message) × (x .time ≤ r .time)
 
-module _ (s : State) (i : ℕ) where
-  abbrev no-kind : Bool
-  no-kind = ltb (kindAt (s .network) i) kindLeast || ltb kindMost (kindAt (s .network) i)
+-- which is what it asks of the numbers held
+record Taken (r : Run) (h : Held) : Type 0 where
+  kind : IsKind (h .kind)
+  view : h .view < r .plan .views
+  processor : h .processor < r .plan .n
+  reaches : T (isCorrect r (addressee (r .plan) (h .kind) (h .view) (h .processor)))
+  past : h .sent ≤ r .time
 
-  abbrev view-high : Bool
-  view-high = noView (s .run .plan) (viewAt (s .network) i)
+module _ (r : Run) (h : Held) where
+  -- its tests, as far as each goes
+  abbrev to-view : Bool
+  to-view = kindOutside (h .kind) || noView (r .plan) (h .view)
 
-  abbrev processor-high : Bool
-  processor-high = noProcessor (s .run .plan) (processorAt (s .network) i)
+  abbrev to-processor : Bool
+  to-processor = to-view || noProcessor (r .plan) (h .processor)
 
-  abbrev reaches : Bool
-  reaches = isCorrect (s .run) (addressee (s .run .plan) (kindAt (s .network) i) (viewAt (s .network) i) (processorAt (s .network) i))
-
-  abbrev ahead : Bool
-  ahead = ltb (s .run .time) (sentAt (s .network) i)
+  abbrev reached : Bool
+  reached = isCorrect r (addressee (r .plan) (h .kind) (h .view) (h .processor))
 
   abbrev to-reach : Bool
-  to-reach = view-high || processor-high || not reaches
+  to-reach = to-processor || not reached
 
-  shown-sound : (x : Sent) → Shows (s .network) i x → Fine (s .run) x → T (messageUnsound s i) → ⊥
-  unfolding messageUnsound
-  shown-sound x e f =
-      nor no-kind (to-reach || ahead)
-      (nor (ltb (kindAt (s .network) i) kindLeast) (ltb kindMost (kindAt (s .network) i))
-      (λ t. let g : kindAt (s .network) i < kindLeast = ltb→lt _ _ t in omega (arith, e .kind, kind-of-message (x .message) .0))
-      (λ t. let g : kindMost < kindAt (s .network) i = ltb→lt _ _ t in omega (arith, e .kind, kind-of-message (x .message) .1)))
-      (nor to-reach ahead
-      (nor (view-high || processor-high) (not reaches)
-      (nor view-high processor-high
-      (λ t. let g : s .run .plan .views ≤ viewAt (s .network) i = leb→le _ _ t in omega (arith, e .view, f .0 .view-low))
-      (λ t. let g : s .run .plan .n ≤ processorAt (s .network) i = leb→le _ _ t in omega (arith, e .processor, f .0 .processor-low)))
-      (λ t. T-not reaches t (rw (e .kind, e .view, e .processor) (f .0 .to-correct))))
-      (λ t. let g : s .run .time < sentAt (s .network) i = ltb→lt _ _ t in omega (arith, e .time, f .1)))
+  of-taken : Taken r h → T (heldUnsound (r .plan) (r .faulty) (r .time) h) → ⊥
+  of-taken x =
+      nor to-reach (ltb (r .time) (h .sent)) (nor to-processor (not reached) (nor to-view (noProcessor (r .plan) (h .processor))
+      (nor (kindOutside (h .kind)) (noView (r .plan) (h .view)) (nor (ltb (h .kind) kindLeast) (ltb kindMost (h .kind))
+      (λ t. let g : h .kind < kindLeast = ltb→lt _ _ t in omega (arith, x .kind .0))
+      (λ t. let g : kindMost < h .kind = ltb→lt _ _ t in omega (arith, x .kind .1)))
+      (λ t. let g : r .plan .views ≤ h .view = leb→le _ _ t in omega (arith, x .view)))
+      (λ t. let g : r .plan .n ≤ h .processor = leb→le _ _ t in omega (arith, x .processor)))
+      (λ t. T-not reached t (x .reaches)))
+      (λ t. let g : r .time < h .sent = ltb→lt _ _ t in omega (arith, x .past))
 
-  module _ (sound : T (messageUnsound s i) → ⊥) where
-    kind-sound : IsKind (kindAt (s .network) i)
-    unfolding messageUnsound
-    kind-sound =
-        let k = neither (ltb (kindAt (s .network) i) kindLeast) (ltb kindMost (kindAt (s .network) i)) (neither no-kind (to-reach || ahead) sound .0) in
-        (not-ltb _ _ (k .0), not-ltb _ _ (k .1))
+  taken-of : (T (heldUnsound (r .plan) (r .faulty) (r .time) h) → ⊥) → Taken r h
+  taken-of sound =
+      let a = neither to-reach (ltb (r .time) (h .sent)) sound in
+      let b = neither to-processor (not reached) (a .0) in
+      let c = neither to-view (noProcessor (r .plan) (h .processor)) (b .0) in
+      let d = neither (kindOutside (h .kind)) (noView (r .plan) (h .view)) (c .0) in
+      let k = neither (ltb (h .kind) kindLeast) (ltb kindMost (h .kind)) (d .0) in
+      record {
+        kind = (not-ltb _ _ (k .0), not-ltb _ _ (k .1));
+        view = not-leb _ _ (d .1);
+        processor = not-leb _ _ (c .1);
+        reaches = not-not reached (b .1);
+        past = not-ltb _ _ (a .1);
+      }
 
-    fine-sound : (x : Sent) → Shows (s .network) i x → Fine (s .run) x
-    unfolding messageUnsound
-    fine-sound x e =
-        let a = neither to-reach ahead (neither no-kind (to-reach || ahead) sound .1) in
-        let b = neither (view-high || processor-high) (not reaches) (a .0) in
-        let c = neither view-high processor-high (b .0) in
-        let v : viewAt (s .network) i < s .run .plan .views = not-leb _ _ (c .0) in
-        let p : processorAt (s .network) i < s .run .plan .n = not-leb _ _ (c .1) in
-        let t : sentAt (s .network) i ≤ s .run .time = not-ltb _ _ (a .1) in (
-          record {
-            view-low = omega (arith, e .view);
-            processor-low = omega (arith, e .processor);
-            to-correct = rw (e .kind, e .view, e .processor) at (not-not reaches (b .1));
-          },
-          omega (arith, e .time),
-        )
+fine-taken : (r : Run) (x : Sent) → Fine r x → Taken r (numbers x)
+fine-taken r x f =
+    record { kind = kind-of-message (x .message); view = f .0 .view-low; processor = f .0 .processor-low; reaches = f .0 .to-correct; past = f .1 }
+
+taken-fine : (r : Run) (x : Sent) → Taken r (numbers x) → Fine r x
+taken-fine r x t = (record { view-low = t .view; processor-low = t .processor; to-correct = t .reaches }, t .past)
 
 -- ---- all that it asks but for clocks and time
 
@@ -103,10 +101,11 @@ pub record Carried (s : State) : Type 0 where
   pub settling : T (settlingUnsound s) → ⊥
 
 pub carried-of : (s : State) → SoundRun s → Carried s
+unfolding messageUnsound
 carried-of s x =
-    let room : s .run .held ≤ length (s .network) / messageWords = not-ltb _ _ (x .room) in
-    let y = seen (Fine (s .run)) (s .run .held) (s .network) (omega arith) (λ i l. kind-sound s i (x .messages i l))
-    (λ i z l h. fine-sound s i (x .messages i l) z h) (x .tail) in
+    let room : s .run .held ≤ roomIn s = not-ltb _ _ (x .room) in
+    let y = seen (Fine (s .run)) (s .run .held) (s .network) (omega arith) (λ i l. taken-of (s .run) (heldIn s i) (x .messages i l) .kind)
+    (λ i z l e. taken-fine (s .run) z (subst (Taken (s .run)) e (taken-of (s .run) (heldIn s i) (x .messages i l)))) (x .tail) in
     record { limits = x .limits; messages = y .messages; wire = y .wire; fine = y .each; settling = x .settling }
 
 zeros-sound : (z : ℕ) → T (someNonZero (replicate z 0)) → ⊥
@@ -115,13 +114,14 @@ zeros-sound (suc z) t = zeros-sound z t
 
 -- with the clocks it is check 9 but for the time
 pub sound-carried : (s : State) → Carried s → InsideRun (s .run) → SoundRun s
+unfolding messageUnsound
 sound-carried s x inside = record {
   limits = x .limits;
   clocks = λ p c. not-outside (s .run .plan) (clockOf (s .run) p) (viewOf (s .run) p) (inside p c);
-  room = λ t. let g : length (s .network) / messageWords < s .run .held = ltb→lt _ _ t in omega (arith, wire-length (x .wire));
+  room = λ t. let g : roomIn s < s .run .held = ltb→lt _ _ t in omega (arith, wire-length (x .wire));
   messages = λ i l.
-      let a = shown-at (x .messages) (x .wire .spare) i (omega (arith, x .wire .number)) in
-      shown-sound s i (a .0) (subst (λ (ws : List ℕ). Shows ws i (a .0)) (sym (x .wire .words)) (a .2)) (x .fine (a .0) (a .1));
+      let a = wire-read (x .wire) i l in
+      of-taken (s .run) (heldIn s i) (subst (Taken (s .run)) (sym (a .is)) (fine-taken (s .run) (a .sent) (x .fine (a .sent) (a .within))));
   settling = x .settling;
   tail = λ t. zeros-sound (x .wire .spare) (subst (λ (l : List ℕ). T (someNonZero l)) beyond t);
 }
@@ -132,7 +132,7 @@ sound-carried s x inside = record {
 pub carried-planned : (s : State) → Carried s → Planned (s .run .plan) (s .run .faulty)
 carried-planned s x =
     let plan : Plan = s .run .plan in
-    let l = neither (planOutside plan || faultyOutside plan (s .run .faulty)) (buffersOutside plan (s .tally) (s .network)) (x .limits) in
+    let l = neither (planOutside plan || faultyOutside plan (s .run .faulty)) (buffersOutside s) (x .limits) in
     let f = neither (planOutside plan) (faultyOutside plan (s .run .faulty)) (l .0) in
     planned-within plan (s .run .faulty) (f .0) (f .1)
 

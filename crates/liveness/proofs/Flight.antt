@@ -5,19 +5,45 @@ use mathlib.Core.Logic.{_⊎_, inl, inr}
 use mathlib.Core.List.{List, [], _∷_, _++_, append-assoc}
 use Prim.Native.Nat.{ℕ, zero, suc, _+_, _*_, _≤_, _<_}
 use native.Mathlib.Omega.{arith}
-use lib.Dec.{T, eqb, eqb→eq}
+use lib.Dec.{T, eqb, eqb-refl, eqb→eq}
 use lib.ListN.{length, take, drop, replicate, length-append, length-replicate, length-drop}
 use lib.Seq.{slice, take-at, drop-at, drop-drop, length-take-le, length-slice}
 use Rattle.base.specs.Members.{Elem, elem-right, elem-without, elem-with}
-use Rattle.base.specs.Tests.{T-left, T-right}
+use Rattle.base.specs.Tests.{T-left, T-right, T-and}
 use Rattle.types.specs.declared.Message.{Message}
-use Rattle.types.specs.declared.Message.the-variants.{View, Vote, Vc, Qc}
-use Rattle.types.specs.Messages.{kindOf, viewIn, processorIn}
-use Rattle.model.specs.State.{kindAt, viewAt, processorAt, sentAt, wordsOf, posted, removed}
 use Rattle.types.specs.Quantities.{messageWords}
-use Rattle.model.specs.Checks.{isAt}
+use Rattle.types.specs.Messages.{kindOf, viewIn, processorIn}
+use Rattle.types.proofs.MessageLaws.{same-message}
+use Rattle.model.specs.State.{Held, heldAs, heldWords, heldAt, wordsOf, posted, removed}
+use Rattle.model.specs.Checks.{heldIs, isAt}
 
--- a message in flight, and when it was sent
+-- ---- what the proofs know of the words of a held message: so many are they, and they are read back, one message behind the other
+
+pub held-length : (h : Held) → length (heldWords h) ≡ messageWords
+held-length h = refl
+
+pub read-back : (h : Held) (ws : List ℕ) → heldAt (heldWords h ++ ws) 0 ≡ h
+read-back h ws = refl
+
+pub read-on : (h : Held) (ws : List ℕ) (i : ℕ) → heldAt (heldWords h ++ ws) (suc i) ≡ heldAt ws i
+read-on h ws i =
+    let e0 : messageWords * suc i ≡ suc (suc (suc (suc (messageWords * i)))) = omega arith in
+    let e1 : messageWords * suc i + 1 ≡ suc (suc (suc (suc (messageWords * i + 1)))) = omega arith in
+    let e2 : messageWords * suc i + 2 ≡ suc (suc (suc (suc (messageWords * i + 2)))) = omega arith in
+    let e3 : messageWords * suc i + 3 ≡ suc (suc (suc (suc (messageWords * i + 3)))) = omega arith in
+    rw (e1, e2, e3, e0)
+
+-- what is read is what was laid down
+pub laid-back : (ws : List ℕ) → messageWords ≤ length ws → ws ≡ heldWords (heldAt ws 0) ++ drop messageWords ws
+laid-back [] l = absurd (omega arith)
+laid-back (k ∷ []) l = absurd (omega arith)
+laid-back (k ∷ w ∷ []) l = absurd (omega arith)
+laid-back (k ∷ w ∷ p ∷ []) l = absurd (omega arith)
+laid-back (k ∷ w ∷ p ∷ t ∷ ws) l = refl
+
+-- ---- messages in flight
+
+-- one of them, and when it was sent
 pub record Sent : Type 0 where
   pub message : Message
   pub time : ℕ
@@ -25,13 +51,13 @@ pub record Sent : Type 0 where
 abbrev pub sentAs : Message → ℕ → Sent
 sentAs m t = record { message = m; time = t }
 
--- its words, and those of a list of them
-abbrev pub four : Sent → List ℕ
-four x = kindOf (x .message) ∷ viewIn (x .message) ∷ processorIn (x .message) ∷ x .time ∷ []
+abbrev pub numbers : Sent → Held
+numbers x = heldAs (x .time) (x .message)
 
+-- the words of a list of them
 abbrev pub allWords : List Sent → List ℕ
 allWords [] = []
-allWords (x ∷ xs) = four x ++ allWords xs
+allWords (x ∷ xs) = heldWords (numbers x) ++ allWords xs
 
 -- the words of the messages, with z words of 0 beyond them
 abbrev pub laid : List Sent → ℕ → List ℕ
@@ -44,7 +70,7 @@ stamped now (m ∷ ms) = sentAs m now ∷ stamped now ms
 
 pub length-words : (xs : List Sent) → length (allWords xs) ≡ messageWords * length xs
 length-words [] = refl
-length-words (x ∷ xs) = omega (arith, length-words xs)
+length-words (x ∷ xs) = length-append (heldWords (numbers x)) (allWords xs) ∙ omega (arith, held-length (numbers x), length-words xs)
 
 pub length-laid : (xs : List Sent) (z : ℕ) → length (laid xs z) ≡ messageWords * length xs + z
 length-laid xs z = length-append (allWords xs) (replicate z 0) ∙ omega (arith, length-words xs, length-replicate {A = ℕ} z 0)
@@ -55,15 +81,20 @@ length-stamped now (m ∷ ms) = ap suc (length-stamped now ms)
 
 words-append : (a b : List Sent) → allWords (a ++ b) ≡ allWords a ++ allWords b
 words-append [] b = refl
-words-append (x ∷ a) b = ap (λ (l : List ℕ). kindOf (x .message) ∷ viewIn (x .message) ∷ processorIn (x .message) ∷ x .time ∷ l) (words-append a b)
+words-append (x ∷ a) b =
+    ap (λ (l : List ℕ). heldWords (numbers x) ++ l) (words-append a b) ∙ sym (append-assoc (heldWords (numbers x)) (allWords a) (allWords b))
 
 words-stamped : (now : ℕ) (ms : List Message) → wordsOf now ms ≡ allWords (stamped now ms)
 words-stamped now [] = refl
-words-stamped now (m ∷ ms) = ap (λ (l : List ℕ). kindOf m ∷ viewIn m ∷ processorIn m ∷ now ∷ l) (words-stamped now ms)
+words-stamped now (m ∷ ms) = ap (λ (l : List ℕ). heldWords (heldAs now m) ++ l) (words-stamped now ms)
 
 zeros-off : (k z : ℕ) → drop k (replicate {A = ℕ} (k + z) 0) ≡ replicate z 0
 zeros-off zero z = let e : 0 + z ≡ z = omega arith in rw e
 zeros-off (suc k) z = let e : suc k + z ≡ suc (k + z) = omega arith in rw e (zeros-off k z)
+
+zeros-on : (k z : ℕ) → replicate {A = ℕ} (k + z) 0 ≡ replicate k 0 ++ replicate z 0
+zeros-on zero z = let e : 0 + z ≡ z = omega arith in rw e
+zeros-on (suc k) z = let e : suc k + z ≡ suc (k + z) = omega arith in rw e (ap (λ (l : List ℕ). 0 ∷ l) (zeros-on k z))
 
 -- the words beyond the last message
 pub laid-beyond : (xs : List Sent) (z : ℕ) → drop (messageWords * length xs) (laid xs z) ≡ replicate z 0
@@ -88,7 +119,7 @@ pub removed-laid : (a b : List Sent) (x : Sent) (z : ℕ) → removed (laid (a +
 unfolding removed
 removed-laid a b x z =
     let w : List ℕ = allWords a in
-    let t : List ℕ = four x ++ allWords b in
+    let t : List ℕ = heldWords (numbers x) ++ allWords b in
     let all : List ℕ = allWords (a ++ x ∷ b) in
     let h : ℕ = length (a ++ x ∷ b) in
     let n : length w ≡ messageWords * length a = length-words a in
@@ -97,13 +128,12 @@ removed-laid a b x z =
     let before : take (messageWords * length a) (all ++ replicate z 0) ≡ w =
     rw (e, append-assoc) (take-at w (t ++ replicate z 0) (messageWords * length a) n) in
     let up-to : take (messageWords * h) (all ++ replicate z 0) ≡ w ++ t = take-at all (replicate z 0) (messageWords * h) k ∙ e in
-    let i : messageWords * (length a + 1) ≡ messageWords * length a + 4 = omega arith in
+    let i : messageWords * (length a + 1) ≡ messageWords * length a + messageWords = omega arith in
     let behind : drop (messageWords * (length a + 1)) (w ++ t) ≡ allWords b =
-    rw i (sym (drop-drop 4 (messageWords * length a) (w ++ t)) ∙ ap (drop 4) (drop-at w t (messageWords * length a) n)) in
+    rw i (sym (drop-drop messageWords (messageWords * length a) (w ++ t)) ∙ ap (drop messageWords) (drop-at w t (messageWords * length a) n)
+    ∙ drop-at (heldWords (numbers x)) (allWords b) messageWords (held-length (numbers x))) in
     let rest : drop (messageWords * h) (all ++ replicate z 0) ≡ replicate z 0 = drop-at all (replicate z 0) (messageWords * h) k in
-    let zeros : replicate {A = ℕ} (messageWords + z) 0 ≡ 0 ∷ 0 ∷ 0 ∷ 0 ∷ replicate z 0 = let s : messageWords + z ≡ suc (suc (suc (suc z))) =
-    omega arith in rw s in
-    rw (before, up-to, behind, rest, append-assoc (w ++ allWords b) (replicate messageWords 0) (replicate z 0), words-append, zeros)
+    rw (before, up-to, behind, rest, append-assoc (w ++ allWords b) (replicate messageWords 0) (replicate z 0), words-append, zeros-on)
 
 -- ---- membership
 
@@ -111,62 +141,47 @@ removed-laid a b x z =
 abbrev pub In : Message → ℕ → List Sent → Type 0
 In m s xs = Elem (sentAs m s) xs
 
-pub four-on : (i : ℕ) → messageWords * suc i ≡ suc (suc (suc (suc (messageWords * i))))
-four-on i = omega arith
+module _ (x : Sent) (xs : List Sent) (z : ℕ) where
+  pub laid-front : laid (x ∷ xs) z ≡ heldWords (numbers x) ++ laid xs z
+  laid-front = append-assoc (heldWords (numbers x)) (allWords xs) (replicate z 0)
 
--- the words at place i are those of x
-pub record Shows (ws : List ℕ) (i : ℕ) (x : Sent) : Type 0 where
-  pub kind : kindAt ws i ≡ kindOf (x .message)
-  pub view : viewAt ws i ≡ viewIn (x .message)
-  pub processor : processorAt ws i ≡ processorIn (x .message)
-  pub time : sentAt ws i ≡ x .time
+  pub laid-first : heldAt (laid (x ∷ xs) z) 0 ≡ numbers x
+  laid-first = ap (λ (ws : List ℕ). heldAt ws 0) laid-front ∙ read-back (numbers x) (laid xs z)
 
--- with the words of one more message ahead
-pub shows-on : (ws : List ℕ) (k w p t i : ℕ) (x : Sent) → Shows ws i x → Shows (k ∷ w ∷ p ∷ t ∷ ws) (suc i) x
-shows-on ws k w p t i x s = record {
-  kind = rw (four-on i) (s .kind);
-  view = let e : messageWords * suc i + 1 ≡ suc (suc (suc (suc (messageWords * i + 1)))) = omega arith in rw e (s .view);
-  processor = let e : messageWords * suc i + 2 ≡ suc (suc (suc (suc (messageWords * i + 2)))) = omega arith in rw e (s .processor);
-  time = let e : messageWords * suc i + 3 ≡ suc (suc (suc (suc (messageWords * i + 3)))) = omega arith in rw e (s .time);
-}
+  pub laid-on : (i : ℕ) → heldAt (laid (x ∷ xs) z) (suc i) ≡ heldAt (laid xs z) i
+  laid-on i = ap (λ (ws : List ℕ). heldAt ws (suc i)) laid-front ∙ read-on (numbers x) (laid xs z) i
 
--- those at each place are a message's in flight
-pub shown-at : (xs : List Sent) (z i : ℕ) → i < length xs → (x : Sent) × Elem x xs × Shows (laid xs z) i x
-shown-at [] z i l = absurd (omega arith)
-shown-at (x ∷ xs) z zero l = (x, inl refl, record { kind = refl; view = refl; processor = refl; time = refl })
-shown-at (x ∷ xs) z (suc i) l =
-    let r = shown-at xs z i (omega arith) in
-    (r .0, inr (r .1), shows-on (laid xs z) (kindOf (x .message)) (viewIn (x .message)) (processorIn (x .message)) (x .time) i (r .0) (r .2))
+-- what is read at a place is a message in flight
+pub record Read (ws : List ℕ) (i : ℕ) (xs : List Sent) : Type 0 where
+  pub sent : Sent
+  pub within : Elem sent xs
+  pub is : heldAt ws i ≡ numbers sent
 
--- a message in flight stands at some place
-pub stands-at : (m : Message) (s : ℕ) (xs : List Sent) (z : ℕ) → In m s xs → (i : ℕ) × (i < length xs) × (sentAt (laid xs z) i ≡ s)
-stands-at m s [] z i = absurd i
-stands-at m s (x ∷ xs) z (inl e) = (0, omega arith, sym (ap (λ (y : Sent). y .time) e))
-stands-at m s (x ∷ xs) z (inr i) =
-    let r = stands-at m s xs z i in
-    let e : messageWords * suc (r .0) + 3 ≡ suc (suc (suc (suc (messageWords * r .0 + 3)))) = omega arith in
-    (suc (r .0), omega (arith, r .1), rw e (r .2))
+pub read-at : (xs : List Sent) (z i : ℕ) → i < length xs → Read (laid xs z) i xs
+read-at [] z i l = absurd (omega arith)
+read-at (x ∷ xs) z zero l = record { sent = x; within = inl refl; is = laid-first x xs z }
+read-at (x ∷ xs) z (suc i) l =
+    let r = read-at xs z i (omega arith) in
+    record { sent = r .sent; within = inr (r .within); is = laid-on x xs z i ∙ r .is }
+
+-- a message in flight is read at some place
+pub stands-at : (x : Sent) (xs : List Sent) (z : ℕ) → Elem x xs → (i : ℕ) × (i < length xs) × (heldAt (laid xs z) i ≡ numbers x)
+stands-at x [] z i = absurd i
+stands-at x (y ∷ xs) z (inl e) = (0, omega arith, laid-first y xs z ∙ sym (ap numbers e))
+stands-at x (y ∷ xs) z (inr i) = let r = stands-at x xs z i in (suc (r .0), omega (arith, r .1), laid-on y xs z (r .0) ∙ r .2)
 
 -- ---- the message that a delivery finds
 
--- kind, view and processor make the message
-pub same-message : (a b : Message) → kindOf a ≡ kindOf b → viewIn a ≡ viewIn b → processorIn a ≡ processorIn b → a ≡ b
-same-message (View w p) (View v q) k e f = ap (View w) f ∙ ap (λ (x : ℕ). View x q) e
-same-message (View w p) (Vote v q) k e f = absurd (omega arith)
-same-message (View w p) (Vc v q) k e f = absurd (omega arith)
-same-message (View w p) (Qc v q) k e f = absurd (omega arith)
-same-message (Vote w p) (View v q) k e f = absurd (omega arith)
-same-message (Vote w p) (Vote v q) k e f = ap (Vote w) f ∙ ap (λ (x : ℕ). Vote x q) e
-same-message (Vote w p) (Vc v q) k e f = absurd (omega arith)
-same-message (Vote w p) (Qc v q) k e f = absurd (omega arith)
-same-message (Vc w p) (View v q) k e f = absurd (omega arith)
-same-message (Vc w p) (Vote v q) k e f = absurd (omega arith)
-same-message (Vc w p) (Vc v q) k e f = ap (Vc w) f ∙ ap (λ (x : ℕ). Vc x q) e
-same-message (Vc w p) (Qc v q) k e f = absurd (omega arith)
-same-message (Qc w p) (View v q) k e f = absurd (omega arith)
-same-message (Qc w p) (Vote v q) k e f = absurd (omega arith)
-same-message (Qc w p) (Vc v q) k e f = absurd (omega arith)
-same-message (Qc w p) (Qc v q) k e f = ap (Qc w) f ∙ ap (λ (x : ℕ). Qc x q) e
+-- a message is held as itself, and as no other
+pub held-itself : (t : ℕ) (m : Message) → T (heldIs m (heldAs t m))
+held-itself t m = T-and (eqb (kindOf m) (kindOf m) && eqb (viewIn m) (viewIn m)) (eqb (processorIn m) (processorIn m))
+    (T-and (eqb (kindOf m) (kindOf m)) (eqb (viewIn m) (viewIn m)) (eqb-refl (kindOf m)) (eqb-refl (viewIn m))) (eqb-refl (processorIn m))
+
+held-alone : (t : ℕ) (a m : Message) → T (heldIs m (heldAs t a)) → a ≡ m
+held-alone t a m is =
+    let both = T-left (eqb (kindOf a) (kindOf m) && eqb (viewIn a) (viewIn m)) _ is in
+    same-message a m (eqb→eq _ _ (T-left (eqb (kindOf a) (kindOf m)) _ both)) (eqb→eq _ _ (T-right (eqb (kindOf a) (kindOf m)) _ both))
+    (eqb→eq _ _ (T-right (eqb (kindOf a) (kindOf m) && eqb (viewIn a) (viewIn m)) _ is))
 
 -- the list around it, and that it is m
 pub record Found (xs : List Sent) (m : Message) (i : ℕ) : Type 0 where
@@ -181,23 +196,10 @@ found-at [] z m i l t = absurd (omega arith)
 found-at (x ∷ xs) z m zero l t = record { ahead = []; behind = xs; time = x .time; split = λ j. sentAs (e j) (x .time) ∷ xs; place = refl }
   where
     e : x .message ≡ m
-    e = same-message (x .message) m
-        (eqb→eq _ _ (T-left (eqb (kindOf (x .message)) (kindOf m)) _
-        (T-left (eqb (kindOf (x .message)) (kindOf m) && eqb (viewIn (x .message)) (viewIn m)) _ t)))
-        (eqb→eq _ _ (T-right (eqb (kindOf (x .message)) (kindOf m)) _
-        (T-left (eqb (kindOf (x .message)) (kindOf m) && eqb (viewIn (x .message)) (viewIn m)) _ t)))
-        (eqb→eq _ _ (T-right (eqb (kindOf (x .message)) (kindOf m) && eqb (viewIn (x .message)) (viewIn m)) _ t))
-found-at (x ∷ xs) z m (suc i) l t = go (found-at xs z m i (omega arith) t')
+    e = held-alone (x .time) (x .message) m (subst (λ (h : Held). T (heldIs m h)) (laid-first x xs z) t)
+found-at (x ∷ xs) z m (suc i) l t =
+    go (found-at xs z m i (omega arith) (subst (λ (h : Held). T (heldIs m h)) (laid-on x xs z i) t))
   where
-    e1 : messageWords * suc i + 1 ≡ suc (suc (suc (suc (messageWords * i + 1))))
-    e1 = omega arith
-
-    e2 : messageWords * suc i + 2 ≡ suc (suc (suc (suc (messageWords * i + 2))))
-    e2 = omega arith
-
-    t' : T (isAt (laid xs z) m i)
-    t' = rw (e1, e2, four-on i) at t
-
     go : Found xs m i → Found (x ∷ xs) m (suc i)
     go f = record { ahead = x ∷ f .ahead; behind = f .behind; time = f .time; split = ap (λ (l : List Sent). x ∷ l) (f .split); place = ap suc (f .place) }
 

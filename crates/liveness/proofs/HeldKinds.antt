@@ -1,24 +1,24 @@
 -- The messages held by kind: posting adds to them, a delivery takes one away. Of any run and buffers: what check 9 refuses stays. Assumes nothing.
-use mathlib.Core.Path.{_≡_, refl, ap, _∙_}
+use mathlib.Core.Path.{_≡_, refl, ap, ap₂, _∙_}
+use mathlib.Core.Bool.{Bool}
 use mathlib.Core.List.{List, [], _∷_, _++_}
 use Prim.Native.Nat.{ℕ, suc, _+_}
 use native.Mathlib.Omega.{arith}
 use lib.Dec.{T, eqb}
-use lib.ListN.{length, getD}
+use lib.ListN.{length}
 use Rattle.base.specs.Count.{bit, count, count-ext, count-low, count-start}
 use Rattle.types.specs.declared.Message.{Message}
 use Rattle.types.specs.declared.Event.{Event}
 use Rattle.types.specs.declared.Event.the-variants.{Deliver, Sign, Show, Settle, Tick}
 use Rattle.types.specs.declared.Setup.{Setup}
-use Rattle.types.specs.Messages.{kindOf}
-use Rattle.model.specs.State.{State, kindAt}
+use Rattle.model.specs.State.{State, Held, heldAt, heldIn}
 use Rattle.model.specs.Moves.{Change, entries, handling, advanced, arrivals, made}
 use Rattle.model.specs.Checks.{notHeld, overfull, placeOf}
 use Rattle.model.specs.Opening.{blank, firstEntry, opened, openingChecks}
 use Rattle.model.specs.Events.{without, nowSettled, delivering, signing, ticks, tickRun, effect, applied}
 use Rattle.model.specs.Lists.{after}
 use Rattle.model.specs.Traffic.{ticksPosted, posting, postedIn, deliveredBy, deliveredIn, postedDuring, deliveredDuring, postedFirst, ofKind, heldOfKind}
-use Rattle.liveness.proofs.Flight.{Sent, sentAs, laid, stamped, four-on, Found, rest}
+use Rattle.liveness.proofs.Flight.{Sent, sentAs, laid, stamped, laid-first, laid-on, Found, rest}
 use Rattle.liveness.proofs.Link.{Wire, wire-posted, wire-removed, wire-found}
 use Rattle.liveness.proofs.Judging.{Passes, Passed}
 use Rattle.liveness.proofs.Opens.{room, first-wire}
@@ -49,13 +49,16 @@ module _ (k : ℕ) where
   flying-both : (a b : List Sent) → flying (a ++ b) ≡ flying a + flying b
   flying-both a b = ap (ofKind k) (of-both a b) ∙ kind-append k (messagesOf a) (messagesOf b)
 
-  laid-kinds : (xs : List Sent) (z : ℕ) → count (length xs) (λ i. eqb (kindAt (laid xs z) i) k) ≡ flying xs
-  laid-kinds [] z = count-start (λ i. eqb (kindAt (laid [] z) i) k)
+  abbrev isKind : Held → Bool
+  isKind h = eqb (h .kind) k
+
+  laid-kinds : (xs : List Sent) (z : ℕ) → count (length xs) (λ i. isKind (heldAt (laid xs z) i)) ≡ flying xs
+  laid-kinds [] z = count-start (λ i. isKind (heldAt (laid [] z) i))
   laid-kinds (x ∷ xs) z =
-      count-low (length xs) (λ i. eqb (kindAt (laid (x ∷ xs) z) i) k)
-      ∙ ap (λ (n : ℕ). bit (eqb (kindOf (x .message)) k) + n)
-      (count-ext (length xs) (λ i. eqb (kindAt (laid (x ∷ xs) z) (suc i)) k) (λ i. eqb (kindAt (laid xs z) i) k)
-      (λ i l. ap (λ (j : ℕ). eqb (getD (laid (x ∷ xs) z) j 0) k) (four-on i)) ∙ laid-kinds xs z)
+      count-low (length xs) (λ i. isKind (heldAt (laid (x ∷ xs) z) i))
+      ∙ ap₂ (λ (b : Bool) (n : ℕ). bit b + n) (ap isKind (laid-first x xs z))
+      (count-ext (length xs) (λ i. isKind (heldAt (laid (x ∷ xs) z) (suc i))) (λ i. isKind (heldAt (laid xs z) i)) (λ i l. ap isKind (laid-on x xs z i))
+      ∙ laid-kinds xs z)
 
   wire-kinds : (s : State) {xs : List Sent} → Wire (s .network) (s .run .held) xs → heldOfKind s k ≡ flying xs
   wire-kinds s {xs} wire = rw (wire .words, wire .number) (laid-kinds xs (wire .spare))
@@ -142,4 +145,4 @@ unfolding opened blank
 opened-kinds k u s c =
     let b : State = blank u s in
     made-kinds k b (first-wire u s c) (entries (firstEntry u) (b .run) (b .tally) (u .plan .n)) (room u s c)
-    ∙ omega (arith, count-start (λ i. eqb (kindAt (b .network) i) k))
+    ∙ omega (arith, count-start (λ i. isKind k (heldIn b i)))

@@ -1,21 +1,22 @@
 -- Words whose kinds are those of messages, with zeros beyond them, are those of a list of messages in flight. Assumes nothing.
-use mathlib.Core.Path.{_≡_, refl, sym, ap, _∙_, subst}
+use mathlib.Core.Path.{_≡_, refl, sym, ap, ap₂, _∙_, subst}
 use mathlib.Core.Bool.{not}
 use mathlib.Core.Logic.{⊎-elim}
-use mathlib.Core.List.{List, [], _∷_}
-use Prim.Native.Nat.{ℕ, zero, suc, _*_, _≤_, _<_}
+use mathlib.Core.List.{List, [], _∷_, _++_}
+use Prim.Native.Nat.{ℕ, zero, suc, _+_, _*_, _≤_, _<_}
 use native.Mathlib.Omega.{arith}
 use lib.Dec.{T, eqb, eqb→eq}
-use lib.ListN.{length, drop, replicate}
+use lib.ListN.{length, drop, replicate, length-drop}
+use lib.Seq.{drop-drop}
 use Rattle.base.specs.Members.{Elem}
-use Rattle.base.specs.Tests.{eq?, not-not}
+use Rattle.base.specs.Tests.{not-not}
 use Rattle.types.specs.declared.Message.{Message}
-use Rattle.types.specs.declared.Message.the-variants.{View, Vote, Vc, Qc}
 use Rattle.types.specs.Quantities.{messageWords}
-use Rattle.types.specs.Messages.{kindOf, viewIn, processorIn, kindLeast, kindMost}
-use Rattle.model.specs.State.{kindAt}
+use Rattle.types.specs.Messages.{IsKind}
+use Rattle.types.proofs.MessageLaws.{message-of}
+use Rattle.model.specs.State.{Held, heldAs, heldWords, heldAt}
 use Rattle.model.specs.Checks.{someNonZero}
-use Rattle.liveness.proofs.Flight.{Sent, sentAs, four-on, Shows, shows-on}
+use Rattle.liveness.proofs.Flight.{read-on, laid-back, Sent, sentAs, numbers, laid-front}
 use Rattle.liveness.proofs.Link.{Wire}
 use Rattle.liveness.proofs.Judging.{neither}
 
@@ -26,21 +27,11 @@ zeros (x ∷ ws) no' =
     let e : x ≡ 0 = eqb→eq x 0 (not-not (eqb x 0) (n .0)) in
     ap (λ (y : ℕ). y ∷ ws) e ∙ ap (λ (l : List ℕ). 0 ∷ l) (zeros ws (n .1))
 
--- a number is the kind of a message
-abbrev pub IsKind : ℕ → Type 0
-IsKind k = (kindLeast ≤ k) × (k ≤ kindMost)
-
-pub kind-of-message : (m : Message) → IsKind (kindOf m)
-kind-of-message (View w p) = (omega arith, omega arith)
-kind-of-message (Vote w p) = (omega arith, omega arith)
-kind-of-message (Vc w p) = (omega arith, omega arith)
-kind-of-message (Qc w p) = (omega arith, omega arith)
-
--- three numbers, the first a kind, are those of a message
-named : (k w p : ℕ) → IsKind k → (m : Message) × (k ≡ kindOf m) × (w ≡ viewIn m) × (p ≡ processorIn m)
-named k w p is = ⊎-elim (λ (e : k ≡ 1). (View w p, e, refl, refl)) (λ n1.
-    ⊎-elim (λ (e : k ≡ 2). (Vote w p, e, refl, refl)) (λ n2.
-    ⊎-elim (λ (e : k ≡ 3). (Vc w p, e, refl, refl)) (λ n3. (Qc w p, omega (arith, is .0, is .1), refl, refl)) (eq? k 3)) (eq? k 2)) (eq? k 1)
+-- numbers of which the first is a kind are those of a message
+named : (h : Held) → IsKind (h .kind) → (m : Message) × (h ≡ heldAs (h .sent) m)
+named h is =
+    let m = message-of (h .kind) (h .view) (h .processor) is in
+    (m .0, λ i. record { kind = m .1 i; view = m .2 i; processor = m .3 i; sent = h .sent })
 
 -- the messages of which the words are, P holding of each
 pub record Seen (P : Sent → Type 0) (h : ℕ) (ws : List ℕ) : Type 0 where
@@ -48,31 +39,40 @@ pub record Seen (P : Sent → Type 0) (h : ℕ) (ws : List ℕ) : Type 0 where
   pub wire : Wire ws h messages
   pub each : (x : Sent) → Elem x messages → P x
 
--- where P holds of whatever the words of a place show
-pub seen : (P : Sent → Type 0) (h : ℕ) (ws : List ℕ) → messageWords * h ≤ length ws → ((i : ℕ) → i < h → IsKind (kindAt ws i))
-    → ((i : ℕ) (x : Sent) → i < h → Shows ws i x → P x) → (T (someNonZero (drop (messageWords * h) ws)) → ⊥) → Seen P h ws
+-- where P holds of whatever is read at a place
+pub seen : (P : Sent → Type 0) (h : ℕ) (ws : List ℕ) → messageWords * h ≤ length ws → ((i : ℕ) → i < h → IsKind (heldAt ws i .kind))
+    → ((i : ℕ) (x : Sent) → i < h → heldAt ws i ≡ numbers x → P x) → (T (someNonZero (drop (messageWords * h) ws)) → ⊥) → Seen P h ws
 seen P zero ws long kinds holds tail = record {
   messages = [];
   wire = record { spare = length ws; words = zeros ws tail; number = refl };
   each = λ x i. absurd i;
 }
-seen P (suc h) [] long kinds holds tail = absurd (omega arith)
-seen P (suc h) (k ∷ []) long kinds holds tail = absurd (omega arith)
-seen P (suc h) (k ∷ w ∷ []) long kinds holds tail = absurd (omega arith)
-seen P (suc h) (k ∷ w ∷ p ∷ []) long kinds holds tail = absurd (omega arith)
-seen P (suc h) (k ∷ w ∷ p ∷ t ∷ ws) long kinds holds tail =
-    go (seen P h ws (omega arith) (λ i l. rw (four-on i) at (kinds (suc i) (omega arith)))
-    (λ i x l s. holds (suc i) x (omega arith) (shows-on ws k w p t i x s)) (rw (four-on h) at tail))
-    (named k w p (kinds 0 (omega arith)))
+seen P (suc h) ws long kinds holds tail =
+    go (seen P h others (omega (arith, length-drop messageWords ws)) (λ i l. subst (λ (x : Held). IsKind (x .kind)) (further i) (kinds (suc i) (omega arith)))
+    (λ i x l e. holds (suc i) x (omega arith) (further i ∙ e)) (subst (λ (l : List ℕ). T (someNonZero l) → ⊥) beyond tail))
+    (named (heldAt ws 0) (kinds 0 (omega arith)))
   where
-    go : Seen P h ws → (m : Message) × (k ≡ kindOf m) × (w ≡ viewIn m) × (p ≡ processorIn m) → Seen P (suc h) (k ∷ w ∷ p ∷ t ∷ ws)
-    go s m = record {
-      messages = sentAs (m .0) t ∷ s .messages;
-      wire = record {
-        spare = s .wire .spare;
-        words = λ i. m .1 i ∷ m .2 i ∷ m .3 i ∷ t ∷ s .wire .words i;
-        number = ap suc (s .wire .number);
-      };
-      each = λ x i. ⊎-elim (λ e. subst P (sym e) (holds 0 (sentAs (m .0) t) (omega arith)
-          (record { kind = m .1; view = m .2; processor = m .3; time = refl }))) (λ j. s .each x j) i;
-    }
+    others : List ℕ
+    others = drop messageWords ws
+
+    back : ws ≡ heldWords (heldAt ws 0) ++ others
+    back = laid-back ws (omega arith)
+
+    further : (i : ℕ) → heldAt ws (suc i) ≡ heldAt others i
+    further i = ap (λ (l : List ℕ). heldAt l (suc i)) back ∙ read-on (heldAt ws 0) others i
+
+    beyond : drop (messageWords * suc h) ws ≡ drop (messageWords * h) others
+    beyond = let e : messageWords * suc h ≡ messageWords + messageWords * h = omega arith in rw e (sym (drop-drop (messageWords * h) messageWords ws))
+
+    go : Seen P h others → (m : Message) × (heldAt ws 0 ≡ heldAs (heldAt ws 0 .sent) m) → Seen P (suc h) ws
+    go s m =
+        let x : Sent = sentAs (m .0) (heldAt ws 0 .sent) in
+        record {
+          messages = x ∷ s .messages;
+          wire = record {
+            spare = s .wire .spare;
+            words = back ∙ ap₂ (λ (a : Held) (l : List ℕ). heldWords a ++ l) (m .1) (s .wire .words) ∙ sym (laid-front x (s .messages) (s .wire .spare));
+            number = ap suc (s .wire .number);
+          };
+          each = λ y i. ⊎-elim (λ e. subst P (sym e) (holds 0 x (omega arith) (m .1))) (λ j. s .each y j) i;
+        }

@@ -11,6 +11,7 @@ pub mod Addressing
 pub mod TickLaws
 pub mod Clocks
 pub mod Tracks
+pub mod Naming
 pub mod Ticks
 pub mod Reaches
 pub mod Events

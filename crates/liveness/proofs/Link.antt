@@ -1,6 +1,6 @@
 -- What ties a run and its lent buffers to a state of the protocol: the network's words to the messages in flight, and clocks, views and
 -- tally to processors and tally. Assumes nothing.
-use mathlib.Core.Path.{_≡_, refl, ap, _∙_, subst}
+use mathlib.Core.Path.{_≡_, refl, sym, ap, _∙_, subst}
 use mathlib.Core.Bool.{Bool, true, false, not, _&&_}
 use mathlib.Core.Logic.{⊎-elim}
 use mathlib.Core.List.{List, _∷_, _++_}
@@ -19,12 +19,12 @@ use Rattle.protocol.specs.State.{Processors, Tally, Flight, Starts}
 use Rattle.types.specs.declared.Plan.{Plan}
 use Rattle.types.specs.declared.Message.{Message}
 use Rattle.types.specs.declared.Run.{Run}
-use Rattle.types.specs.Quantities.{deltaLeast, gammaLeast, gammaMost, nLeast, nMost, viewsLeast, viewsMost, rowWords, messageWords, tolerated, perLeader, turnStart, lead, initial, nextInitial, clockTime, endTime, correct}
+use Rattle.types.specs.Quantities.{deltaLeast, gammaMost, nLeast, nMost, viewsLeast, viewsMost, rowWords, messageWords, tolerated, perLeader, turnStart, lead, initial, nextInitial, clockTime, endTime, correct}
 use Rattle.types.proofs.PlanLaws.{per-leader-positive}
 use Rattle.model.specs.State.{State, isCorrect, enteredWord, heardWord, marksWord, markBit, word, posted, removed, capacity}
 use Rattle.model.specs.Moves.{Change, certificate}
 use Rattle.model.specs.Checks.{isAt, placeOf, notHeld, reachesEnd}
-use Rattle.liveness.proofs.Flight.{sentAs, Sent, In, laid, stamped, length-laid, length-stamped, posted-laid, removed-laid, Found, found-at, rest, length-removed}
+use Rattle.liveness.proofs.Flight.{sentAs, Sent, In, laid, stamped, length-laid, length-stamped, posted-laid, removed-laid, Read, read-at, Found, found-at, rest, length-removed}
 use Rattle.liveness.proofs.Sending.{signature, At}
 use Rattle.liveness.proofs.Judging.{place-inside}
 
@@ -35,7 +35,7 @@ pub record Planned (plan : Plan) (faulty : ℕ) : Type 0 where
   pub n-least : nLeast ≤ plan .n
   pub n-most : plan .n ≤ nMost
   pub delta-least : deltaLeast ≤ plan .delta
-  pub gamma-least : gammaLeast plan ≤ plan .gamma
+  pub gamma-twice : 2 * plan .delta ≤ plan .gamma
   pub gamma-most : plan .gamma ≤ gammaMost
   pub views-least : viewsLeast ≤ plan .views
   pub views-most : plan .views ≤ viewsMost
@@ -46,7 +46,7 @@ pub record Planned (plan : Plan) (faulty : ℕ) : Type 0 where
 -- a leader's turn is long enough
 pub per-leader-roomy : (plan : Plan) (faulty : ℕ) → Planned plan faulty → 3 * plan .delta + plan .gamma < perLeader plan * plan .gamma
 unfolding perLeader
-per-leader-roomy plan faulty ok = omega (arith, ok .delta-least, ok .gamma-least)
+per-leader-roomy plan faulty ok = omega (arith, ok .delta-least, ok .gamma-twice)
 
 module _ (plan : Plan) (faulty : ℕ) where
   pub correct-below : (p : ℕ) → T (correct plan faulty p) → p < plan .n
@@ -63,7 +63,7 @@ module _ (plan : Plan) (faulty : ℕ) where
   third ok = omega (arith, ok .n-least)
 
   pub gamma-positive : Planned plan faulty → 0 < plan .gamma
-  gamma-positive ok = omega (arith, ok .delta-least, ok .gamma-least)
+  gamma-positive ok = omega (arith, ok .delta-least, ok .gamma-twice)
 
   abbrev pub params : Planned plan faulty → Params
   params ok = record {
@@ -121,6 +121,14 @@ module _ {ws : List ℕ} {held : ℕ} {xs : List Sent} (wire : Wire ws held xs) 
   pub wire-length : length ws ≡ messageWords * held + wire .spare
   wire-length = ap length (wire .words) ∙ length-laid xs (wire .spare) ∙ omega (arith, wire .number)
 
+  -- what is read at a place within the messages held is one in flight
+  pub wire-read : (i : ℕ) → i < held → Read ws i xs
+  wire-read i l = subst (λ (u : List ℕ). Read u i xs) (sym (wire .words)) (read-at xs (wire .spare) i (omega (arith, wire .number)))
+
+  -- and is found there, if it is m
+  pub wire-found-at : (m : Message) (i : ℕ) → i < held → T (isAt ws m i) → Found xs m i
+  wire-found-at m i l t = found-at xs (wire .spare) m i (omega (arith, wire .number)) (subst (λ (u : List ℕ). T (isAt u m i)) (wire .words) t)
+
   module _ (now : ℕ) (ms : List Message) (fits : T (ltb (capacity ws) (held + length ms)) → ⊥) where
     wire-room : messageWords * length ms ≤ wire .spare
     wire-room = ⊎-elim (λ (l : held + length ms ≤ capacity ws). omega (arith, wire-length))
@@ -166,10 +174,9 @@ module _ {ws : List ℕ} {held : ℕ} {xs : List Sent} (wire : Wire ws held xs) 
 
 -- a held message is found in flight
 pub wire-found : (s : State) {xs : List Sent} → Wire (s .network) (s .run .held) xs → (m : Message) → (T (notHeld s m) → ⊥) → Found xs m (placeOf s m)
-wire-found s {xs} wire m is-held =
+wire-found s wire m is-held =
     let inside : placeOf s m < s .run .held = place-inside s m is-held in
-    found-at xs (wire .spare) m (placeOf s m) (omega (arith, wire .number))
-    (subst (λ (l : List ℕ). T (isAt l m (placeOf s m))) (wire .words) (first-at (isAt (s .network) m) (s .run .held) inside))
+    wire-found-at wire m (placeOf s m) inside (first-at (isAt (s .network) m) (s .run .held) inside)
 
 -- ---- clocks, views and tally
 

@@ -2,7 +2,7 @@
 use mathlib.Core.Path.{_≡_, refl, sym, ap, _∙_, subst}
 use mathlib.Core.Bool.{Bool, false, not, _&&_, _||_, cond}
 use mathlib.Core.List.{[]}
-use Prim.Native.Nat.{ℕ, _+_, _*_, _/_, _^_, _≤_, _<_}
+use Prim.Native.Nat.{ℕ, _+_, _*_, _^_, _≤_, _<_}
 use native.Mathlib.Omega.{arith}
 use native.Mathlib.Nat.{mul-le-mul-right}
 use lib.Dec.{T, eqb, leb, ltb, eqb→eq, leb→le, le→leb, ltb→lt}
@@ -19,7 +19,7 @@ use Rattle.types.specs.declared.Plan.{Plan}
 use Rattle.types.specs.declared.Run.{Run}
 use Rattle.types.specs.declared.Setup.{Setup}
 use Rattle.types.specs.Quantities.{nLeast, nMost, deltaLeast, deltaMost, gammaLeast, gammaMost, viewsLeast, viewsMost, networkLeast, networkMost, tableClocks, rowWords, perLeader, tolerated, lead, turnStart, startLimit, correct}
-use Rattle.types.proofs.PlanLaws.{next-least, next-of-zero}
+use Rattle.types.proofs.PlanLaws.{gamma-twice, next-least, next-of-zero}
 use Rattle.model.specs.State.{State, capacity, enteredWord, heardWord, marksWord, markBit, word}
 use Rattle.model.specs.Moves.{Change, entries, certificate, made}
 use Rattle.model.specs.Checks.{supporting, startTooHigh, tooFarAhead, nOutside, delaysOutside, viewsOutside, faultyOutside, planOutside}
@@ -48,7 +48,7 @@ planned-within p faulty inside few =
       n-least = not-ltb (p .n) nLeast (a .0);
       n-most = not-ltb nMost (p .n) (a .1);
       delta-least = not-ltb (p .delta) deltaLeast (b'' .0);
-      gamma-least = not-ltb (p .gamma) (gammaLeast p) (b' .1);
+      gamma-twice = gamma-twice p (not-ltb (p .gamma) (gammaLeast p) (b' .1));
       gamma-most = not-ltb gammaMost (p .gamma) (b .1);
       views-least = not-ltb (p .views) viewsLeast (w' .0);
       views-most = not-ltb viewsMost (p .views) (w' .1);
@@ -172,7 +172,7 @@ module _ (u : Setup) (s : State) (c : Passes (openingChecks u s)) where
       (c .1 .1 .1 .1 .0) in
       let l : networkLeast plan ≤ length (s .network) = not-ltb _ _
       (neither (ltb (length (s .tally)) (rowWords * plan .views)) (ltb (length (s .network)) (networkLeast plan)) (a .0) .1) in
-      let g : length (replicate {A = ℕ} (length (s .network)) 0) / 4 < 0 + length (all .sent) = ltb→lt _ _ t in
+      let g : capacity (replicate (length (s .network)) 0) < 0 + length (all .sent) = ltb→lt _ _ t in
       omega (arith, m .sent-few, length-replicate {A = ℕ} (length (s .network)) 0)
 
   pub first-wire : Wire (replicate (length (s .network)) 0) 0 []

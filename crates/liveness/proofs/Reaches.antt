@@ -18,7 +18,7 @@ use Rattle.types.specs.declared.Message.{Message}
 use Rattle.types.specs.declared.Message.the-variants.{Vc, Qc}
 use Rattle.types.specs.declared.Traffic.{Traffic}
 use Rattle.types.specs.Quantities.{lead, initial}
-use Rattle.model.specs.State.{State, withHeld, withTraffic, viewOf, isCorrect, enteredWord}
+use Rattle.model.specs.State.{State, withRun, withNetwork, withHeld, withTraffic, viewOf, isCorrect, enteredWord}
 use Rattle.model.specs.Moves.{Change, still, Entry, stay, into, certificate, entering, taking, hearing, handling, made}
 use Rattle.model.specs.Checks.{reachesEnd, overfull}
 use Rattle.liveness.proofs.TallyLaws.{length-added}
@@ -48,7 +48,7 @@ module _ (s : State) (ok : Planned (s .run .plan) (s .run .faulty)) (x : Tracked
   module _ (h : ℕ) (traffic : Traffic) (ws : List ℕ) (ys : List Sent) (wire : Wire ws h ys) (same-length : length ws ≡ length (s .network))
       (kept : (m : Message) (t : ℕ) → In m t ys → In m t (x .messages)) where
     abbrev s₁ : State
-    s₁ = record { run = withTraffic traffic (withHeld h (s .run)); tally = s .tally; network = ws }
+    s₁ = withRun (withTraffic traffic (withHeld h (s .run))) (withNetwork ws s)
 
     -- a leader hears a signature
     pub hear-leads : (q : Bool) (w p : ℕ) → w < plan .views → p < plan .n → ((m : Message) (t : ℕ) → In m t (x .messages) → In m t ys ⊎ (m ≡ signature q w p))

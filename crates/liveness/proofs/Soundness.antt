@@ -142,7 +142,7 @@ inside-of s x p c = in-view (s .run .plan) (clockOf (s .run) p) (viewOf (s .run)
 pub rows-long : (s : State) → (T (limitsBroken s) → ⊥) → rowWords * s .run .plan .views ≤ length (s .tally)
 rows-long s no' =
     let p : Plan = s .run .plan in
-    let b = neither (planOutside p || faultyOutside p (s .run .faulty)) (buffersOutside p (s .tally) (s .network)) no' .1 in
+    let b = neither (planOutside p || faultyOutside p (s .run .faulty)) (buffersOutside s) no' .1 in
     let b' = neither (ltb (length (s .tally)) (rowWords * p .views) || ltb (length (s .network)) (networkLeast p))
     (ltb networkMost (length (s .network))) b .0 in
     not-ltb _ _ (neither (ltb (length (s .tally)) (rowWords * p .views)) (ltb (length (s .network)) (networkLeast p)) b' .0)

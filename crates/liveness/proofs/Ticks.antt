@@ -18,7 +18,7 @@ use Rattle.types.specs.declared.Plan.{Plan}
 use Rattle.types.specs.declared.Message.{Message}
 use Rattle.types.specs.declared.Run.{Run}
 use Rattle.types.specs.Quantities.{initial, clockTime}
-use Rattle.model.specs.State.{State, clockOf, viewOf, isCorrect, sentAt}
+use Rattle.model.specs.State.{State, clockOf, viewOf, isCorrect, Held, heldAt}
 use Rattle.model.specs.Moves.{Change, changed, still, also, Entry, stay, into, byClock, entering, taking, entries, advanced, arrival, arrivals, made}
 use Rattle.model.specs.Checks.{overdueAt, overdue, reachesEnd, overfull}
 use Rattle.liveness.proofs.Flight.{sentAs, Sent, In, stamped, stands-at}
@@ -38,12 +38,12 @@ pub timely : (s : State) (xs : List Sent) → Wire (s .network) (s .run .held) x
     → (m : Message) (t : ℕ) → In m t xs → s .run .time < max t (s .run .gst) + s .run .plan .delta
 unfolding overdue
 timely s xs wire no' z m t i =
-    let r = stands-at m t xs (wire .spare) i in
-    let e : sentAt (s .network) (r .0) ≡ t = ap (λ (l : List ℕ). sentAt l (r .0)) (wire .words) ∙ r .2 in
+    let r = stands-at (sentAs m t) xs (wire .spare) i in
+    let e : heldAt (s .network) (r .0) .sent ≡ t = ap (λ (l : List ℕ). heldAt l (r .0) .sent) (wire .words) ∙ ap (λ (h : Held). h .sent) (r .2) in
     ⊎-elim
     (λ (l : max t (s .run .gst) + s .run .plan .delta ≤ s .run .time).
     absurd (no' (T-and (s .run .settled) _ z (some-by (overdueAt s) (s .run .held) (r .0) (omega (arith, r .1, wire .number))
-    (let g : max (sentAt (s .network) (r .0)) (s .run .gst) + s .run .plan .delta ≤ s .run .time = rw e l in le→leb _ _ g)))))
+    (let g : max (heldAt (s .network) (r .0) .sent) (s .run .gst) + s .run .plan .delta ≤ s .run .time = rw e l in le→leb _ _ g)))))
     (λ l. l)
     (le? (max t (s .run .gst) + s .run .plan .delta) (s .run .time))
 

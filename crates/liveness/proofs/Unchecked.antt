@@ -15,7 +15,7 @@ use Rattle.types.specs.declared.Traffic.{Traffic}
 use Rattle.types.specs.Quantities.{lead}
 use Rattle.types.specs.Messages.{viewIn, lacksForm}
 use Rattle.types.specs.Traffic.{trafficSent, trafficDelivered}
-use Rattle.model.specs.State.{State, stateOf, After, withTime, withClocks, withTraffic, clockOf, viewOf, isCorrect, checkOf, accepted, refused, done}
+use Rattle.model.specs.State.{State, withRun, After, withTime, withClocks, withTraffic, clockOf, viewOf, isCorrect, checkOf, accepted, refused, done}
 use Rattle.model.specs.Moves.{Change, changed, still, also, Entry, stay, into, entering, byQuorum, byView, taking, entries, hearing, handling, clocksOn, advanced, arrival, arrivals, made}
 use Rattle.model.specs.Checks.{Check, judged, messageUnsound, unsound, exists, overdue, reachesEnd}
 use Rattle.model.specs.Opening.{blank, opened, openingChecks, opening}
@@ -58,7 +58,7 @@ module _ (x : Traffic) where
   clocks-sums r (suc k) = ap (λ (l : List ℕ). cond (isCorrect r k) (set l k (clockOf r k + 1)) l) (clocks-sums r k)
 
   advanced-sums : (s : State) → advanced (withSums x s) ≡ withSums x (advanced s)
-  advanced-sums s = ap (λ (l : List ℕ). stateOf (withTraffic x (withTime (s .run .time + 1) (withClocks l (s .run)))) (s .tally) (s .network))
+  advanced-sums s = ap (λ (l : List ℕ). withRun (withTraffic x (withTime (s .run .time + 1) (withClocks l (s .run)))) s)
       (clocks-sums (s .run) (s .run .plan .n))
 
   arrivals-sums : (a : State) → arrivals (withSums x a) ≡ arrivals a

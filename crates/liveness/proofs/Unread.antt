@@ -16,7 +16,7 @@ use Rattle.types.specs.declared.Run.{Run}
 use Rattle.types.specs.declared.Setup.{Setup}
 use Rattle.types.specs.Quantities.{rowWords, lead}
 use Rattle.types.specs.Messages.{viewIn, processorIn, stageOf, lacksForm}
-use Rattle.model.specs.State.{State, stateOf, After, isCorrect, accepted, checkOf, refused, done}
+use Rattle.model.specs.State.{State, withRun, withTally, withNetwork, After, isCorrect, accepted, checkOf, refused, done}
 use Rattle.model.specs.Moves.{Change, still, Entry, entries, handling, advanced, arrival, arrivals, made}
 use Rattle.model.specs.Checks.{Check, judged, messageUnsound, unsound, namedOutside, notInitial, signerCorrect, receiverFaulty, notHeld, notExisting, overdue, reachesEnd}
 use Rattle.model.specs.Opening.{blankRun, blank, firstEntry, opened, setupChecks, openingChecks, opening}
@@ -31,13 +31,13 @@ use Rattle.liveness.proofs.Cutting.{cutChange, entries-cut, exists-cut,
 
 -- without the tally's words beyond the views
 abbrev cutState : State → State
-cutState s = stateOf (s .run) (take (rowWords * s .run .plan .views) (s .tally)) (s .network)
+cutState s = withTally (take (rowWords * s .run .plan .views) (s .tally)) s
 
 -- two states are the same within the views where they are the same without those words, and as long
 cut-same : (s s' : State) → SameWithin s s' → cutState s ≡ cutState s'
 cut-same s s' h =
     let t : cutState s .tally ≡ cutState s' .tally = h .tally ∙ ap (λ (r : Run). take (rowWords * r .plan .views) (s' .tally)) (h .run) in
-    λ i. stateOf (h .run i) (t i) (h .network i)
+    λ i. withRun (h .run i) (withTally (t i) (withNetwork (h .network i) s))
 
 same-cut : (s s' : State) → cutState s ≡ cutState s' → length (s .tally) ≡ length (s' .tally) → SameWithin s s'
 same-cut s s' e l =
@@ -59,18 +59,18 @@ entered-cut s e n = ap (made (cutState s)) (entries-cut (rowWords * s .run .plan
 
 module _ (u : Setup) where
   blank-cut : (s : State) → cutState (blank u s)
-      ≡ stateOf (blankRun u) (replicate (rowWords * u .plan .views) 0) (replicate (length (s .network)) 0)
+      ≡ withRun (blankRun u) (withTally (replicate (rowWords * u .plan .views) 0) (withNetwork (replicate (length (s .network)) 0) s))
   unfolding blank
   blank-cut s =
       let k = rowWords * u .plan .views in
-      ap (λ (l : List ℕ). stateOf (blankRun u) l (replicate (length (s .network)) 0)) (take-at (replicate k 0) (drop k (s .tally)) k (length-replicate {A = ℕ} k 0))
+      ap (λ (l : List ℕ). withTally l (blank u s)) (take-at (replicate k 0) (drop k (s .tally)) k (length-replicate {A = ℕ} k 0))
 
   opened-cut : (s s' : State) → length (s .network) ≡ length (s' .network) → cutState (opened u s) ≡ cutState (opened u s')
   unfolding opened
   opened-cut s s' l =
       sym (entered-cut (blank u s) (firstEntry u) (u .plan .n))
       ∙ ap (λ (b : State). made b (entries (firstEntry u) (b .run) (b .tally) (u .plan .n))) (blank-cut s
-      ∙ ap (λ (n : ℕ). stateOf (blankRun u) (replicate (rowWords * u .plan .views) 0) (replicate n 0)) l ∙ sym (blank-cut s'))
+      ∙ ap (λ (n : ℕ). withRun (blankRun u) (withTally (replicate (rowWords * u .plan .views) 0) (withNetwork (replicate n 0) s))) l ∙ sym (blank-cut s'))
       ∙ entered-cut (blank u s') (firstEntry u) (u .plan .n)
 
 pub opens-within : OpensWithin

@@ -4,7 +4,7 @@
 use mathlib.Core.Path.{_≡_, refl}
 use mathlib.Core.Bool.{Bool, true, _&&_, cond}
 use mathlib.Core.List.{List, [], _∷_}
-use Prim.Native.Nat.{ℕ, zero, suc, _+_, _<_}
+use Prim.Native.Nat.{ℕ, zero, suc, _+_, _*_, _<_}
 use native.Mathlib.Omega.{arith}
 use lib.Dec.{T, leb, ltb, ltb→lt}
 use lib.ListN.{replicate, take}
@@ -16,7 +16,7 @@ use Rattle.types.specs.declared.Event.{Event}
 use Rattle.types.specs.declared.Event.the-variants.{Deliver, Settle, Tick}
 use Rattle.types.specs.declared.Answer.{Answer}
 use Rattle.types.specs.declared.Setup.{Setup}
-use Rattle.types.specs.Quantities.{tolerated, correct}
+use Rattle.types.specs.Quantities.{tolerated, perLeader, correct}
 use Rattle.model.specs.State.{State, viewOf, accepted}
 use Rattle.model.specs.Opening.{opening}
 use Rattle.model.specs.Lists.{after, Since, sinceSettling, ticksDone, ticksSince, formedIn, formedDuring, formedSince}
@@ -141,3 +141,8 @@ not-due = refl
 bounds : (settlingBound (setupOf (planOf 4 2 5 12) 0 zeroes) ∷ settlingBound (setupOf (planOf 7 2 5 12) 96 []) ∷ []) ≡ (28 ∷ 58 ∷ [])
 unfolding definitions
 bounds = refl
+
+-- and of every setup: "(3f+4)Γ+4Δ"
+pub usual-bound : (u : Setup) → settlingBound u ≡ (3 * size (u .faulty) + 4) * u .plan .gamma + 4 * u .plan .delta
+unfolding perLeader
+usual-bound u = omega arith

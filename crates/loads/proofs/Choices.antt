@@ -1,28 +1,23 @@
 -- What a load chooses on a sound run: the delivery of a message held, a tick where none is overdue, or settling; each has a line. Assumes nothing.
 use mathlib.Core.Path.{_≡_, refl, sym, ap, subst}
-use mathlib.Core.Bool.{false, not, _&&_}
-use mathlib.Core.List.{List}
-use Prim.Native.Nat.{ℕ, _/_, _%_, _<_}
+use mathlib.Core.Bool.{false, not}
+use Prim.Native.Nat.{ℕ, _%_, _<_}
 use native.Mathlib.Omega.{arith}
 use native.Mathlib.Nat.{mod-lt}
 use lib.Dec.{T, eqb, ltb, ltb→lt, T-not}
-use lib.ListN.{length}
-use borrow.Author.Tests.{lt-ltb}
 use Rattle.base.specs.Scan.{some, first}
 use Rattle.base.specs.ScanLaws.{first-some}
-use Rattle.base.specs.Tests.{T-and, T-right, T-false, eq→eqb, by-cond}
+use Rattle.base.specs.Tests.{T-right, T-false, by-cond}
 use Rattle.types.specs.declared.Message.{Message}
 use Rattle.types.specs.declared.Event.{Event}
 use Rattle.types.specs.declared.Event.the-variants.{Deliver, Settle, Tick}
-use Rattle.types.specs.Quantities.{messageWords}
-use Rattle.types.specs.Messages.{kindOf, viewIn, processorIn}
-use Rattle.model.specs.State.{State, kindAt, viewAt, processorAt, capacity}
-use Rattle.model.specs.Checks.{isAt, timeUnsound, overdueAt, overdue}
+use Rattle.model.specs.State.{State, Held, roomIn}
+use Rattle.model.specs.Checks.{heldIs, isAt, timeUnsound, overdueAt, overdue}
 use Rattle.buffers.specs.declared.Stored.the-variants.{Holds}
 use Rattle.buffers.specs.Kinds.{stored}
-use Rattle.buffers.proofs.Storing.{stored-back}
-use Rattle.liveness.proofs.Flight.{Shows, shown-at}
-use Rattle.liveness.proofs.Link.{wire-length}
+use Rattle.buffers.proofs.Storing.{held-stored}
+use Rattle.liveness.proofs.Flight.{held-itself}
+use Rattle.liveness.proofs.Link.{wire-length, wire-read}
 use Rattle.liveness.proofs.Soundness.{SoundRun}
 use Rattle.liveness.proofs.Addressing.{Addressed}
 use Rattle.liveness.proofs.Carrying.{Carried, carried-of, carried-planned}
@@ -38,26 +33,23 @@ module _ (s : State) (sound : SoundRun s) where
   carried = carried-of s sound
 
   -- what stands at a place within the messages held is a message, which names a view and a processor that there are
-  pub record Held (i : ℕ) : Type 0 where
+  pub record Holding (i : ℕ) : Type 0 where
     pub message : Message
     pub stored-as : stored (s .network) i ≡ Holds message
     pub shows : T (isAt (s .network) message i)
     pub addressed : Addressed (s .run .plan) (s .run .faulty) message
 
-  pub held : (i : ℕ) → i < s .run .held → Held i
+  pub held : (i : ℕ) → i < s .run .held → Holding i
   held i l =
       let x = carried in
-      let a = shown-at (x .messages) (x .wire .spare) i (omega (arith, x .wire .number)) in
-      let m : Message = a .0 .message in
-      let e : Shows (s .network) i (a .0) = subst (λ (ws : List ℕ). Shows ws i (a .0)) (sym (x .wire .words)) (a .2) in
-      let fits : i < length (s .network) / messageWords = omega (arith, wire-length (x .wire)) in
+      let a = wire-read (x .wire) i l in
+      let m : Message = a .sent .message in
+      let fits : i < roomIn s = omega (arith, wire-length (x .wire)) in
       record {
         message = m;
-        stored-as = rw (lt-ltb i (capacity (s .network)) fits, e .kind, e .view, e .processor) (stored-back m);
-        shows = T-and (eqb (kindAt (s .network) i) (kindOf m) && eqb (viewAt (s .network) i) (viewIn m)) (eqb (processorAt (s .network) i) (processorIn m))
-            (T-and (eqb (kindAt (s .network) i) (kindOf m)) (eqb (viewAt (s .network) i) (viewIn m)) (eq→eqb _ _ (e .kind)) (eq→eqb _ _ (e .view)))
-            (eq→eqb _ _ (e .processor));
-        addressed = x .fine (a .0) (a .1) .0;
+        stored-as = held-stored (s .network) i m (a .sent .time) fits (a .is);
+        shows = subst (λ (h : Held). T (heldIs m h)) (sym (a .is)) (held-itself (a .sent .time) m);
+        addressed = x .fine (a .sent) (a .within) .0;
       }
 
   pub held-delivery : (i : ℕ) (l : i < s .run .held) → delivery s i ≡ Deliver (held i l .message)

@@ -12,7 +12,7 @@ use Rattle.types.specs.declared.Message.{Message}
 use Rattle.types.specs.declared.Run.{Run}
 use Rattle.types.specs.Quantities.{nLeast, nMost, deltaLeast, deltaMost, gammaLeast, gammaMost, viewsLeast, viewsMost, rowWords, messageWords, networkLeast, networkMost, tolerated, lead, initial, nextInitial, clockTime, endTime, startLimit, correct, turnStart}
 use Rattle.types.specs.Messages.{kindOf, viewIn, processorIn, kindLeast, kindMost, stageOf, addressee}
-use Rattle.model.specs.State.{State, isCorrect, enteredWord, marksWord, markBit, word, kindAt, viewAt, processorAt, sentAt, capacity}
+use Rattle.model.specs.State.{State, isCorrect, Held, enteredWord, marksWord, markBit, word, heldAt, heldIn, roomIn}
 use Rattle.model.specs.Moves.{Change, needed}
 
 -- a check's number, and whether its sentence holds
@@ -57,8 +57,8 @@ faultyOutside p faulty = leb (2 ^ p .n) faulty || ltb (tolerated p) (size faulty
 abbrev pub lengthsOutside : Plan → ℕ → ℕ → Bool
 lengthsOutside p tally network = ltb tally (rowWords * p .views) || ltb network (networkLeast p) || ltb networkMost network
 
-abbrev pub buffersOutside : Plan → List ℕ → List ℕ → Bool
-buffersOutside p t ws = lengthsOutside p (length t) (length ws)
+abbrev pub buffersOutside : State → Bool
+buffersOutside s = lengthsOutside (s .run .plan) (length (s .tally)) (length (s .network))
 
 -- 7. "A correct start clock is 3Γ or more."
 abbrev pub highAt : Plan → ℕ → List ℕ → ℕ → Bool
@@ -85,7 +85,7 @@ tooFarAhead p faulty clocks = some (aloneAt p faulty clocks) (p .n)
 -- addressed to a faulty cabinet, a sending or settling time later than now, or a post word beyond the last message that is not 0."
 
 abbrev pub limitsBroken : State → Bool
-limitsBroken s = planOutside (s .run .plan) || faultyOutside (s .run .plan) (s .run .faulty) || buffersOutside (s .run .plan) (s .tally) (s .network)
+limitsBroken s = planOutside (s .run .plan) || faultyOutside (s .run .plan) (s .run .faulty) || buffersOutside s
 
 abbrev pub atEnd : Plan → ℕ → Bool
 atEnd p clock = leb (endTime p) clock
@@ -103,19 +103,19 @@ abbrev pub timeUnsound : State → Bool
 timeUnsound s = atEnd (s .run .plan) (s .run .time)
 
 abbrev pub heldTooMany : State → Bool
-heldTooMany s = ltb (capacity (s .network)) (s .run .held)
+heldTooMany s = ltb (roomIn s) (s .run .held)
 
--- a message of such a kind that names too much, is for no correct processor, or was sent later than now
-abbrev pub heldUnsound : Plan → ℕ → ℕ → ℕ → ℕ → ℕ → ℕ → Bool
-heldUnsound plan faulty time kind w p sent =
-    noView plan w || noProcessor plan p || not (correct plan faulty (addressee plan kind w p)) || ltb time sent
+abbrev pub kindOutside : ℕ → Bool
+kindOutside kind = ltb kind kindLeast || ltb kindMost kind
+
+-- a message that is of no kind, names too much, is for no correct processor, or was sent later than now
+abbrev pub heldUnsound : Plan → ℕ → ℕ → Held → Bool
+heldUnsound plan faulty time h =
+    kindOutside (h .kind) || noView plan (h .view) || noProcessor plan (h .processor)
+    || not (correct plan faulty (addressee plan (h .kind) (h .view) (h .processor))) || ltb time (h .sent)
 
 unfoldable pub messageUnsound : State → ℕ → Bool
-messageUnsound s i =
-    let r = s .run in
-    let kind = kindAt (s .network) i in
-    (ltb kind kindLeast || ltb kindMost kind)
-    || heldUnsound (r .plan) (r .faulty) (r .time) kind (viewAt (s .network) i) (processorAt (s .network) i) (sentAt (s .network) i)
+messageUnsound s i = heldUnsound (s .run .plan) (s .run .faulty) (s .run .time) (heldIn s i)
 
 -- "(its settling time is kept as 0; check 9 refuses another value in an unsettled run)"
 abbrev pub settlingUnsound : State → Bool
@@ -151,9 +151,12 @@ signerCorrect s m = isCorrect (s .run) (processorIn m)
 abbrev pub receiverFaulty : State → Message → Bool
 receiverFaulty s m = not (isCorrect (s .run) (processorIn m))
 
--- the held message i is m
+-- a held message is m, whenever it was sent; and the one at place i is
+abbrev pub heldIs : Message → Held → Bool
+heldIs m h = eqb (h .kind) (kindOf m) && eqb (h .view) (viewIn m) && eqb (h .processor) (processorIn m)
+
 abbrev pub isAt : List ℕ → Message → ℕ → Bool
-isAt ws m i = eqb (kindAt ws i) (kindOf m) && eqb (viewAt ws i) (viewIn m) && eqb (processorAt ws i) (processorIn m)
+isAt ws m i = heldIs m (heldAt ws i)
 
 -- "the first, of equal ones"
 abbrev pub placeOf : State → Message → ℕ
@@ -183,7 +186,7 @@ abbrev pub late : ℕ → ℕ → ℕ → ℕ → Bool
 late gst delta time sent = leb (max sent gst + delta) time
 
 abbrev pub lateAt : ℕ → ℕ → ℕ → List ℕ → ℕ → Bool
-lateAt gst delta time ws i = late gst delta time (sentAt ws i)
+lateAt gst delta time ws i = late gst delta time (heldAt ws i .sent)
 
 abbrev pub overdueAt : State → ℕ → Bool
 overdueAt s = lateAt (s .run .gst) (s .run .plan .delta) (s .run .time) (s .network)
@@ -198,4 +201,4 @@ reachesEnd r c = some (λ p. isCorrect r p && atEnd (r .plan) (getD (c .clocks) 
 
 -- 18. "The messages held after the event would exceed the post's words divided by 4, rounded down.", by the change c of s
 abbrev pub overfull : State → Change → Bool
-overfull s c = ltb (capacity (s .network)) (s .run .held + length (c .sent))
+overfull s c = ltb (roomIn s) (s .run .held + length (c .sent))

@@ -12,12 +12,12 @@ use Rattle.types.specs.declared.Input.the-variants as input
 use Rattle.types.specs.declared.Sends.the-variants.{Nothing, Vote as VoteFor, ViewAndVote}
 use Rattle.types.specs.declared.Stepped.the-variants as step
 use Rattle.types.specs.Traffic.{noTraffic}
-use Rattle.model.specs.State.{State, stateOf, runOf, checkOf, heldOf, accepted}
+use Rattle.model.specs.State.{State, stateOf, withNetwork, runOf, checkOf, heldOf, accepted}
 use Rattle.model.specs.Checks.{lengthsOutside, unsoundForGood}
 use Rattle.model.specs.Opening.{opening}
 use Rattle.model.specs.Processors.{sentIn, checkIn, stepped}
 use Rattle.model.specs.Lists.{after}
-use Rattle.model.specs.Rows.{definitions, planOf, standard, zeroes, copies, setupOf, lent, buffers, handedIn, withNetwork, Row, agreeing, truth, words, schedule, handedRow, fieldsOf, movedNumbers}
+use Rattle.model.specs.Rows.{definitions, planOf, standard, zeroes, copies, setupOf, lent, buffers, handedIn, Row, agreeing, truth, words, schedule, handedRow, fieldsOf, movedNumbers}
 
 -- ---- limits
 

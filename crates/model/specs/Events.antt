@@ -12,7 +12,7 @@ use Rattle.types.specs.declared.Answer.the-variants.{Done, Stopped, Refused}
 use Rattle.types.specs.Quantities.{lead}
 use Rattle.types.specs.Traffic.{trafficDelivered}
 use Rattle.types.specs.Messages.{viewIn, processorIn, stageOf, lacksForm}
-use Rattle.model.specs.State.{State, After, withHeld, withGst, withTraffic, isCorrect, sentAt, removed, checkOf, refused, done}
+use Rattle.model.specs.State.{State, After, withRun, withNetwork, withHeld, withGst, withTraffic, isCorrect, heldAt, removed, checkOf, refused, done}
 use Rattle.model.specs.Moves.{Change, still, handling, advanced, arrivals, made}
 use Rattle.model.specs.Checks.{Check, judged, unsound, namedOutside, notInitial, signerCorrect, receiverFaulty, placeOf, notHeld, notExisting, settledBefore, overdue, reachesEnd, overfull}
 
@@ -24,17 +24,15 @@ outcomeChecks s c = (17, reachesEnd (s .run) c) ∷ (18, overfull s c) ∷ []
 
 -- "delivery less sending time": of the message at a place, and of the one that is delivered
 abbrev pub waitSince : ℕ → List ℕ → ℕ → ℕ
-waitSince time network i = time - sentAt network i
+waitSince time network i = time - heldAt network i .sent
 
 abbrev pub waitOf : State → Message → ℕ
 waitOf s m = waitSince (s .run .time) (s .network) (placeOf s m)
 
 unfoldable pub without : State → Message → State
-without s m = record {
-  run = withTraffic (trafficDelivered (s .run .traffic) m (waitOf s m)) (withHeld (s .run .held - 1) (s .run));
-  tally = s .tally;
-  network = removed (s .network) (s .run .held) (placeOf s m);
-}
+without s m =
+    withRun (withTraffic (trafficDelivered (s .run .traffic) m (waitOf s m)) (withHeld (s .run .held - 1) (s .run)))
+    (withNetwork (removed (s .network) (s .run .held) (placeOf s m)) s)
 
 unfoldable pub delivering : State → Message → Change
 delivering s m = handling (without s m .run) (s .tally) m
@@ -47,7 +45,7 @@ signing s m = cond (isCorrect (s .run) (lead (s .run .plan) (viewIn m))) (handli
 -- ---- "from now on the network keeps Δ."
 
 unfoldable pub nowSettled : State → State
-nowSettled s = record { run = withGst (s .run .time) (s .run); tally = s .tally; network = s .network }
+nowSettled s = withRun (withGst (s .run .time) (s .run)) s
 
 -- ---- "up to m single ticks"
 

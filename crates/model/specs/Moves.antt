@@ -12,7 +12,7 @@ use Rattle.types.specs.declared.Run.{Run}
 use Rattle.types.specs.Quantities.{tolerated, lead, initial, clockTime, correct}
 use Rattle.types.specs.Traffic.{trafficSent}
 use Rattle.types.specs.Messages.{viewStage, voteStage, kindOf, viewIn, processorIn, addressee}
-use Rattle.model.specs.State.{State, withHeld, withTime, withClocks, withViews, withTraffic, clockOf, viewOf, isCorrect, enteredWord, heardWord, marksWord, markBit, word, added, posted}
+use Rattle.model.specs.State.{State, withRun, withTally, withNetwork, withHeld, withTime, withClocks, withViews, withTraffic, clockOf, viewOf, isCorrect, enteredWord, heardWord, marksWord, markBit, word, added, posted}
 
 -- what a move leaves of clocks, views and tally, and the messages that it sends, in order; nothing else of the run moves
 pub record Change : Type 0 where
@@ -152,11 +152,7 @@ clocksOn r zero = r .clocks
 clocksOn r (suc k) = cond (isCorrect r k) (set (clocksOn r k) k (clockOf r k + 1)) (clocksOn r k)
 
 abbrev pub advanced : State → State
-advanced s = record {
-  run = withTime (s .run .time + 1) (withClocks (clocksOn (s .run) (s .run .plan .n)) (s .run));
-  tally = s .tally;
-  network = s .network;
-}
+advanced s = withRun (withTime (s .run .time + 1) (withClocks (clocksOn (s .run) (s .run .plan .n)) (s .run))) s
 
 abbrev pub arrival : Run → ℕ → Entry
 arrival r p = cond (isCorrect r p) (byClock (r .plan) (clockOf r p)) stay
@@ -168,8 +164,6 @@ arrivals a = entries (arrival (a .run)) (a .run) (a .tally) (a .run .plan .n)
 -- ---- a change made, and its messages posted: "Sent means posted."
 
 unfoldable pub made : State → Change → State
-made s c = record {
-  run = withTraffic (trafficSent (s .run .traffic) (c .sent)) (withHeld (s .run .held + length (c .sent)) (changed (s .run) c));
-  tally = c .tally;
-  network = posted (s .network) (s .run .held) (s .run .time) (c .sent);
-}
+made s c =
+    withRun (withTraffic (trafficSent (s .run .traffic) (c .sent)) (withHeld (s .run .held + length (c .sent)) (changed (s .run) c)))
+    (withTally (c .tally) (withNetwork (posted (s .network) (s .run .held) (s .run .time) (c .sent)) s))

@@ -8,7 +8,7 @@ use Rattle.types.specs.declared.Run.{Run}
 use Rattle.types.specs.declared.Setup.{Setup}
 use Rattle.types.specs.Traffic.{noTraffic}
 use Rattle.types.specs.Quantities.{tableClocks, rowWords, correct}
-use Rattle.model.specs.State.{State, After, runOf, refused, done}
+use Rattle.model.specs.State.{State, After, withRun, withTally, withNetwork, runOf, refused, done}
 use Rattle.model.specs.Moves.{Entry, stay, into, entries, made}
 use Rattle.model.specs.Checks.{Check, judged, nOutside, delaysOutside, viewsOutside, faultyOutside, lengthsOutside, startTooHigh, tooFarAhead}
 
@@ -22,11 +22,10 @@ blankRun u = runOf (u .plan) (u .faulty) 0 false 0 0 (startClocks u) (replicate 
 
 -- "Opening zeroes the first 4V ledger words and the whole post before entering view 0; ledger words beyond are untouched."
 unfoldable pub blank : Setup → State → State
-blank u s = record {
-  run = blankRun u;
-  tally = replicate (rowWords * u .plan .views) 0 ++ drop (rowWords * u .plan .views) (s .tally);
-  network = replicate (length (s .network)) 0;
-}
+blank u s =
+    withRun (blankRun u)
+    (withTally (replicate (rowWords * u .plan .views) 0 ++ drop (rowWords * u .plan .views) (s .tally))
+    (withNetwork (replicate (length (s .network)) 0) s))
 
 -- "every correct cabinet enters view 0 with its start clock"
 abbrev pub firstEntry : Setup → ℕ → Entry

@@ -8,8 +8,9 @@ use Rattle.types.specs.declared.Message.the-variants.{View, Vote, Vc, Qc}
 use Rattle.types.specs.declared.Event.the-variants.{Deliver, Sign, Show, Settle, Tick}
 use Rattle.types.specs.declared.Input.the-variants as input
 use Rattle.types.specs.declared.Answer.the-variants.{Done, Refused}
+use Rattle.model.specs.State.{withTally, withNetwork}
 use Rattle.model.specs.Checks.{tooFarAhead}
-use Rattle.model.specs.Rows.{definitions, planOf, standard, padded, table, zeroes, copies, setupOf, lent, buffers, handedIn, withTally, withNetwork, Row, agreeing, truth, schedule, fullSchedule, handedRow, refusedWhole, oneMove}
+use Rattle.model.specs.Rows.{definitions, planOf, standard, padded, table, zeroes, copies, setupOf, lent, buffers, handedIn, Row, agreeing, truth, schedule, fullSchedule, handedRow, refusedWhole, oneMove}
 
 -- ---- checks 2 to 8
 

@@ -20,7 +20,7 @@ use Rattle.base.specs.Sets.{member}
 use Rattle.types.specs.Quantities.{tableClocks, perLeader}
 use Rattle.types.specs.Traffic.{countNumbers, noTraffic, countsMore}
 use Rattle.types.specs.Messages.{kindOf, viewIn, processorIn}
-use Rattle.model.specs.State.{State, After, runOf, clockOf, viewOf, isCorrect, posted, removed}
+use Rattle.model.specs.State.{State, After, stateOf, runOf, clockOf, viewOf, isCorrect, posted, removed}
 use Rattle.model.specs.Moves.{toCorrect, entering, taking, entries, ripe, toEach, hearing, handling, clocksOn, arrivals, made}
 use Rattle.model.specs.Checks.{startTooHigh, tooFarAhead, messageUnsound, unsound, unsoundForGood, exists, overdue, reachesEnd}
 use Rattle.model.specs.Opening.{blank, opened, opening}
@@ -62,7 +62,7 @@ setupOf plan faulty clocks = record { plan = plan; faulty = faulty; clocks = tab
 
 -- buffers of so many tally and network words, lent before any run
 abbrev pub lent : ℕ → ℕ → State
-lent t w = record { run = runOf (planOf 0 0 0 0) 0 0 false 0 0 (table []) (table []) noTraffic; tally = replicate t 0; network = replicate w 0 }
+lent t w = stateOf (runOf (planOf 0 0 0 0) 0 0 false 0 0 (table []) (table []) noTraffic) (replicate t 0) (replicate w 0)
 
 -- longer ones than most rows need: words for 15 views and 32 messages
 abbrev pub buffers : State
@@ -71,17 +71,8 @@ buffers = lent 60 128
 -- a run handed in: plan, faulty set, time, whether settled and when, messages held, clocks, views; then the first words of the 24 of the tally
 -- and of the 64 of the network
 abbrev pub handedIn : Plan → ℕ → ℕ → Bool → ℕ → ℕ → List ℕ → List ℕ → List ℕ → List ℕ → State
-handedIn plan faulty time settled gst held clocks views tally network = record {
-  run = runOf plan faulty time settled gst held (table clocks) (table views) noTraffic;
-  tally = padded 24 tally;
-  network = padded 64 network;
-}
-
-abbrev pub withTally : List ℕ → State → State
-withTally t s = record { run = s .run; tally = t; network = s .network }
-
-abbrev pub withNetwork : List ℕ → State → State
-withNetwork w s = record { run = s .run; tally = s .tally; network = w }
+handedIn plan faulty time settled gst held clocks views tally network =
+    stateOf (runOf plan faulty time settled gst held (table clocks) (table views) noTraffic) (padded 24 tally) (padded 64 network)
 
 -- ---- what comes out, as numbers
 

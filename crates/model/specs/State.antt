@@ -26,6 +26,16 @@ pub record State : Type 0 where
 abbrev pub stateOf : Run → List ℕ → List ℕ → State
 stateOf run tally network = record { run = run; tally = tally; network = network }
 
+-- a state with another run, tally or network
+abbrev pub withRun : Run → State → State
+withRun r s = record { run = r; tally = s .tally; network = s .network }
+
+abbrev pub withTally : List ℕ → State → State
+withTally t s = record { run = s .run; tally = t; network = s .network }
+
+abbrev pub withNetwork : List ℕ → State → State
+withNetwork ws s = record { run = s .run; tally = s .tally; network = ws }
+
 -- ---- the run
 
 abbrev pub runOf : Plan → ℕ → ℕ → Bool → ℕ → ℕ → List ℕ → List ℕ → Traffic → Run
@@ -97,25 +107,39 @@ added t w j p = set t (slot w j) (insert (word t w j) p)
 
 -- ---- the network: "kind (1 view, 2 vote, 3 view certificate, 4 quorum certificate), view, cabinet, sending time"
 
-abbrev pub kindAt : List ℕ → ℕ → ℕ
-kindAt ws i = getD ws (messageWords * i) 0
+-- a held message: its four numbers
+pub record Held : Type 0 where
+  pub kind : ℕ
+  pub view : ℕ
+  pub processor : ℕ
+  pub sent : ℕ
 
-abbrev pub viewAt : List ℕ → ℕ → ℕ
-viewAt ws i = getD ws (messageWords * i + 1) 0
+-- a message that is sent now
+abbrev pub heldAs : ℕ → Message → Held
+heldAs now m = record { kind = kindOf m; view = viewIn m; processor = processorIn m; sent = now }
 
-abbrev pub processorAt : List ℕ → ℕ → ℕ
-processorAt ws i = getD ws (messageWords * i + 2) 0
+-- its words, and message i, read from the network's
+abbrev pub heldWords : Held → List ℕ
+heldWords h = h .kind ∷ h .view ∷ h .processor ∷ h .sent ∷ []
 
-abbrev pub sentAt : List ℕ → ℕ → ℕ
-sentAt ws i = getD ws (messageWords * i + 3) 0
+abbrev pub heldAt : List ℕ → ℕ → Held
+heldAt ws i =
+    let a = messageWords * i in record { kind = getD ws a 0; view = getD ws (a + 1) 0; processor = getD ws (a + 2) 0; sent = getD ws (a + 3) 0 }
 
 -- how many messages fit: "the post's words divided by 4, rounded down"
 abbrev pub capacity : List ℕ → ℕ
 capacity ws = length ws / messageWords
 
+-- of a state: held message i, and how many fit
+abbrev pub heldIn : State → ℕ → Held
+heldIn s i = heldAt (s .network) i
+
+abbrev pub roomIn : State → ℕ
+roomIn s = capacity (s .network)
+
 abbrev pub wordsOf : ℕ → List Message → List ℕ
 wordsOf now [] = []
-wordsOf now (m ∷ ms) = kindOf m ∷ viewIn m ∷ processorIn m ∷ now ∷ wordsOf now ms
+wordsOf now (m ∷ ms) = heldWords (heldAs now m) ++ wordsOf now ms
 
 -- "They stand in sending order": messages sent now, behind the h that are held
 unfoldable pub posted : List ℕ → ℕ → ℕ → List Message → List ℕ

@@ -13,7 +13,7 @@ use Rattle.types.specs.declared.Totals.{Totals}
 use Rattle.types.specs.declared.Traffic.{Traffic}
 use Rattle.types.specs.Traffic.{countsOf, trafficOf, noCounts, noTraffic}
 use Rattle.types.specs.Messages.{kindOf, viewIn, stageOf}
-use Rattle.model.specs.State.{State, withTraffic, kindAt, accepted}
+use Rattle.model.specs.State.{State, withRun, withTraffic, heldIn, accepted}
 use Rattle.model.specs.Moves.{entries, handling, advanced, arrivals}
 use Rattle.model.specs.Checks.{unsound}
 use Rattle.model.specs.Opening.{blank, firstEntry, opening}
@@ -105,13 +105,13 @@ ofView stage w (m ∷ ms) = bit (sameStage stage (stageOf m) && eqb (viewIn m) w
 -- ---- a run with other sums
 
 abbrev pub withSums : Traffic → State → State
-withSums x s = record { run = withTraffic x (s .run); tally = s .tally; network = s .network }
+withSums x s = withRun (withTraffic x (s .run)) s
 
 -- ---- the report
 
 -- "those held", by kind: of the messages in the network
 abbrev pub heldOfKind : State → ℕ → ℕ
-heldOfKind s k = count (s .run .held) (λ i. eqb (kindAt (s .network) i) k)
+heldOfKind s k = count (s .run .held) (λ i. eqb (heldIn s i .kind) k)
 
 abbrev pub heldCounts : State → Counts
 heldCounts s = countsOf (heldOfKind s 1) (heldOfKind s 2) (heldOfKind s 3) (heldOfKind s 4)

@@ -10,15 +10,15 @@ use Rattle.types.specs.declared.Message.the-variants.{View, Vote, Vc, Qc}
 use Rattle.types.specs.declared.Event.{Event}
 use Rattle.types.specs.declared.Event.the-variants.{Deliver, Sign, Show, Settle, Tick}
 use Rattle.types.specs.declared.Answer.the-variants.{Done, Stopped, Refused}
-use Rattle.model.specs.State.{State}
+use Rattle.model.specs.State.{State, withTally, withNetwork}
 use Rattle.model.specs.Opening.{opening}
 use Rattle.model.specs.Events.{tickOnce}
 use Rattle.model.specs.Lists.{after, sinceSettling, ticksDone, ticksSince, formedIn, formedDuring, formedSince}
-use Rattle.model.specs.Rows.{definitions, planOf, standard, table, zeroes, copies, setupOf, lent, buffers, handedIn, withNetwork, Row, agreeing, truth, words, schedule, fullSchedule, handedRow, unchanged, refusedWhole, refusedOpening}
+use Rattle.model.specs.Rows.{definitions, planOf, standard, table, zeroes, copies, setupOf, lent, buffers, handedIn, Row, agreeing, truth, words, schedule, fullSchedule, handedRow, unchanged, refusedWhole, refusedOpening}
 
 -- buffers that held other things before: two tally words more than six views need, and two network words more than eight messages need
 used : State
-used = record { run = lent 0 0 .run; tally = replicate 26 9; network = replicate 34 9 }
+used = withTally (replicate 26 9) (withNetwork (replicate 34 9) (lent 0 0))
 
 votesThenSettle : List Event
 votesThenSettle = Deliver (Vote 0 0) ∷ Deliver (Vote 0 1) ∷ Deliver (Vote 0 2) ∷ Settle ∷ []

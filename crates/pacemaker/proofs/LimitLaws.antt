@@ -16,7 +16,7 @@ use Rattle.types.specs.PlanFunctions.{nextInitialWord, clockTimeWord}
 use Rattle.model.specs.Checks.{nOutside, delaysOutside, viewsOutside, planOutside, atEnd, clockOutside}
 use Rattle.model.specs.Processors.{processorUnsound}
 use Rattle.types.proofs.PlanWords.{time-fits, next-fits}
-use Rattle.types.proofs.PlanLaws.{next-least, next-of-zero}
+use Rattle.types.proofs.PlanLaws.{gamma-twice, next-least, next-of-zero}
 use Rattle.pacemaker.specs.Limits.{planCheck, Within, Sound, timeMost}
 
 -- ---- checks 2 to 4
@@ -54,7 +54,7 @@ within p e =
       n-most = ltb-false _ _ (n .1);
       delta-least = ltb-false _ _ (h .0);
       delta-most = ltb-false _ _ (h .1);
-      gamma-least = ltb-false _ _ (g .1);
+      gamma-twice = gamma-twice p (ltb-false _ _ (g .1));
       gamma-most = ltb-false _ _ (d .1);
       views-least = ltb-false _ _ (w .0);
       views-most = ltb-false _ _ (w .1);
@@ -62,6 +62,9 @@ within p e =
     }
 
 -- ---- clock times
+
+pub gamma-positive : (p : Plan) → Within p → 0 < p .gamma
+gamma-positive p s = omega (arith, s .delta-least, s .gamma-twice)
 
 pub time-small : (p : Plan) → Within p → (w : ℕ) → w ≤ p .views → clockTime p w ≤ timeMost
 time-small p s w l = let a : w ≤ viewsMost = omega (arith, s .views-most) in mul-le-mul a (s .gamma-most)

@@ -24,6 +24,7 @@ use Rattle.model.specs.Checks.{atEnd}
 use Rattle.model.specs.Processors.{Moved, Gives, messagesOf, sending, moving, processorUnsound, refusing, stepped}
 use Rattle.pacemaker.specs.Limits.{Sound}
 use Rattle.pacemaker.specs.Steps.{ending, entryInto, stepping}
+use Rattle.pacemaker.proofs.LimitLaws.{gamma-positive}
 
 -- ---- the answer
 
@@ -83,7 +84,7 @@ module _ (plan : Plan) (c : Processor) (s : Sound plan c) (w : ℕ) where
       time = clockTime plan w
 
       early : time < endTime plan
-      early = omega (arith, mul-le-mul-right (plan .gamma) l, s .within .delta-least, s .within .gamma-least)
+      early = omega (arith, mul-le-mul-right (plan .gamma) l, gamma-positive plan (s .within))
 
 -- and one that stays as it is goes on
 pub stays : (plan : Plan) (c : Processor) → Sound plan c → sending c [] ≡ ending plan c (moving plan (c .number) (c .clock) (c .view) stay)

@@ -18,7 +18,7 @@ use Rattle.model.specs.Moves.{stay, into, entryClock, entryMessages, byClock}
 use Rattle.model.specs.Processors.{sending}
 use Rattle.pacemaker.specs.Limits.{Sound}
 use Rattle.pacemaker.specs.Steps.{ending, entryInto, stepping}
-use Rattle.pacemaker.proofs.LimitLaws.{next-before-end, view-below}
+use Rattle.pacemaker.proofs.LimitLaws.{gamma-positive, next-before-end, view-below}
 use Rattle.pacemaker.proofs.StepLaws.{goes-on, ticked}
 
 -- a clock between its view's time and the next initial view's comes to no initial view
@@ -71,7 +71,6 @@ module _ (plan : Plan) (c : Processor) (s : Sound plan c) where
   pub tick-arrives : clockTime plan (nextInitial plan (c .view)) ≤ c .clock + 1 → entryInto plan c (nextInitial plan (c .view)) ≡ stepping plan c Tick
   tick-arrives l =
       let w = nextInitial plan (c .view) in
-      let pos : 0 < plan .gamma = omega (arith, s .within .delta-least, s .within .gamma-least) in
       let is : c .clock + 1 ≡ clockTime plan w = omega (arith, s .not-next) in
       ap (λ (x : ℕ). ending plan c (sending (record { number = c .number; clock = x; view = w }) (entryMessages plan (c .number) w))) (same-clock plan (c .clock) w is)
-      ∙ ticked plan c (into w) (sym (arrives plan (c .clock + 1) (c .view) pos is))
+      ∙ ticked plan c (into w) (sym (arrives plan (c .clock + 1) (c .view) (gamma-positive plan (s .within)) is))

@@ -115,7 +115,7 @@ prints-whole input cs e c =
     let f : Advance = fed (placeAt atStart []) (l .used) in
     let end : take (writtenBytes (e .answer)) (e .after) ≡ printedFrom (f .place .standing) (linesAfter (f .place .begun) (l .rest)) =
     prints-text closingMost _ (e .out) (e .answer) (e .after) (l .arrives .ends .0)
-    (l .arrives .ends .1 (f .place .standing .tally) (f .place .standing .network) (f .place .begun) (l .arrives .begins))
+    (l .arrives .ends .1 (f .place .standing .state) (f .place .begun) (l .arrives .begins))
     ∙ ap (printedFrom (f .place .standing)) (sym (left-lines (f .place .begun) (l .rest) (l .unended))) in
     l .arrives .text e ∙ ap (λ (t : List ℕ). f .text ++ t) end ∙ sym (printed-fed (placeAt atStart []) (l .used) (l .rest))
     ∙ ap (λ (s : List ℕ). printedFrom atStart (linesAfter [] s)) (l .whole)

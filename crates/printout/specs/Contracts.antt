@@ -8,6 +8,7 @@ use mathlib.Core.List.{List, [], _∷_, _++_}
 use lib.ListN.{length, take, drop}
 use lib.Dec.{eqb}
 use Rattle.types.specs.Quantities.{tableClocks}
+use Rattle.model.specs.State.{State, withRun}
 use Rattle.lines.specs.declared.Next.the-variants.{Unfinished}
 use Rattle.lines.specs.declared.Written.{Written}
 use Rattle.lines.specs.Forms.{newline}
@@ -16,7 +17,7 @@ use Rattle.lines.specs.Splitting.{ended, remainder, cutRead, lineMost, nextLine
 use Rattle.reader.specs.Lines.{reading}
 use Rattle.printout.specs.declared.Session.{Session}
 use Rattle.printout.specs.declared.Served.{Served}
-use Rattle.printout.specs.Printout.{Standing, standingOf, Reply, reply, lineReply, printedLine, printedFrom}
+use Rattle.printout.specs.Printout.{Standing, leaving, standingOf, Reply, reply, lineReply, printedLine, printedFrom}
 
 -- ---- one line
 
@@ -88,4 +89,4 @@ closingMost = printedMost + tableClocks * printedMost
 -- that what is left of the input, and the end, were printed: `rest` are the bytes at hand since the last newline
 abbrev pub Closes : Session → Bool → List ℕ → List ℕ → Written → List ℕ → Type 0
 Closes s late rest out r after =
-    (tally network begun : List ℕ) → Begun late begun → Prints closingMost (printedFrom (standingOf s tally network) (remainder (begun ++ rest))) out r after
+    (x : State) (begun : List ℕ) → Begun late begun → Prints closingMost (printedFrom (leaving (s .opened) (withRun (s .run) x)) (remainder (begun ++ rest))) out r after

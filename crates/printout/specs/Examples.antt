@@ -21,14 +21,14 @@ use Rattle.lines.specs.Printout.{answerForm, processorForm, trafficText, totals
 use Rattle.lines.specs.Splitting.{ended, inputLines}
 use Rattle.lines.specs.Promises.{scheduleOf}
 use Rattle.reader.specs.Bytes.{classOf, classAt}
-use Rattle.reader.specs.Scan.{afterWord, numberAt}
-use Rattle.reader.specs.Lines.{kindFoundAt, messageAt, endingAt, deliverAt, signAt, showAt, ticksAt, eventAt, headingAt, tableAt, openingAt, reading}
+use Rattle.reader.specs.Scan.{afterWord, numberAt, nextNumberAt}
+use Rattle.reader.specs.Lines.{kindFoundAt, messageAt, endingAt, deliverAt, signAt, showAt, ticksAt, eventAt, headingAt, firstClockAt, tableEndAt, tableAt, openingAt, reading}
 use Rattle.printout.specs.Printout.{Standing, standingOf, leaving, unopenedSession, atStart, ticksPrinted, printedAnswer, eventReply, openingReply, lineAccepted, standingAfter, closing, printedFrom, printout}
 use Rattle.printout.specs.Traffic.{reportText, trafficPrintout}
 
 -- names all that has to unfold for a printout to compute
 unfoldable pub printing : ℕ
-unfolding definitions decimal messageForm eventForm setupForm answerForm processorForm inputLines classOf classAt afterWord numberAt kindFoundAt messageAt endingAt deliverAt signAt showAt ticksAt eventAt headingAt tableAt openingAt reading ticksPrinted printedAnswer eventReply openingReply closing printout totals totalsText reportText trafficPrintout
+unfolding definitions decimal messageForm eventForm setupForm answerForm processorForm inputLines classOf classAt afterWord numberAt kindFoundAt messageAt endingAt deliverAt signAt showAt ticksAt eventAt headingAt firstClockAt tableEndAt nextNumberAt tableAt openingAt reading ticksPrinted printedAnswer eventReply openingReply closing printout totals totalsText reportText trafficPrintout
 printing = 0
 
 -- ---- "A schedule and its printout"
@@ -221,8 +221,8 @@ ends-hold = refl
 
 pub lentWords : List Row
 lentWords =
-    number (length (atStart .tally)) 3600
-    ∷ number (length (atStart .network)) 2048
+    number (length (atStart .state .tally)) 3600
+    ∷ number (length (atStart .state .network)) 2048
     -- words for 900 views, not for 903
     ∷ row atStart (scheduleOf (setupForm (setupOf (planOf 4 2 4 900) 0 zeroes) ∷ setupForm (setupOf (planOf 4 2 4 903) 0 zeroes) ∷ []))
     (Done 0 8 ∷ Refused 6 ∷ []) (places four 0 0)

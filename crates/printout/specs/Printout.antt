@@ -17,8 +17,7 @@ use Rattle.model.specs.Opening.{opening}
 use Rattle.model.specs.Events.{applied}
 use Rattle.lines.specs.declared.Read.{Read}
 use Rattle.lines.specs.declared.Read.the-variants as Read
-use Rattle.lines.specs.declared.Reading.{Reading}
-use Rattle.lines.specs.Contracts.{noSetup, line}
+use Rattle.lines.specs.Contracts.{Reading, noSetup, line}
 use Rattle.lines.specs.Splitting.{Cut, inputLines, cutRead}
 use Rattle.lines.specs.Printout.{answerForm, processorForm}
 use Rattle.reader.specs.Lines.{reading}
@@ -26,22 +25,20 @@ use Rattle.printout.specs.declared.Session.{Session}
 
 -- ---- the state of the program
 
--- whether a run is open, the run, and the two buffers that are lent
+-- whether a run is open, and the run with the two buffers that are lent, which the simulator is given and leaves
 pub record Standing : Type 0 where
-  pub session : Session
-  pub tally : List ℕ
-  pub network : List ℕ
+  pub opened : Bool
+  pub state : State
+
+abbrev pub leaving : Bool → State → Standing
+leaving opened s = record { opened = opened; state = s }
 
 abbrev pub standingOf : Session → List ℕ → List ℕ → Standing
-standingOf session tally network = record { session = session; tally = tally; network = network }
+standingOf session tally network = leaving (session .opened) (stateOf (session .run) tally network)
 
--- what the simulator is given of it
-abbrev pub standingState : Standing → State
-standingState x = stateOf (x .session .run) (x .tally) (x .network)
-
--- what the simulator left, in a run that is open or not
-abbrev pub leaving : Bool → State → Standing
-leaving opened s = standingOf (record { opened = opened; run = s .run }) (s .tally) (s .network)
+-- the same without the buffers
+abbrev pub sessionOf : Standing → Session
+sessionOf x = record { opened = x .opened; run = x .state .run }
 
 -- before an accepted opening there is no run: 0 everywhere stands for it
 abbrev pub unopenedSession : Session
@@ -88,8 +85,8 @@ printedAnswer (Tick m) h a = ticksPrinted h a
 -- "Before an accepted opening an event gets 9."
 unfoldable pub eventReply : Event → Standing → Reply
 eventReply e x =
-    let a = applied e (standingState x) in
-    cond (x .session .opened) (record { standing = leaving true (a .state); answer = printedAnswer e (a .state .run .held) (a .answer) }) (refusedReply 9 x)
+    let a = applied e (x .state) in
+    cond (x .opened) (record { standing = leaving true (a .state); answer = printedAnswer e (a .state .run .held) (a .answer) }) (refusedReply 9 x)
 
 -- whether a run is open after an opening with such an answer
 abbrev pub staysOpen : Bool → Answer → Bool
@@ -98,7 +95,7 @@ staysOpen opened a = opened || accepted a
 -- "A later accepted opening begins a new run in place of the old; a refused one leaves the old run going."
 unfoldable pub openingReply : Setup → Standing → Reply
 openingReply u x =
-    let a = opening u (standingState x) in record { standing = leaving (staysOpen (x .session .opened) (a .answer)) (a .state); answer = a .answer }
+    let a = opening u (x .state) in record { standing = leaving (staysOpen (x .opened) (a .answer)) (a .state); answer = a .answer }
 
 -- an event, an opening, or none of the forms
 abbrev pub readReply : Read → Setup → Standing → Reply
@@ -143,7 +140,7 @@ standingAfter x (c ∷ cs) = standingAfter (reply (cutRead reading c) x .standin
 
 -- what is printed for its lines, and at the end
 abbrev pub printedFrom : Standing → List Cut → List ℕ
-printedFrom x [] = closing (x .session)
+printedFrom x [] = closing (sessionOf x)
 printedFrom x (c ∷ cs) = let r = reply (cutRead reading c) x in printedLine r ++ printedFrom (r .standing) cs
 
 -- "The bench program reads lines from standard input .. Per line it prints .."

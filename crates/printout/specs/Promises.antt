@@ -11,7 +11,7 @@ use Rattle.lines.specs.Contracts.{writtenBytes}
 use Rattle.lines.specs.Printout.{printedMost, totalsMost}
 use Rattle.lines.specs.Splitting.{nextLine}
 use Rattle.printout.specs.declared.Served.{Served}
-use Rattle.printout.specs.Printout.{Standing, standingOf, atStart, printout}
+use Rattle.printout.specs.Printout.{Standing, standingOf, sessionOf, atStart, printout}
 use Rattle.printout.specs.Traffic.{reportText, trafficPrintout}
 use Rattle.printout.specs.Contracts.{Prints, placeAt, fed, Serves, closingMost, Closes}
 
@@ -41,7 +41,7 @@ CourseTo E x late input (c ∷ cs) =
 -- to `finish`, which gets enough lent bytes
 abbrev pub Course : Standing → Bool → List ℕ → List Call → End → Type 0
 Course x late input cs e =
-    CourseTo (λ y passed rest. (closingMost ≤ length (e .out)) × Closes (y .session) passed rest (e .out) (e .answer) (e .after)) x late input cs
+    CourseTo (λ y passed rest. (closingMost ≤ length (e .out)) × Closes (sessionOf y) passed rest (e .out) (e .answer) (e .after)) x late input cs
 
 -- what they printed
 abbrev pub written : List Call → End → List ℕ

@@ -5,11 +5,11 @@ use mathlib.Core.List.{List, []}
 use Rattle.model.specs.Traffic.{totals}
 use Rattle.lines.specs.Printout.{totalsText}
 use Rattle.lines.specs.Splitting.{inputLines}
-use Rattle.printout.specs.Printout.{Standing, standingState, standingAfter, atStart}
+use Rattle.printout.specs.Printout.{Standing, standingAfter, atStart}
 
 -- the report of the run that is open, and nothing where none is
 unfoldable pub reportText : Standing → List ℕ
-reportText x = cond (x .session .opened) (totalsText (totals (standingState x))) []
+reportText x = cond (x .opened) (totalsText (totals (x .state))) []
 
 -- of a whole input: of the run that is open at its end
 unfoldable pub trafficPrintout : List ℕ → List ℕ

@@ -54,6 +54,9 @@ class-means b =
     λ e. by-cond (λ (r : Class). Means r b) (eqb b blankByte) _ _ (eqb→eq b blankByte)
     λ f. T-false (isDigit b) n
 
+pub digit-few : (b d : ℕ) (r : Class) → r ≡ classOf b → r ≡ Digit d → d ≤ 9
+digit-few b d r h e = subst (λ (x : Class). Means x b) (sym h ∙ e) (class-means b) .0
+
 -- the byte is no digit, by its class
 other-class : (r : Class) (b : ℕ) → Means r b → ((d : ℕ) → r ≡ Digit d → ⊥) → isDigit b ≡ false
 other-class (Digit d) b m n = absurd (n d refl)

@@ -1,10 +1,10 @@
 -- Events: a line that is read as one is its form, and the form is read as it. Assumes nothing.
-use mathlib.Core.Path.{_≡_, refl, sym, ap, _∙_, subst}
+use mathlib.Core.Path.{_≡_, refl, sym, ap, _∙_}
 use mathlib.Core.Bool.{false}
 use Prim.Native.Nat.{ℕ}
 use native.Mathlib.Nat.{le-of-eq}
 use mathlib.Core.List.{List, [], _∷_, _++_}
-use lib.ListN.{length, drop, getD, drop-of-length-le}
+use lib.ListN.{length, drop, drop-of-length-le}
 use lib.Dec.{eqb, eqb→eq}
 use borrow.Author.Tests.{eq-eqb}
 use Rattle.base.specs.Tests.{T-false, by-cond}
@@ -19,10 +19,10 @@ use Rattle.lines.specs.Decimal.{decimal}
 use Rattle.lines.specs.Forms.{openBracket, closeBracket, oneBlank, deliverWord, signWord, showWord, settleWord, tickWord, openWord, messageForm, carryingForm, eventForm, eventFields, Below, EventLine}
 use Rattle.reader.specs.declared.Said.{Said}
 use Rattle.reader.specs.declared.Said.the-variants.{Told, NoMessage}
-use Rattle.reader.specs.Scan.{Part, word, field, fields, starts}
-use Rattle.reader.specs.Lines.{messageAt, endingAt, endingSaid, deliverAt, signAt, showAt, endingTicks, ticksAt, eventAt}
+use Rattle.reader.specs.Scan.{starts}
+use Rattle.reader.specs.Lines.{messageAt, endingAt, endingSaid, deliverAt, signAt, showAt, ticksAt, eventAt}
 use Rattle.reader.proofs.Words.{Left, left-none, by-word, word-there, word-away}
-use Rattle.reader.proofs.Templates.{filled, Taken, by-parts, parts-there, picked-all}
+use Rattle.reader.proofs.Series.{by-next, next-there}
 use Rattle.reader.proofs.Messages.{PairBelow, Spoken, message-only, message-there}
 
 -- ---- what is read is it
@@ -58,22 +58,12 @@ carrying-only s at w make forms belows h = go (messageAt s at) (message-only s a
         h ∙ ap (λ (r : List ℕ). openBracket ++ (w ++ r)) (t .0 ∙ ap (λ (r : List ℕ). oneBlank ++ (messageForm m ++ r)) c) ∙ sym (forms m))
     go NoMessage t = tt
 
--- " m"
-abbrev tickParts : List Part
-tickParts = word oneBlank ∷ field ∷ []
-
 ticks-only : (s : List ℕ) (at : ℕ) → s ≡ openBracket ++ (tickWord ++ drop at s) → EventRead s (ticksAt s at)
 unfolding ticksAt eventForm
-ticks-only s at h = by-parts (EventRead s) tickParts s at (endingTicks s) ticked tt
-  where
-    ticked : (ns : List ℕ) (k : ℕ) → Taken tickParts s at ns k → EventRead s (endingTicks s (fields ns k))
-    ticked ns k t =
-        let m : ℕ = getD ns 0 0 in
-        let l : ns ≡ m ∷ [] = picked-all _ ns (t .number) in
-        ending-only s k (Tick m) (subst Below l (t .below))
-        (λ (c : drop k s ≡ closeBracket).
-        h ∙ ap (λ (r : List ℕ). openBracket ++ (tickWord ++ r)) (t .bytes ∙ ap (λ (x : List ℕ). filled tickParts x (drop k s)) l
-        ∙ ap (λ (r : List ℕ). oneBlank ++ (decimal m ++ r)) c))
+ticks-only s at h =
+    by-next (EventRead s) s at (λ m k. endingAt s k (Tick m)) NoForm
+    (λ m k b e. ending-only s k (Tick m) (b, tt)
+    (λ (c : drop k s ≡ closeBracket). h ∙ ap (λ (r : List ℕ). openBracket ++ (tickWord ++ r)) (e ∙ ap (λ (r : List ℕ). oneBlank ++ (decimal m ++ r)) c))) tt
 
 -- behind the first bracket
 pub event-only : (s : List ℕ) (at : ℕ) → s ≡ openBracket ++ drop at s → EventRead s (eventAt s at)
@@ -104,7 +94,7 @@ carrying-there s at make m h b f = message-there (λ (x : Read). x ≡ Read.Even
 ticks-there : (s : List ℕ) (at m : ℕ) → Left s at (oneBlank ++ (decimal m ++ closeBracket)) → Below (m ∷ []) → lacksForm (Tick m) ≡ false → ticksAt s at ≡ Read.Event (Tick m)
 unfolding ticksAt
 ticks-there s at m h b f =
-    parts-there (λ (x : Read). x ≡ Read.Event (Tick m)) tickParts s at (endingTicks s) (m ∷ []) closeBracket h refl b tt (λ k l. ending-there s k (Tick m) l f)
+    next-there (λ (x : Read). x ≡ Read.Event (Tick m)) s at _ NoForm m closeBracket h (b .0) refl (λ k l. ending-there s k (Tick m) l f)
 
 -- the bytes of the form behind its first bracket
 abbrev pub inside : Event → List ℕ

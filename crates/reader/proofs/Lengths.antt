@@ -1,10 +1,10 @@
 -- How long the forms are: far shorter than "a line is at most 4,800 bytes" allows. Assumes nothing.
-use mathlib.Core.Path.{_≡_}
+use mathlib.Core.Path.{_≡_, sym, ap, _∙_}
 use mathlib.Core.Logic.{⊎-elim}
 use Prim.Native.Nat.{ℕ, _+_, _*_, _/_, _≤_, _<_}
 use native.Mathlib.Omega.{arith}
 use mathlib.Core.Bool.{false}
-use mathlib.Core.List.{List, [], _∷_, _++_}
+use mathlib.Core.List.{List, [], _∷_, _++_, append-nil}
 use lib.ListN.{length, drop, length-append, length-take}
 use lib.Dec.{eqb, ltb}
 use borrow.Author.Tests.{ltb-false}
@@ -16,34 +16,26 @@ use Rattle.types.specs.declared.Event.{Event}
 use Rattle.types.specs.declared.Event.the-variants.{Deliver, Sign, Show, Settle, Tick}
 use Rattle.types.specs.declared.Setup.{Setup}
 use Rattle.types.specs.Quantities.{nMost}
+use Rattle.types.specs.Runs.{planNumbers}
 use Rattle.lines.specs.Decimal.{decimal}
-use Rattle.lines.specs.Forms.{openBracket, closeBracket, oneBlank, furtherClocks, clocksForm, lineClocks, headingNumbers, messageForm, eventForm, setupForm, lacksSetupForm}
+use Rattle.lines.specs.Forms.{openBracket, closeBracket, oneBlank, furtherClocks, clocksForm, lineClocks, messageForm, eventForm, setupForm, lacksSetupForm}
 use Rattle.lines.specs.Promises.{formMost}
 use Rattle.lines.proofs.Decimals.{length-small, length-large, length-most}
-use Rattle.reader.specs.Scan.{Part, word, field}
-use Rattle.reader.specs.Lines.{pairParts, headingParts}
-use Rattle.reader.proofs.Templates.{filled}
+use Rattle.reader.proofs.Series.{spacedBefore, spaced-before}
 
--- the most bytes of a template with numbers in it
-abbrev most : List Part → ℕ
-most [] = 0
-most (word w ∷ ps) = length w + most ps
-most (field ∷ ps) = 20 + most ps
-
-filled-most : (ps : List Part) (ns r : List ℕ) → length (filled ps ns r) ≤ most ps + length r
-filled-most [] ns r = omega arith
-filled-most (word w ∷ ps) ns r = omega (arith, length-append w (filled ps ns r), filled-most ps ns r)
-filled-most (field ∷ ps) [] r = omega arith
-filled-most (field ∷ ps) (n ∷ ns) r = omega (arith, length-append (decimal n) (filled ps ns r), length-most n, filled-most ps ns r)
+-- numbers, each behind a blank, have 21 bytes at most
+spaced-length : (ns r : List ℕ) → length (spacedBefore ns r) ≤ 21 * length ns + length r
+spaced-length [] r = omega arith
+spaced-length (n ∷ ns) r = omega (arith, length-append (decimal n) (spacedBefore ns r), length-most n, spaced-length ns r)
 
 -- ---- the events
 
 message-length : (m : Message) → length (messageForm m) ≤ 48
 unfolding messageForm
-message-length (View w p) = omega (arith, filled-most pairParts (w ∷ p ∷ []) [])
-message-length (Vote w p) = omega (arith, filled-most pairParts (w ∷ p ∷ []) [])
-message-length (Vc w p) = omega (arith, filled-most pairParts (w ∷ p ∷ []) [])
-message-length (Qc w p) = omega (arith, filled-most pairParts (w ∷ p ∷ []) [])
+message-length (View w p) = omega (arith, spaced-length (w ∷ p ∷ []) closeBracket)
+message-length (Vote w p) = omega (arith, spaced-length (w ∷ p ∷ []) closeBracket)
+message-length (Vc w p) = omega (arith, spaced-length (w ∷ p ∷ []) closeBracket)
+message-length (Qc w p) = omega (arith, spaced-length (w ∷ p ∷ []) closeBracket)
 
 pub event-length : (e : Event) → length (eventForm e) ≤ formMost
 unfolding eventForm
@@ -55,13 +47,9 @@ event-length (Tick m) = omega (arith, length-most m, length-append (decimal m) c
 
 -- ---- the opening
 
-further-length : (cs : List ℕ) → length (furtherClocks cs) ≤ 21 * length cs
-further-length [] = omega arith
-further-length (c ∷ cs) = omega (arith, length-append (decimal c) (furtherClocks cs), length-most c, further-length cs)
-
 clocks-length : (cs : List ℕ) → length cs ≤ nMost → length (clocksForm cs) ≤ 1343
 clocks-length [] h = omega arith
-clocks-length (c ∷ cs) h = omega (arith, length-append (decimal c) (furtherClocks cs), length-most c, further-length cs)
+clocks-length (c ∷ cs) h = omega (arith, length-append (decimal c) (furtherClocks cs), length-most c, ap length (sym (append-nil (furtherClocks cs)) ∙ spaced-before cs []), spaced-length cs [])
 
 -- n has at most two digits
 number-length : (n : ℕ) → n ≤ nMost → length (decimal n) ≤ 2
@@ -77,14 +65,13 @@ setup-length u f =
     let h : u .plan .n ≤ nMost = ltb-false nMost (u .plan .n) (or-parts (eqb (u .plan .n) 0) (ltb nMost (u .plan .n)) f .1) in
     let clocks : List ℕ = clocksForm (lineClocks u) in
     let table : List ℕ = oneBlank ++ (openBracket ++ (clocks ++ (closeBracket ++ closeBracket))) in
-    let others : List Part = drop 2 headingParts in
-    let numbers : List ℕ = drop 1 (headingNumbers (u .plan) (u .faulty)) in
+    let others : List ℕ = drop 1 (planNumbers (u .plan) ++ (u .faulty ∷ [])) in
     let c : length (lineClocks u) ≤ nMost = omega (arith, length-take (u .plan .n) (u .clocks)) in
     omega (
       arith,
       number-length (u .plan .n) h,
-      length-append (decimal (u .plan .n)) (filled others numbers table),
-      filled-most others numbers table,
+      length-append (decimal (u .plan .n)) (spacedBefore others table),
+      spaced-length others table,
       clocks-length (lineClocks u) c,
       length-append clocks (closeBracket ++ closeBracket),
     )

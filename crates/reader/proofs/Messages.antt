@@ -2,7 +2,7 @@
 use mathlib.Core.Path.{_≡_, refl, sym, ap, _∙_, subst}
 use Prim.Native.Nat.{ℕ}
 use mathlib.Core.List.{List, [], _∷_, _++_, append-assoc}
-use lib.ListN.{drop, getD}
+use lib.ListN.{drop}
 use Rattle.types.specs.declared.Message.{Message}
 use Rattle.types.specs.declared.Message.the-variants.{View, Vote, Vc, Qc}
 use Rattle.lines.specs.Decimal.{decimal}
@@ -13,10 +13,9 @@ use Rattle.reader.specs.declared.KindFound.{KindFound}
 use Rattle.reader.specs.declared.KindFound.the-variants.{Is, NoKind}
 use Rattle.reader.specs.declared.Said.{Said}
 use Rattle.reader.specs.declared.Said.the-variants.{Told, NoMessage}
-use Rattle.reader.specs.Scan.{fields}
-use Rattle.reader.specs.Lines.{kindFoundAt, messageOf, pairParts, saidFields, saidKind, messageAt}
+use Rattle.reader.specs.Lines.{kindFoundAt, messageOf, saidKind, messageAt}
 use Rattle.reader.proofs.Words.{Left, by-word, word-there, word-away}
-use Rattle.reader.proofs.Templates.{filled, Taken, by-parts, parts-there, picked-all}
+use Rattle.reader.proofs.Series.{by-next, next-there, spacedBefore}
 
 -- ---- the form by its parts
 
@@ -26,12 +25,16 @@ wordOf Kind.Vote = voteWord
 wordOf Kind.Vc = vcWord
 wordOf Kind.Qc = qcWord
 
-pair-form : (w p : ℕ) (r : List ℕ) → oneBlank ++ (decimal w ++ (oneBlank ++ (decimal p ++ closeBracket))) ++ r ≡ filled pairParts (w ∷ p ∷ []) r
+-- " w p)", and then r
+abbrev pairBefore : ℕ → ℕ → List ℕ → List ℕ
+pairBefore w p r = spacedBefore (w ∷ p ∷ []) (closeBracket ++ r)
+
+pair-form : (w p : ℕ) (r : List ℕ) → oneBlank ++ (decimal w ++ (oneBlank ++ (decimal p ++ closeBracket))) ++ r ≡ pairBefore w p r
 pair-form w p r =
     ap (λ (l : List ℕ). oneBlank ++ l) (append-assoc (decimal w) (oneBlank ++ (decimal p ++ closeBracket)) r
     ∙ ap (λ (l : List ℕ). decimal w ++ (oneBlank ++ l)) (append-assoc (decimal p) closeBracket r))
 
-message-form : (k : Kind) (w p : ℕ) (r : List ℕ) → messageForm (messageOf k w p) ++ r ≡ openBracket ++ (wordOf k ++ filled pairParts (w ∷ p ∷ []) r)
+message-form : (k : Kind) (w p : ℕ) (r : List ℕ) → messageForm (messageOf k w p) ++ r ≡ openBracket ++ (wordOf k ++ pairBefore w p r)
 unfolding messageForm
 message-form Kind.View w p r = ap (λ (l : List ℕ). openBracket ++ (viewWord ++ l)) (pair-form w p r)
 message-form Kind.Vote w p r = ap (λ (l : List ℕ). openBracket ++ (voteWord ++ l)) (pair-form w p r)
@@ -69,17 +72,15 @@ Spoken s at NoMessage = Unit {0}
 
 spoken-kind : (s : List ℕ) (at b : ℕ) → drop at s ≡ oneBlank ++ (openBracket ++ drop b s) → (x : KindFound) → Kinded s b x → Spoken s at (saidKind s x)
 spoken-kind s at b e (Is k a) h =
-    by-parts (Spoken s at) pairParts s a (saidFields k) spoken tt
-  where
-    spoken : (ns : List ℕ) (j : ℕ) → Taken pairParts s a ns j → Spoken s at (saidFields k (fields ns j))
-    spoken ns j t =
-        let w : ℕ = getD ns 0 0 in
-        let p : ℕ = getD ns 1 0 in
-        let l : ns ≡ w ∷ p ∷ [] = picked-all _ ns (t .number) in (
-          e ∙ ap (λ (r : List ℕ). oneBlank ++ (openBracket ++ r)) (h ∙ ap (λ (r : List ℕ). wordOf k ++ r) (t .bytes ∙ ap (λ (x : List ℕ). filled pairParts x (drop j s)) l))
-              ∙ ap (λ (r : List ℕ). oneBlank ++ r) (sym (message-form k w p (drop j s))),
-          pair-of k w p (subst Below l (t .below)),
-        )
+    by-next (Spoken s at) s a _ NoMessage
+    (λ w c i d. by-next (Spoken s at) s c _ NoMessage
+    (λ p j m f. by-word (Spoken s at) s j closeBracket (Told (messageOf k w p)) NoMessage
+    (λ l g. (
+      e ∙ ap (λ (r : List ℕ). oneBlank ++ (openBracket ++ r)) (h ∙ ap (λ (r : List ℕ). wordOf k ++ r)
+          (d ∙ ap (λ (r : List ℕ). oneBlank ++ (decimal w ++ r)) (f ∙ ap (λ (r : List ℕ). oneBlank ++ (decimal p ++ r)) g)))
+          ∙ ap (λ (r : List ℕ). oneBlank ++ r) (sym (message-form k w p (drop l s))),
+      pair-of k w p (i, (m, tt)),
+    )) tt) tt) tt
 spoken-kind s at b e NoKind h = tt
 
 pub message-only : (s : List ℕ) (at : ℕ) → Spoken s at (messageAt s at)
@@ -111,7 +112,9 @@ pair-there P s at f k w p r h b g =
     word-there Q s at oneBlank _ NoMessage _ h
     (λ a l. word-there Q s a openBracket _ NoMessage _ (subst (Left s a) (message-form k w p r) l)
     (λ c m. kind-there Q s c (saidKind s) k _ m
-    (λ d n. parts-there Q pairParts s d (saidFields k) (w ∷ p ∷ []) r n refl b tt g)))
+    (λ d n. next-there Q s d _ NoMessage w _ n (b .0) refl
+    (λ i o. next-there Q s i _ NoMessage p (closeBracket ++ r) o (b .1 .0) refl
+    (λ j t. word-there Q s j closeBracket (Told (messageOf k w p)) NoMessage r t g)))))
 
 -- where the form of a message stands behind a blank, the message is read
 pub message-there : {A : Type 0} (P : A → Type 0) (s : List ℕ) (at : ℕ) (f : Said → A) (m : Message) (r : List ℕ)

@@ -13,9 +13,8 @@ use Rattle.types.specs.declared.Setup.{Setup}
 use Rattle.lines.specs.declared.Read.{Read}
 use Rattle.lines.specs.declared.Read.the-variants as Read
 use Rattle.lines.specs.declared.Read.the-variants.{NoForm}
-use Rattle.lines.specs.declared.Reading.{Reading}
 use Rattle.lines.specs.Forms.{newline, openBracket, openWord, EventLine, SetupLine, trimmed}
-use Rattle.lines.specs.Contracts.{noSetup, eventReading, openingReading, noForm, line}
+use Rattle.lines.specs.Contracts.{Reading, readAs, noSetup, eventReading, openingReading, noForm, line}
 use Rattle.lines.specs.Splitting.{lineMost, nextLine, ended, cutRead}
 use Rattle.lines.specs.Promises.{NextForm, Formed, ReadsLines, JudgesLines, OneEvent, OneSetup, NeverBoth, ShortForms, AllFormed, readingOf, readingsOf, ReadsBack}
 use Rattle.lines.proofs.Readings.{judges}
@@ -46,7 +45,7 @@ event-back s e l =
     let P : Reading → Type 0 = λ (x : Reading). x ≡ eventReading e in
     word-there P s 0 openBracket _ noForm (inside e) (left-all s _ (l .bytes ∙ inside-form e))
     (λ a h. word-away P s a openWord _ _ (inside e) h (inside-no-opening e)
-    (ap (λ (x : Read). record { read = x; setup = noSetup }) (event-there s a e h (l .below) (l .formed))))
+    (ap (λ (x : Read). readAs x noSetup) (event-there s a e h (l .below) (l .formed))))
 
 setup-back : (s : List ℕ) (u : Setup) → SetupLine s u → reading s ≡ openingReading (trimmed u)
 unfolding reading
@@ -62,7 +61,7 @@ reading-reads s = record {
   opening = told Read.Opening;
   event-form = event-back s;
   setup-form = setup-back s;
-  no-form = λ q. ap₂ (λ (x : Read) (u : Setup). record { read = x; setup = u }) q (told NoForm q);
+  no-form = λ q. ap₂ readAs q (told NoForm q);
 }
   where
     told : (x : Read) → reading s .read ≡ x → ReadAs s x (reading s .setup)
@@ -112,7 +111,7 @@ form-back : (s : List ℕ) (f : Formed s) → reading s ≡ readingOf s f
 form-back s (inl x) = event-back s (x .0) (x .1)
 form-back s (inr x) = setup-back s (x .0) (x .1)
 
-line-back : (s : List ℕ) (f : Formed s) → cutRead reading (ended s) ≡ readingOf s f
+pub line-back : (s : List ℕ) (f : Formed s) → cutRead reading (ended s) ≡ readingOf s f
 line-back s f = let h : leb (length s) lineMost ≡ true = le-leb (length s) lineMost (omega (arith, short-forms s f)) in rw h (form-back s f)
 
 lines-back : (l : List (List ℕ)) (h : AllFormed l) → map (cutRead reading) (map ended l) ≡ readingsOf l h

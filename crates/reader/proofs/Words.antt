@@ -21,15 +21,25 @@ starts-only [] (c ∷ w) t = absurd t
 starts-only (b ∷ l) (c ∷ w) t =
     ap₂ (λ (x : ℕ) (r : List ℕ). x ∷ r) (eqb→eq b c (T-left (eqb b c) (starts l w) t)) (starts-only l w (T-right (eqb b c) (starts l w) t))
 
+abbrev pub Behind : List ℕ → ℕ → List ℕ → After → Type 0
+Behind s at w (At k) = drop at s ≡ w ++ drop k s
+Behind s at w Away = Unit {0}
+
+pub word-only : (s : List ℕ) (at : ℕ) (w : List ℕ) → Behind s at w (afterWord s at w)
+unfolding afterWord
+word-only s at w =
+    by-cond (Behind s at w) (ltb (length s) at) Away (cond (starts (drop at s) w) (At (at + length w)) Away) (λ _. tt)
+    (λ _. by-cond (Behind s at w) (starts (drop at s) w) (At (at + length w)) Away
+    (λ t. starts-only (drop at s) w t ∙ ap (λ (r : List ℕ). w ++ r) (drop-drop (length w) at s)) (λ _. tt))
+
 -- what holds of what comes after the word, wherever it stands, and of what comes without it
 pub by-word : {A : Type 0} (P : A → Type 0) (s : List ℕ) (at : ℕ) (w : List ℕ) (f : ℕ → A) (z : A)
     → ((k : ℕ) → drop at s ≡ w ++ drop k s → P (f k)) → P z → P (onAfter (afterWord s at w) f z)
-unfolding afterWord
-by-word P s at w f z g h =
-    let Q : After → Type 0 = λ (x : After). P (onAfter x f z) in
-    by-cond Q (ltb (length s) at) Away (cond (starts (drop at s) w) (At (at + length w)) Away) (λ _. h)
-    (λ _. by-cond Q (starts (drop at s) w) (At (at + length w)) Away
-    (λ t. g (at + length w) (starts-only (drop at s) w t ∙ ap (λ (r : List ℕ). w ++ r) (drop-drop (length w) at s))) (λ _. h))
+by-word P s at w f z g h = go (afterWord s at w) (word-only s at w)
+  where
+    go : (x : After) → Behind s at w x → P (onAfter x f z)
+    go (At k) e = g k e
+    go Away e = h
 
 -- ---- a word that stands there is read
 

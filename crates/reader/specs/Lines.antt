@@ -1,9 +1,7 @@
 -- What a line is read as, from the left. That this is the reading of the forms and of nothing else is proved (proofs/RoundTrip).
-use Prim.Native.Nat.{ℕ, zero, suc, _-_}
-use mathlib.Core.Path.{_≡_, refl}
-use mathlib.Core.Logic.{_⊎_, inl, inr}
+use Prim.Native.Nat.{ℕ, _-_}
 use mathlib.Core.Bool.{cond}
-use mathlib.Core.List.{List, [], _∷_, _++_}
+use mathlib.Core.List.{List, _∷_, _++_}
 use lib.ListN.{length, getD, replicate}
 use lib.Dec.{eqb, ltb}
 use Rattle.types.specs.declared.Plan.{Plan}
@@ -11,14 +9,15 @@ use Rattle.types.specs.declared.Message.{Message}
 use Rattle.types.specs.declared.Message.the-variants.{View, Vote, Vc, Qc}
 use Rattle.types.specs.declared.Event.{Event}
 use Rattle.types.specs.declared.Event.the-variants.{Deliver, Sign, Show, Settle, Tick}
+use Rattle.types.specs.declared.Setup.{Setup}
 use Rattle.types.specs.Quantities.{nMost, tableClocks}
+use Rattle.types.specs.Runs.{planIn}
 use Rattle.types.specs.Messages.{lacksForm}
 use Rattle.lines.specs.declared.Read.{Read}
 use Rattle.lines.specs.declared.Read.the-variants as Read
 use Rattle.lines.specs.declared.Read.the-variants.{NoForm}
-use Rattle.lines.specs.declared.Reading.{Reading}
 use Rattle.lines.specs.Forms.{openBracket, closeBracket, oneBlank, openWord, deliverWord, signWord, showWord, settleWord, tickWord, viewWord, voteWord, vcWord, qcWord}
-use Rattle.lines.specs.Contracts.{noSetup, openingReading, noForm}
+use Rattle.lines.specs.Contracts.{Reading, readAs, noSetup, eventReading, openingReading, noForm}
 use Rattle.reader.specs.declared.After.{After}
 use Rattle.reader.specs.declared.After.the-variants.{At, Away}
 use Rattle.reader.specs.declared.Number.{Number}
@@ -32,12 +31,7 @@ use Rattle.reader.specs.declared.Said.the-variants.{Told, NoMessage}
 use Rattle.reader.specs.declared.Heading.{Heading}
 use Rattle.reader.specs.declared.Heading.the-variants.{Parameters, NoHeading}
 use Rattle.reader.specs.declared.Table.{Table}
-use Rattle.reader.specs.Scan.{Part, word, field, Fields, fields, none, afterWord, onAfter, numberAt, readParts}
-
--- j numbers, each behind a blank
-abbrev pub numbers : ℕ → List Part
-numbers zero = []
-numbers (suc j) = word oneBlank ∷ field ∷ numbers j
+use Rattle.reader.specs.Scan.{afterWord, numberAt, onAfter, onNumber, nextNumberAt, Series, seriesAt}
 
 -- ---- "(view w p)", and so for vote, vc, qc
 
@@ -56,15 +50,13 @@ messageOf Kind.Vc w p = Vc w p
 messageOf Kind.Qc w p = Qc w p
 
 -- " w p)"
-abbrev pub pairParts : List Part
-pairParts = word oneBlank ∷ field ∷ word oneBlank ∷ field ∷ word closeBracket ∷ []
-
-abbrev pub saidFields : Kind → Fields → Said
-saidFields k (fields ns e) = Told (messageOf k (getD ns 0 0) (getD ns 1 0)) e
-saidFields k none = NoMessage
+abbrev pub pairAt : List ℕ → Kind → ℕ → Said
+pairAt s k a =
+    onNumber (nextNumberAt s a)
+    (λ w b. onNumber (nextNumberAt s b) (λ p c. onAfter (afterWord s c closeBracket) (Told (messageOf k w p)) NoMessage) NoMessage) NoMessage
 
 abbrev pub saidKind : List ℕ → KindFound → Said
-saidKind s (Is k a) = saidFields k (readParts pairParts s a)
+saidKind s (Is k a) = pairAt s k a
 saidKind s NoKind = NoMessage
 
 -- the message behind a blank, and the place after it
@@ -92,12 +84,8 @@ unfoldable pub showAt : List ℕ → ℕ → Read
 showAt s at = endingSaid s Show (messageAt s at)
 
 -- " m", and the bracket behind it
-abbrev pub endingTicks : List ℕ → Fields → Read
-endingTicks s (fields ns k) = endingAt s k (Tick (getD ns 0 0))
-endingTicks s none = NoForm
-
 unfoldable pub ticksAt : List ℕ → ℕ → Read
-ticksAt s at = endingTicks s (readParts (numbers 1) s at)
+ticksAt s at = onNumber (nextNumberAt s at) (λ m k. endingAt s k (Tick m)) NoForm
 
 -- by the word behind the first bracket
 unfoldable pub eventAt : List ℕ → ℕ → Read
@@ -110,47 +98,38 @@ eventAt s at =
 
 -- ---- the opening
 
--- " n Δ Γ V mask"
-abbrev pub headingParts : List Part
-headingParts = numbers 5
+-- "n Δ Γ V mask": which numbers stand before the table, their count tells
+abbrev pub headingMost : ℕ
+headingMost = 5
 
-abbrev pub headingFields : Fields → Heading
-headingFields (fields ns k) =
-    Parameters (record { n = getD ns 0 0; delta = getD ns 1 0; gamma = getD ns 2 0; views = getD ns 3 0 }) (getD ns 4 0) k
-headingFields none = NoHeading
+abbrev pub headingSeries : Series → Heading
+headingSeries x = cond (eqb (length (x .numbers)) headingMost) (Parameters (planIn (x .numbers)) (getD (x .numbers) 4 0) (x .end)) NoHeading
 
 unfoldable pub headingAt : List ℕ → ℕ → Heading
-headingAt s at = headingFields (readParts headingParts s at)
+headingAt s at = headingSeries (seriesAt headingMost s at)
 
--- " c1 c2 ..))", j clocks
-abbrev pub furtherParts : ℕ → List Part
-furtherParts zero = word closeBracket ∷ word closeBracket ∷ []
-furtherParts (suc j) = word oneBlank ∷ field ∷ furtherParts j
+-- " (c0"
+unfoldable pub firstClockAt : List ℕ → ℕ → Number
+firstClockAt s at = onAfter (afterWord s at oneBlank) (λ a. onAfter (afterWord s a openBracket) (numberAt s) NoNumber) NoNumber
 
--- " (c0 c1 ..))", n clocks from 1
-abbrev pub tableParts : ℕ → List Part
-tableParts n = word oneBlank ∷ word openBracket ∷ field ∷ furtherParts (n - 1)
+-- "))"
+unfoldable pub tableEndAt : List ℕ → ℕ → After
+tableEndAt s at = onAfter (afterWord s at closeBracket) (λ a. afterWord s a closeBracket) Away
 
 abbrev pub noTable : Table
 noTable = record { end = Away; clocks = replicate tableClocks 0 }
 
 -- the clocks read, and 0 behind them
-abbrev pub tableFields : Fields → Table
-tableFields (fields cs k) = record { end = At k; clocks = cs ++ replicate (tableClocks - length cs) 0 }
-tableFields none = noTable
+abbrev pub tableOf : List ℕ → ℕ → Table
+tableOf cs k = record { end = At k; clocks = cs ++ replicate (tableClocks - length cs) 0 }
 
+-- behind the first of n clocks, c: the others and the brackets
+abbrev pub tableSeries : List ℕ → ℕ → ℕ → Series → Table
+tableSeries s n c x = cond (eqb (length (x .numbers)) (n - 1)) (onAfter (tableEndAt s (x .end)) (tableOf (c ∷ x .numbers)) noTable) noTable
+
+-- " (c0 c1 ..))", n clocks from 1
 unfoldable pub tableAt : List ℕ → ℕ → ℕ → Table
-tableAt s at n = tableFields (readParts (tableParts n) s at)
-
--- its pieces: a blank and a number; the first clock; the brackets behind the last
-unfoldable pub nextNumberAt : List ℕ → ℕ → Number
-nextNumberAt s at = onAfter (afterWord s at oneBlank) (numberAt s) NoNumber
-
-unfoldable pub firstClockAt : List ℕ → ℕ → Number
-firstClockAt s at = onAfter (afterWord s at oneBlank) (λ a. onAfter (afterWord s a openBracket) (numberAt s) NoNumber) NoNumber
-
-unfoldable pub tableEndAt : List ℕ → ℕ → After
-tableEndAt s at = onAfter (afterWord s at closeBracket) (λ a. afterWord s a closeBracket) Away
+tableAt s at n = onNumber (firstClockAt s at) (λ c k. tableSeries s n c (seriesAt (n - 1) s k)) noTable
 
 -- the opening, if the line ends behind its table
 abbrev pub endingTable : List ℕ → Plan → ℕ → Table → Reading
@@ -162,6 +141,7 @@ endingHeading s (Parameters plan faulty k) =
     cond (eqb (plan .n) 0) noForm (cond (ltb nMost (plan .n)) noForm (endingTable s plan faulty (tableAt s k (plan .n))))
 endingHeading s NoHeading = noForm
 
+-- behind the word
 unfoldable pub openingAt : List ℕ → ℕ → Reading
 openingAt s at = endingHeading s (headingAt s at)
 
@@ -170,7 +150,7 @@ openingAt s at = endingHeading s (headingAt s at)
 unfoldable pub reading : List ℕ → Reading
 reading s =
     onAfter (afterWord s 0 openBracket)
-    (λ a. onAfter (afterWord s a openWord) (openingAt s) (record { read = eventAt s a; setup = noSetup }))
+    (λ a. onAfter (afterWord s a openWord) (openingAt s) (readAs (eventAt s a) noSetup))
     noForm
 
 -- ---- a line skimmed: one that begins as an opening does is taken for one, whatever comes behind; any other is read
@@ -178,18 +158,12 @@ reading s =
 unfoldable pub skimmed : List ℕ → Read
 skimmed s = onAfter (afterWord s 0 openBracket) (λ a. onAfter (afterWord s a openWord) (λ b. Read.Opening) (eventAt s a)) NoForm
 
--- so it is an opening, or what is read
-pub skimmed-read : (s : List ℕ) → (skimmed s ≡ Read.Opening) ⊎ (skimmed s ≡ reading s .read)
-unfolding skimmed reading
-skimmed-read s = at-bracket (afterWord s 0 openBracket)
-  where
-    at-word : (a : ℕ) (x : After) → (onAfter x (λ b. Read.Opening) (eventAt s a) ≡ Read.Opening)
-        ⊎ (onAfter x (λ b. Read.Opening) (eventAt s a) ≡ onAfter x (openingAt s) (record { read = eventAt s a; setup = noSetup }) .read)
-    at-word a (At b) = inl refl
-    at-word a Away = inr refl
+-- what such a line is read as, its setup tells: no opening is of 0 processors
+abbrev pub openingOr : Setup → Reading
+openingOr u = cond (eqb (u .plan .n) 0) noForm (openingReading u)
 
-    at-bracket : (x : After) → (onAfter x (λ a. onAfter (afterWord s a openWord) (λ b. Read.Opening) (eventAt s a)) NoForm ≡ Read.Opening)
-        ⊎ (onAfter x (λ a. onAfter (afterWord s a openWord) (λ b. Read.Opening) (eventAt s a)) NoForm
-        ≡ onAfter x (λ a. onAfter (afterWord s a openWord) (openingAt s) (record { read = eventAt s a; setup = noSetup })) noForm .read)
-    at-bracket (At a) = at-word a (afterWord s a openWord)
-    at-bracket Away = inr refl
+-- what is read of any line, by what it is skimmed as and its setup
+abbrev pub skimmedReading : Read → Setup → Reading
+skimmedReading (Read.Event e) u = eventReading e
+skimmedReading Read.Opening u = openingOr u
+skimmedReading Read.NoForm u = noForm

@@ -1,14 +1,17 @@
--- Reading at a place of a line: a word, a number, several of both.
-use Prim.Native.Nat.{ℕ, _+_}
+-- Reading at a place of a line: a word, a number, numbers in a series.
+use Prim.Native.Nat.{ℕ, zero, suc, _+_, _≤_}
+use mathlib.Core.Path.{_≡_}
 use mathlib.Core.Bool.{Bool, true, false, _&&_, cond}
 use mathlib.Core.List.{List, [], _∷_}
-use lib.ListN.{length, drop}
+use lib.ListN.{length, take, drop}
 use lib.Dec.{eqb, ltb}
 use Rattle.lines.specs.Decimal.{digit, fieldLimit}
+use Rattle.lines.specs.Forms.{oneBlank}
 use Rattle.reader.specs.declared.After.{After}
 use Rattle.reader.specs.declared.After.the-variants.{At, Away}
 use Rattle.reader.specs.declared.Number.{Number}
 use Rattle.reader.specs.declared.Number.the-variants.{Value, NoNumber}
+use Rattle.reader.specs.declared.Several.{Several}
 use Rattle.reader.specs.Bytes.{digitRun, spelled}
 
 -- ---- a word
@@ -37,8 +40,6 @@ numeral (b ∷ l) k = cond (eqb b (digit 0)) (cond (eqb (length l) 0) (Value 0 k
 unfoldable pub numberAt : List ℕ → ℕ → Number
 numberAt s at = numeral (digitRun (drop at s)) (at + length (digitRun (drop at s)))
 
--- ---- words and numbers in turn
-
 abbrev pub onAfter : {A : Type 0} → After → (ℕ → A) → A → A
 onAfter (At k) f z = f k
 onAfter Away f z = z
@@ -47,20 +48,30 @@ abbrev pub onNumber : {A : Type 0} → Number → (ℕ → ℕ → A) → A → 
 onNumber (Value n k) f z = f n k
 onNumber NoNumber f z = z
 
-pub data Part : Type 0 where
-  word : List ℕ → Part
-  field : Part
+-- a blank and a number
+unfoldable pub nextNumberAt : List ℕ → ℕ → Number
+nextNumberAt s at = onAfter (afterWord s at oneBlank) (numberAt s) NoNumber
 
--- the numbers read, and the place after all
-pub data Fields : Type 0 where
-  fields : List ℕ → ℕ → Fields
-  none : Fields
+-- ---- numbers in a series
 
-abbrev pub before : ℕ → Fields → Fields
-before n (fields ns k) = fields (n ∷ ns) k
-before n none = none
+-- the numbers, and the place after them
+pub record Series : Type 0 where
+  pub numbers : List ℕ
+  pub end : ℕ
 
-abbrev pub readParts : List Part → List ℕ → ℕ → Fields
-readParts [] s at = fields [] at
-readParts (word w ∷ ps) s at = onAfter (afterWord s at w) (λ k. readParts ps s k) none
-readParts (field ∷ ps) s at = onNumber (numberAt s at) (λ n k. before n (readParts ps s k)) none
+abbrev pub ending : ℕ → Series
+ending at = record { numbers = []; end = at }
+
+abbrev pub following : ℕ → Series → Series
+following n x = record { numbers = n ∷ x .numbers; end = x .end }
+
+-- as many as stand at the place, each behind a blank, but j at most
+abbrev pub seriesAt : ℕ → List ℕ → ℕ → Series
+seriesAt zero s at = ending at
+seriesAt (suc j) s at = onNumber (nextNumberAt s at) (λ n k. following n (seriesAt j s k)) (ending at)
+
+-- that they were read into the words lent, as many at most as these are
+pub record ReadsSeveral (s : List ℕ) (at : ℕ) (lent : List ℕ) (r : Several) (after : List ℕ) : Type 0 where
+  pub read : seriesAt (length lent) s at ≡ record { numbers = take (r .count) after; end = r .end }
+  pub within : r .count ≤ length lent
+  pub whole : length after ≡ length lent

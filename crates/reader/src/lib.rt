@@ -1,20 +1,20 @@
-// Reading one line of a schedule: any bytes in, the event, the opening with its setup, or that it is none of the forms.
+// Reading one line of a schedule: any bytes in, the event, that it is an opening or none of the forms; and an opening's setup.
 use lines::Read;
-use lines::Reading;
 use types::Event;
 use types::Message;
 use types::Plan;
 use types::Setup;
 ghost use mathlib.Core.Path.{_≡_};
-ghost use Prim.Native.Nat.{_+_, _≤_};
+ghost use Prim.Native.Nat.{_+_, _-_, _/_, _≤_};
 ghost use lib.ListN.{length, drop};
 ghost use Rattle.types.specs.Quantities.{nMost};
+ghost use Rattle.lines.specs.Decimal.{fieldLimit};
 ghost use Rattle.lines.specs.Forms.{openBracket, closeBracket, oneBlank};
-ghost use Rattle.lines.specs.Contracts.{noSetup, noForm, Reads};
+ghost use Rattle.lines.specs.Contracts.{noSetup, Reads};
 ghost use Rattle.reader.specs.Bytes.{classOf, classAt, digitRun, spelled};
-ghost use Rattle.reader.specs.Scan.{afterWord, fitting, numberAt};
+ghost use Rattle.reader.specs.Scan.{afterWord, fitting, numberAt, nextNumberAt, ReadsSeveral};
 ghost use Rattle.reader.specs.Decimals.{decimalOf, ReadsDecimal};
-ghost use Rattle.reader.specs.Lines.{kindFoundAt, messageOf, saidKind, messageAt, endingAt, deliverAt, signAt, showAt, ticksAt, eventAt, headingAt, nextNumberAt, firstClockAt, tableEndAt, noTable, tableAt, openingAt, reading, skimmed};
+ghost use Rattle.reader.specs.Lines.{kindFoundAt, messageOf, saidKind, messageAt, endingAt, deliverAt, signAt, showAt, ticksAt, eventAt, headingAt, firstClockAt, tableEndAt, noTable, tableAt, openingAt, reading, skimmed};
 
 // ---- bytes
 
@@ -119,6 +119,17 @@ enum Number {
     NoNumber,
 }
 
+// The most behind which a digit may stand, so that the number is below 2^64. It has no division: it is asked for every digit.
+fn most_before(d: u64) -> u64
+    requires { ⌜ d ≤ 9 ⌝ }
+    ensures { λ r. ⌜ r ≡ (fieldLimit - 1 - d) / 10 ⌝ }
+{
+    if 5 < d {
+        return 1844674407370955160;
+    }
+    1844674407370955161
+}
+
 // The number that the digits from a place on spell after v, which stands before them.
 fn further_digits(s: &[u8], at: usize, v: u64) -> Number
     ensures { λ r. ⌜ r ≡ fitting (spelled v (digitRun (drop at (now (s .entry))))) (at + length (digitRun (drop at (now (s .entry))))) ⌝ }
@@ -129,7 +140,7 @@ fn further_digits(s: &[u8], at: usize, v: u64) -> Number
         let Class::Digit(d) = classify(s[i]) else {
             return Number::Value(value, i);
         };
-        if (u64::MAX - d) / 10 < value {
+        if most_before(d) < value {
             return Number::NoNumber;
         }
         value = value * 10 + d;
@@ -152,6 +163,45 @@ fn read_number(s: &[u8], at: usize) -> Number
         return Number::NoNumber;
     }
     further_digits(s, at + 1, d)
+}
+
+// A blank and a number.
+fn next_number(s: &[u8], at: usize) -> Number
+    ensures { λ r. ⌜ r ≡ nextNumberAt (now (s .entry)) at ⌝ }
+{
+    let After::At(a) = after_blank(s, at) else {
+        return Number::NoNumber;
+    };
+    read_number(s, a)
+}
+
+// How many numbers stand in a series, and the place after them.
+struct Several {
+    count: usize,
+    end: usize,
+}
+
+// As many numbers as stand there, each behind a blank, up to as many as there are words lent.
+fn read_several(s: &[u8], at: usize, numbers: &mut [u64]) -> Several
+    ensures { λ r. ⌜ ReadsSeveral (now (s .entry)) at (now (numbers .entry)) r (now (numbers .exit)) ⌝ }
+{
+    let mut place = at;
+    let mut i = 0;
+    while i < numbers.len() {
+        let Number::Value(n, b) = next_number(s, place) else {
+            return Several {
+                count: i,
+                end: place,
+            };
+        };
+        numbers[i] = n;
+        place = b;
+        i += 1;
+    }
+    Several {
+        count: i,
+        end: place,
+    }
 }
 
 // ---- messages
@@ -211,19 +261,13 @@ fn read_inside(s: &[u8], at: usize) -> Said
     let KindFound::Is(kind, a) = read_kind(s, at) else {
         return Said::NoMessage;
     };
-    let After::At(b) = after_blank(s, a) else {
+    let Number::Value(w, b) = next_number(s, a) else {
         return Said::NoMessage;
     };
-    let Number::Value(w, c) = read_number(s, b) else {
+    let Number::Value(p, c) = next_number(s, b) else {
         return Said::NoMessage;
     };
-    let After::At(d) = after_blank(s, c) else {
-        return Said::NoMessage;
-    };
-    let Number::Value(p, e) = read_number(s, d) else {
-        return Said::NoMessage;
-    };
-    let After::At(k) = after_close_bracket(s, e) else {
+    let After::At(k) = after_close_bracket(s, c) else {
         return Said::NoMessage;
     };
     Said::Told(make(kind, w, p), k)
@@ -290,10 +334,7 @@ fn read_show(s: &[u8], at: usize) -> Read
 fn read_tick(s: &[u8], at: usize) -> Read
     ensures { λ r. ⌜ r ≡ ticksAt (now (s .entry)) at ⌝ }
 {
-    let After::At(a) = after_blank(s, at) else {
-        return Read::NoForm;
-    };
-    let Number::Value(m, k) = read_number(s, a) else {
+    let Number::Value(m, k) = next_number(s, at) else {
         return Read::NoForm;
     };
     ending(s, k, Event::Tick(m))
@@ -335,41 +376,26 @@ struct Table {
     clocks: [u64; 64],
 }
 
-// A blank and a number.
-fn next_number(s: &[u8], at: usize) -> Number
-    ensures { λ r. ⌜ r ≡ nextNumberAt (now (s .entry)) at ⌝ }
-{
-    let After::At(a) = after_blank(s, at) else {
-        return Number::NoNumber;
-    };
-    read_number(s, a)
-}
-
+// The numbers before the table: which they are, their count tells.
 fn read_heading(s: &[u8], at: usize) -> Heading
     ensures { λ r. ⌜ r ≡ headingAt (now (s .entry)) at ⌝ }
 {
-    let Number::Value(n, a) = next_number(s, at) else {
-        return Heading::NoHeading;
-    };
-    let Number::Value(delta, b) = next_number(s, a) else {
-        return Heading::NoHeading;
-    };
-    let Number::Value(gamma, c) = next_number(s, b) else {
-        return Heading::NoHeading;
-    };
-    let Number::Value(views, d) = next_number(s, c) else {
-        return Heading::NoHeading;
-    };
-    let Number::Value(faulty, k) = next_number(s, d) else {
-        return Heading::NoHeading;
-    };
-    let plan = Plan {
-        n: n,
-        delta: delta,
-        gamma: gamma,
-        views: views,
-    };
-    Heading::Parameters(plan, faulty, k)
+    let mut numbers = [0; 5];
+    let several = read_several(s, at, &mut numbers);
+    let count = several.count;
+    match count {
+        5 => Heading::Parameters(
+            Plan {
+                n: numbers[0],
+                delta: numbers[1],
+                gamma: numbers[2],
+                views: numbers[3],
+            },
+            numbers[4],
+            several.end,
+        ),
+        _ => Heading::NoHeading,
+    }
 }
 
 // A blank, a bracket and a number.
@@ -414,17 +440,11 @@ fn read_table(s: &[u8], at: usize, n: usize) -> Table
     };
     let mut clocks = [0; 64];
     clocks[0] = c;
-    let mut place = a;
-    let mut i = 1;
-    while i < n {
-        let Number::Value(d, b) = next_number(s, place) else {
-            return no_table();
-        };
-        clocks[i] = d;
-        place = b;
-        i += 1;
+    let further = read_several(s, a, &mut clocks[1..n]);
+    if further.count != n - 1 {
+        return no_table();
     }
-    let After::At(k) = table_end(s, place) else {
+    let After::At(k) = table_end(s, further.end) else {
         return no_table();
     };
     Table {
@@ -450,65 +470,36 @@ fn no_setup() -> Setup
     }
 }
 
-fn no_form() -> Reading
-    ensures { λ r. ⌜ r ≡ noForm ⌝ }
-{
-    Reading {
-        read: Read::NoForm,
-        setup: no_setup(),
-    }
-}
-
-// What stands behind the word of an opening.
-fn read_opening(s: &[u8], at: usize) -> Reading
-    ensures { λ r. ⌜ r ≡ openingAt (now (s .entry)) at ⌝ }
+// The setup behind the word of an opening; 0 everywhere where there is none.
+fn read_opening(s: &[u8], at: usize) -> Setup
+    ensures { λ r. ⌜ r ≡ openingAt (now (s .entry)) at .setup ⌝ }
 {
     let Heading::Parameters(plan, faulty, a) = read_heading(s, at) else {
-        return no_form();
+        return no_setup();
     };
     if plan.n == 0 {
-        return no_form();
+        return no_setup();
     }
     if Plan::N_MOST < plan.n {
-        return no_form();
+        return no_setup();
     }
     let t = read_table(s, a, plan.n as usize);
     let end = t.end;
     let After::At(k) = end else {
-        return no_form();
+        return no_setup();
     };
     if k != s.len() {
-        return no_form();
+        return no_setup();
     }
     let clocks = t.clocks;
-    Reading {
-        read: Read::Opening,
-        setup: Setup {
-            plan: plan,
-            faulty: faulty,
-            clocks: clocks,
-        },
+    Setup {
+        plan: plan,
+        faulty: faulty,
+        clocks: clocks,
     }
 }
 
-// From the left.
-fn read_bytes(line: &[u8]) -> Reading
-    ensures { λ r. ⌜ r ≡ reading (now (line .entry)) ⌝ }
-{
-    let After::At(a) = after_open_bracket(line, 0) else {
-        return no_form();
-    };
-    if let After::At(b) = after_word(line, a, b"open") {
-        return read_opening(line, b);
-    }
-    Reading {
-        read: read_event(line, a),
-        setup: no_setup(),
-    }
-}
-
-// A line, without its newline, is skimmed: one that begins as an opening does is taken for one and not read further, so that no setup stands beside
-// what is read.
+// A line, without its newline, is skimmed: one that begins as an opening does is taken for one and not read further. Its setup then tells whether it is.
 pub fn skim_line(line: &[u8]) -> Read
     ensures { λ r. ⌜ r ≡ skimmed (now (line .entry)) ⌝ }
 {
@@ -521,11 +512,31 @@ pub fn skim_line(line: &[u8]) -> Read
     read_event(line, a)
 }
 
-// What a line, without its newline, is read as.
-pub fn read_line(line: &[u8]) -> Reading
-    ensures { λ r. ⌜ (r ≡ reading (now (line .entry))) × Reads (now (line .entry)) r ⌝ }
+// The setup of a line, without its newline, that is an opening; 0 everywhere of any other.
+pub fn read_setup(line: &[u8]) -> Setup
+    ensures { λ r. ⌜ (r ≡ reading (now (line .entry)) .setup) × Reads (now (line .entry)) (reading (now (line .entry))) ⌝ }
 {
-    read_bytes(line)
+    let After::At(a) = after_open_bracket(line, 0) else {
+        return no_setup();
+    };
+    let After::At(b) = after_word(line, a, b"open") else {
+        return no_setup();
+    };
+    read_opening(line, b)
+}
+
+// What a line, without its newline, is read as.
+pub fn read_line(line: &[u8]) -> Read
+    ensures { λ r. ⌜ (r ≡ reading (now (line .entry)) .read) × Reads (now (line .entry)) (reading (now (line .entry))) ⌝ }
+{
+    let read = skim_line(line);
+    if let Read::Opening = read {
+        let setup = read_setup(line);
+        if setup.plan.n == 0 {
+            return Read::NoForm;
+        }
+    }
+    read
 }
 
 // ---- a number by itself

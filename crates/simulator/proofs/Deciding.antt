@@ -17,8 +17,8 @@ use Rattle.types.specs.declared.Input.the-variants.{Vc as VcIn, Qc as QcIn}
 use Rattle.types.specs.Quantities.{initial}
 use Rattle.types.specs.Traffic.{trafficSent}
 use Rattle.types.specs.Messages.{viewStage, voteStage, viewIn, processorIn, stageOf, isSignature}
-use Rattle.model.specs.State.{State, stateOf, withHeld, withClocks, withViews, withTraffic, viewOf, isCorrect}
-use Rattle.model.specs.Moves.{Change, byView, byQuorum, forms, hearing, handling, made, formedMessages, heardChange}
+use Rattle.model.specs.State.{stateOf, withHeld, withTraffic, viewOf, isCorrect}
+use Rattle.model.specs.Moves.{Change, changed, byView, byQuorum, forms, hearing, handling, made, formedMessages, heardChange}
 use Rattle.model.specs.Checks.{planOutside, noProcessor, noView, namedOutside, notInitial, reachesEnd}
 use Rattle.liveness.proofs.Answers.{no-yes}
 use Rattle.liveness.proofs.Judging.{named-within}
@@ -168,9 +168,8 @@ module _ (r : Run) (t : List ℕ) (fit : Fit r) (x : Reaction) where
 
 -- ---- a reaction done
 
-pub made-by : (s : State) (c : Change) (held : ℕ) (traffic : Traffic) (t ws : List ℕ)
-    → Posts (c .sent) (s .run .held) (s .run .time) (s .network) held ws → t ≡ c .tally → traffic ≡ trafficSent (s .run .traffic) (c .sent)
-    → stateOf (withTraffic traffic (withHeld held (withViews (c .views) (withClocks (c .clocks) (s .run))))) t ws ≡ made s c
+pub made-by : (r : Run) (t₀ ws₀ : List ℕ) (c : Change) (held : ℕ) (traffic : Traffic) (t ws : List ℕ)
+    → Posts (c .sent) (r .held) (r .time) ws₀ held ws → t ≡ c .tally → traffic ≡ trafficSent (r .traffic) (c .sent)
+    → stateOf (withTraffic traffic (withHeld held (changed r c))) t ws ≡ made (stateOf r t₀ ws₀) c
 unfolding made
-made-by s c held traffic t ws x e f = state-by _ _
-    (ap₂ (λ (h : ℕ) (y : Traffic). withTraffic y (withHeld h (withViews (c .views) (withClocks (c .clocks) (s .run))))) (x .number) f) e (x .words)
+made-by r t₀ ws₀ c held traffic t ws x e f = state-by (ap₂ (λ (h : ℕ) (y : Traffic). withTraffic y (withHeld h (changed r c))) (x .number) f) e (x .words)

@@ -2,6 +2,7 @@
 use mathlib.Core.Path.{_≡_, refl, ap, _∙_}
 use mathlib.Core.Logic.{_⊎_, inl, inr}
 use mathlib.Core.Bool.{true, false}
+use mathlib.Core.List.{List}
 use Prim.Native.Nat.{ℕ, _-_, _/_, _≤_, _<_}
 use native.Mathlib.Nat.{le-refl}
 use native.Mathlib.Omega.{arith}
@@ -14,7 +15,7 @@ use Rattle.types.specs.declared.Run.{Run}
 use Rattle.types.specs.declared.Traffic.{Traffic}
 use Rattle.types.specs.Quantities.{messageWords}
 use Rattle.types.specs.Traffic.{trafficDelivered}
-use Rattle.model.specs.State.{State, stateOf, withHeld, withTraffic, isCorrect, capacity, removed}
+use Rattle.model.specs.State.{State, stateOf, withRun, withNetwork, withHeld, withTraffic, isCorrect, capacity, roomIn, removed}
 use Rattle.model.specs.Checks.{unsound, isAt, placeOf, notHeld}
 use Rattle.model.specs.Events.{waitSince, without}
 use Rattle.liveness.proofs.Flight.{length-removed}
@@ -32,32 +33,35 @@ reaches-held r h x (Vote w p) c = c
 reaches-held r h x (Vc w p) c = c
 reaches-held r h x (Qc w p) c = c
 
-module _ (s : State) (m : Message) (room : s .run .held ≤ capacity (s .network)) (i : ℕ) (is-found : i ≡ found (s .network) (s .run .held) m) where
-  pub place-is : i ≡ placeOf s m
-  place-is = is-found ∙ found-fits (s .network) (s .run .held) m room
+-- a run and the buffers lent with it
+module _ (r : Run) (t ws : List ℕ) (m : Message) (i : ℕ) (room : r .held ≤ capacity ws) where
+  abbrev s : State
+  s = stateOf r t ws
 
-  pub found-none : s .run .held ≤ i → notHeld s m ≡ true
-  found-none l = eq-eqb (placeOf s m) (s .run .held) (omega (arith, place-is, first-le (isAt (s .network) m) (s .run .held)))
+  module _ (is-found : i ≡ found ws (r .held) m) where
+    pub place-is : i ≡ placeOf s m
+    place-is = is-found ∙ found-fits ws (r .held) m room
 
-  pub found-some : i < s .run .held → notHeld s m ≡ false
-  found-some l = ne-eqb (placeOf s m) (s .run .held) (λ e. absurd (omega (arith, e, place-is)))
+    pub found-none : r .held ≤ i → notHeld s m ≡ true
+    found-none l = eq-eqb (placeOf s m) (r .held) (omega (arith, place-is, first-le (isAt ws m) (r .held)))
 
-  module _ (inside : i < s .run .held) where
-    pub leaves-without : leaving s m i ≡ without s m
+    pub found-some : i < r .held → notHeld s m ≡ false
+    found-some l = ne-eqb (placeOf s m) (r .held) (λ e. absurd (omega (arith, e, place-is)))
+
+    pub leaves-without : i < r .held → leaving s m i ≡ without s m
     unfolding without
-    leaves-without = rw (lt-ltb i (s .run .held) inside, le-leb (s .run .held) (capacity (s .network)) room)
-        (ap (λ (k : ℕ). stateOf (withTraffic (trafficDelivered (s .run .traffic) m (waitSince (s .run .time) (s .network) k)) (withHeld (s .run .held - 1) (s .run)))
-        (s .tally) (removed (s .network) (s .run .held) k)) place-is)
+    leaves-without inside = rw (lt-ltb i (r .held) inside, le-leb (r .held) (capacity ws) room)
+        (ap (λ (k : ℕ). withRun (withTraffic (trafficDelivered (r .traffic) m (waitSince (r .time) ws k)) (withHeld (r .held - 1) r))
+        (withNetwork (removed ws (r .held) k) s)) place-is)
 
--- without a message there is as much room
-pub room-left : (s : State) (m : Message) (i : ℕ) → s .run .held ≤ capacity (s .network)
-    → (capacity (leaving s m i .network) ≡ capacity (s .network)) × (leaving s m i .run .held ≤ s .run .held)
-room-left s m i room = go (le? (s .run .held) i)
-  where
-    go : (s .run .held ≤ i) ⊎ (i < s .run .held) → (capacity (leaving s m i .network) ≡ capacity (s .network)) × (leaving s m i .run .held ≤ s .run .held)
-    go (inl l) = rw (le-ltb i (s .run .held) l) (refl, le-refl (s .run .held))
-    go (inr l) = rw (lt-ltb i (s .run .held) l, le-leb (s .run .held) (capacity (s .network)) room)
-        (ap (λ (n : ℕ). n / messageWords) (length-removed (s .network) (s .run .held) i (omega arith) (omega arith)), omega arith)
+  -- without a message there is as much room
+  pub room-left : (roomIn (leaving s m i) ≡ roomIn s) × (leaving s m i .run .held ≤ r .held)
+  room-left = go (le? (r .held) i)
+    where
+      go : (r .held ≤ i) ⊎ (i < r .held) → (roomIn (leaving s m i) ≡ roomIn s) × (leaving s m i .run .held ≤ r .held)
+      go (inl l) = rw (le-ltb i (r .held) l) (refl, le-refl (r .held))
+      go (inr l) = rw (lt-ltb i (r .held) l, le-leb (r .held) (capacity ws) room)
+          (ap (λ (n : ℕ). n / messageWords) (length-removed ws (r .held) i (omega arith) (omega arith)), omega arith)
 
 -- a certificate that is held goes to a correct processor
 pub held-reaches : (s : State) (m : Message) → unsound s ≡ false → notHeld s m ≡ false → ReachesCorrect (s .run) m

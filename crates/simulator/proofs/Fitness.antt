@@ -11,7 +11,7 @@ use Rattle.base.specs.Tests.{fails, T-true, T-false}
 use Rattle.types.specs.declared.Plan.{Plan}
 use Rattle.types.specs.declared.Run.{Run}
 use Rattle.types.specs.Quantities.{perLeader, lead, endTime}
-use Rattle.model.specs.State.{State, clockOf, viewOf, isCorrect, capacity}
+use Rattle.model.specs.State.{State, clockOf, viewOf, isCorrect, roomIn}
 use Rattle.model.specs.Checks.{planOutside, faultyOutside, buffersOutside, clockOutside, atEnd, unsound}
 use Rattle.liveness.proofs.Judging.{neither, not-ltb, not-leb}
 use Rattle.base.specs.Count.{count-some}
@@ -38,8 +38,8 @@ module _ (s : State) (sound : unsound s ≡ false) where
   abbrev to-faulty : Bool
   to-faulty = planOutside (s .run .plan) || faultyOutside (s .run .plan) (s .run .faulty)
 
-  limits-parts : (T to-faulty → ⊥) × (T (buffersOutside (s .run .plan) (s .tally) (s .network)) → ⊥)
-  limits-parts = neither to-faulty (buffersOutside (s .run .plan) (s .tally) (s .network)) (sound-run .limits)
+  limits-parts : (T to-faulty → ⊥) × (T (buffersOutside s) → ⊥)
+  limits-parts = neither to-faulty (buffersOutside s) (sound-run .limits)
 
   pub fit-of : Fit (s .run)
   fit-of =
@@ -51,7 +51,7 @@ module _ (s : State) (sound : unsound s ≡ false) where
         clocks = λ q c. T-false (clockOutside p (clockOf (s .run) q) (viewOf (s .run) q)) (sound-run .clocks q (rw c tt));
       }
 
-  pub room-of : s .run .held ≤ capacity (s .network)
+  pub room-of : s .run .held ≤ roomIn s
   room-of = not-ltb _ _ (sound-run .room)
 
   pub time-of : s .run .time < endTime (s .run .plan)

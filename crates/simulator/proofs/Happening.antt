@@ -22,7 +22,7 @@ use Rattle.types.specs.declared.AppliedHead.{AppliedHead}
 use Rattle.types.specs.declared.Traffic.{Traffic}
 use Rattle.types.specs.Quantities.{lead}
 use Rattle.types.specs.Messages.{viewIn, processorIn, stageOf, lacksForm}
-use Rattle.model.specs.State.{State, After, stateOf, runFrom, withTraffic, leftBehind, isCorrect, capacity, refused, done}
+use Rattle.model.specs.State.{State, After, stateOf, runFrom, withTraffic, leftBehind, isCorrect, capacity, roomIn, refused, done}
 use Rattle.model.specs.Moves.{Change, still, handling, made}
 use Rattle.model.specs.Checks.{unsound, namedOutside, notInitial, exists, notHeld, reachesEnd, overfull}
 use Rattle.model.specs.Events.{without, delivering, signing, nowSettled, tickRun, checks, effect, applied}
@@ -120,10 +120,10 @@ handled-outcome before cs vs t ws m i fits h e x d room k r q =
     let s : State = stateOf (runFrom before cs vs) t ws in
     let s' : State = leaving s m i in
     let c : Change = handling (s' .run) (s .tally) m in
-    q ∙ ap₂ (λ (y : Head) (n : ℕ). outcome (x .ends) (ltb n (y .held + length (sentFor (y .plan) (y .faulty) m x)))) e (r ∙ sym (room-left s m i fits .0))
+    q ∙ ap₂ (λ (y : Head) (n : ℕ). outcome (x .ends) (ltb n (y .held + length (sentFor (y .plan) (y .faulty) m x)))) e (r ∙ sym (room-left (s .run) t ws m i fits .0))
     ∙ decided-outcome (s' .run) (s .tally) m x
     (decides-counted (runFrom (headWithout before i) cs vs) (s' .run .traffic) t m x (subst (λ (y : Head). Decides (runFrom y cs vs) t m x) e d))
-    (s' .run .held) (capacity (s' .network))
+    (s' .run .held) (roomIn s')
 
 -- ---- what is named
 
@@ -237,7 +237,7 @@ certificate-reaches r (Qc w p) e = e
 -- nothing changed is done: no clock has moved, and what is held fits
 pub finish-still : (s : State) → unsound s ≡ false → done s ≡ finished s s (still (s .run) (s .tally))
 finish-still s sound =
-    let l : s .run .held + 0 ≤ capacity (s .network) = omega (arith, room-of s sound) in
+    let l : s .run .held + 0 ≤ roomIn s = omega (arith, room-of s sound) in
     ap done (still-made s) ∙ finish-done s s (still (s .run) (s .tally)) (stays-below (s .run) (fit-of s sound) (still (s .run) (s .tally)) refl) (le-ltb _ _ l)
 
 -- a message that is not held leaves nothing behind

@@ -14,7 +14,7 @@ use Rattle.types.specs.declared.Run.{Run}
 use Rattle.types.specs.declared.Answer.the-variants.{Done, Stopped, Refused}
 use Rattle.types.specs.declared.Head.{Head}
 use Rattle.types.specs.declared.AppliedHead.{AppliedHead}
-use Rattle.model.specs.State.{State, After, stateOf, runFrom, leftBehind, checkOf, capacity, refused}
+use Rattle.model.specs.State.{State, After, stateOf, runFrom, withRun, leftBehind, roomIn, checkOf, refused}
 use Rattle.model.specs.Moves.{advanced, arrivals, made}
 use Rattle.model.specs.Checks.{overdue, reachesEnd, overfull}
 use Rattle.model.specs.Events.{tickChecks, tickOnce, Ticks, continued, ticks, ticksAnswer, tickRun}
@@ -50,21 +50,21 @@ module _ (s : State) (long : s .run .plan .n ≤ length (s .run .clocks)) where
       (cond-yes (reachesEnd (advanced s .run) (arrivals (advanced s))) (refused s 17) (refused s 17) _ (tick-reaches s long ∙ f) refl)) (none-went s 17 (omega arith))
 
   module _ (e : late s ≡ false) (f : ends s ≡ false) (sent : ℕ) (is-sent : sent ≡ length (arrivedBelow s (s .run .plan .n) .sent)) where
-    pub once-full : capacity (s .network) < s .run .held + sent → TickedTo s s 18
+    pub once-full : roomIn s < s .run .held + sent → TickedTo s s 18
     unfolding tickOnce overdue arrivals
     once-full l = stays-at s 18 (cond-no (late s) (refused s 18) (refused s 16) _ e
         (cond-no (reachesEnd (advanced s .run) (arrivals (advanced s))) (refused s 18) (refused s 17) _ (tick-reaches s long ∙ f)
         (cond-yes (overfull (advanced s) (arrivals (advanced s))) (refused s 18) (refused s 18) _
-        (ap (λ (n : ℕ). ltb (capacity (s .network)) (s .run .held + n)) (sym is-sent) ∙ lt-ltb _ _ l) refl))) (none-went s 18 (omega arith))
+        (ap (λ (n : ℕ). ltb (roomIn s) (s .run .held + n)) (sym is-sent) ∙ lt-ltb _ _ l) refl))) (none-went s 18 (omega arith))
 
-    pub once-done : s .run .held + sent ≤ capacity (s .network) → (s' : State) → s' ≡ made (advanced s) (arrivals (advanced s)) → Went s (made (advanced s) (arrivals (advanced s)))
+    pub once-done : s .run .held + sent ≤ roomIn s → (s' : State) → s' ≡ made (advanced s) (arrivals (advanced s)) → Went s (made (advanced s) (arrivals (advanced s)))
         → TickedTo s s' 0
     unfolding tickOnce overdue arrivals
     once-done l s' is w =
         let x : ticked s ≡ tickOnce s = cond-no (late s) (ticked s) (refused s 16) _ e
         (cond-no (reachesEnd (advanced s .run) (arrivals (advanced s))) (ticked s) (refused s 17) _ (tick-reaches s long ∙ f)
         (cond-no (overfull (advanced s) (arrivals (advanced s))) (ticked s) (refused s 18) (ticked s)
-        (ap (λ (n : ℕ). ltb (capacity (s .network)) (s .run .held + n)) (sym is-sent) ∙ le-ltb _ _ l) refl)) in
+        (ap (λ (n : ℕ). ltb (roomIn s) (s .run .held + n)) (sym is-sent) ∙ le-ltb _ _ l) refl)) in
         record {
           state = is ∙ ap (λ (a : After). a .state) x;
           number = ap (λ (a : After). checkOf (a .answer)) x;
@@ -104,10 +104,10 @@ after-by : (a b : After) → a .state ≡ b .state → a .answer ≡ b .answer �
 after-by a b e f = λ i. record { state = e i; answer = f i }
 
 pub run-ended : (m count check : ℕ) (s₀ s' : State) (o : AppliedHead) (clocks views : List ℕ) → ticks m s₀ ≡ ranTo s' count check → runFrom (o .head) clocks views ≡ s' .run
-    → o .answer ≡ ticksAnswer (ranTo s' count check) → leftBehind o clocks views (s' .tally) (s' .network) ≡ tickRun m s₀
+    → o .answer ≡ ticksAnswer (ranTo s' count check) → record { state = withRun (runFrom (o .head) clocks views) s'; answer = o .answer } ≡ tickRun m s₀
 unfolding tickRun
 run-ended m count check s₀ s' o clocks views e r a = after-by _ _
-    (ap (λ (y : Run). stateOf y (s' .tally) (s' .network)) r ∙ sym (ap (λ (y : Ticks). y .state) e))
+    (ap (λ (y : Run). withRun y s') r ∙ sym (ap (λ (y : Ticks). y .state) e))
     (a ∙ sym (ap ticksAnswer e))
 
 pub run-done : (m count : ℕ) (s₀ : State) (head : Head) (clocks views tally network : List ℕ) → 0 < m → count ≡ m

@@ -172,7 +172,7 @@ start-made u t ws fit run held traffic t₁ t' ws₁ ws' e a b x f =
     let g : traffic ≡ trafficSent noTraffic (enteredFirst u (cleared t (rowWords * u .plan .views)) (u .plan .n) .sent) =
     f ∙ ap (λ (y : Run). trafficSent (y .traffic) (pairs (held / 2))) e
     ∙ paired-counted (enteredFirst u (cleared t (rowWords * u .plan .views)) (u .plan .n) .sent) held (first-paired u (cleared t (rowWords * u .plan .views)) (u .plan .n)) (omega (arith, h)) noTraffic in
-    state-by _ _
+    state-by
     (ap (λ (y : Run). withTraffic traffic (withHeld held y)) e ∙ (λ i. runOf (u .plan) (u .faulty) 0 false 0 (h i) (sym (m .clocks-same) i) (sym (m .views-same) i) (g i)))
     (x .1 ∙ ap (λ (y : List ℕ). enteredFirst u y (u .plan .n) .tally) a)
     (x .0 .words ∙ ap₂ (λ (y z : List ℕ). posted z 0 0 (enteredFirst u y (u .plan .n) .sent)) a (b ∙ cleared-all ws))

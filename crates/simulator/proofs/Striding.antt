@@ -12,7 +12,7 @@ use Rattle.types.specs.declared.Input.the-variants.{Tick}
 use Rattle.types.specs.declared.Sends.the-variants.{Nothing}
 use Rattle.types.specs.Quantities.{endTime}
 use Rattle.types.specs.PlanFunctions.{nextInitialWord, clockTimeWord}
-use Rattle.model.specs.State.{State, stateOf, clockOf, viewOf, isCorrect, capacity}
+use Rattle.model.specs.State.{State, withRun, clockOf, viewOf, isCorrect, roomIn}
 use Rattle.model.specs.Moves.{stay}
 use Rattle.model.specs.Checks.{planOutside, clockOutside, atEnd, unsound}
 use Rattle.model.specs.Processors.{Moved, moving, processorUnsound, movingBy}
@@ -34,7 +34,7 @@ use Rattle.simulator.proofs.Once.{once-overdue}
 
 -- ---- several ticks
 
-pub strides-none : (s : State) → Fit (s .run) → s .run .held ≤ capacity (s .network) → Strides s s 0
+pub strides-none : (s : State) → Fit (s .run) → s .run .held ≤ roomIn s → Strides s s 0
 unfolding ticks
 strides-none s fit room = record { ran = refl; fit = fit; room = room; time = omega arith; clock = λ p c. (c, omega arith) }
 
@@ -163,9 +163,9 @@ module _ (s : State) (ready : Ready s) (most : ℕ) where
           clocks = λ p c. omega (arith, below-end p c);
         }
 
-    pub advance-leap : 0 < quiet → (r : Run) → r ≡ leaptWord (s .run) quiet → Advances s most (stateOf r (s .tally) (s .network)) quiet 0
+    pub advance-leap : 0 < quiet → (r : Run) → r ≡ leaptWord (s .run) quiet → Advances s most (withRun r s) quiet 0
     advance-leap l r is = record {
-      went = λ z. subst (λ (y : Run). Strides s (stateOf y (s .tally) (s .network)) quiet) (sym (is ∙ leap-exact (s .run) quiet leap-fits))
+      went = λ z. subst (λ (y : Run). Strides s (withRun y s) quiet) (sym (is ∙ leap-exact (s .run) quiet leap-fits))
           (leap-strides s ready whole quiet (record { waits = λ j b. w .quiet j (omega (arith, rests .few)); rests = rests .quiet }));
       number = λ z. (l, omega (arith, rests .few, w .few));
       ended = λ b. absurd (omega arith);

@@ -3,7 +3,7 @@ use mathlib.Core.Path.{_≡_, refl, ap, _∙_}
 use mathlib.Core.Bool.{Bool, true, false, _&&_, _||_, cond}
 use mathlib.Core.Logic.{⊎-elim, _≢_}
 use mathlib.Core.List.{List}
-use Prim.Native.Nat.{ℕ, zero, suc, _+_, _-_, _*_, _/_, _%_, _≤_, _<_}
+use Prim.Native.Nat.{ℕ, zero, suc, _+_, _*_, _/_, _%_, _≤_, _<_}
 use native.Mathlib.Omega.{arith}
 use native.Mathlib.Nat.{div-add-mod', mul-div-cancel, mul-mod-left, mul-le-mul-right}
 use lib.Dec.{T, eqb, leb, ltb, eqb→eq}
@@ -14,14 +14,14 @@ use Rattle.base.specs.Tests.{fails, T-left, le?}
 use Rattle.base.specs.Choice.{and-both}
 use Rattle.base.specs.Scan.{some}
 use Rattle.base.specs.ScanLaws.{some-not}
-use Rattle.pacemaker.proofs.LimitLaws.{within}
+use Rattle.pacemaker.proofs.LimitLaws.{within, gamma-positive}
 use Rattle.types.specs.declared.Plan.{Plan}
 use Rattle.types.specs.declared.Run.{Run}
 use Rattle.types.specs.Quantities.{messageWords, initial, nextInitial, clockTime, endTime}
 use Rattle.types.proofs.PlanLaws.{per-leader-positive, next-above, next-initial}
-use Rattle.model.specs.State.{State, clockOf, viewOf, isCorrect, capacity}
+use Rattle.model.specs.State.{State, clockOf, viewOf, isCorrect, roomIn}
 use Rattle.buffers.specs.WordLaws.{posted-length}
-use Rattle.model.specs.Moves.{changed, Entry, stay, into, entering, taking, entries, byClock, advanced, arrival, arrivals, made}
+use Rattle.model.specs.Moves.{Change, changed, Entry, stay, into, entering, taking, entries, byClock, advanced, arrival, arrivals, made}
 use Rattle.model.specs.Checks.{clockOutside, atEnd}
 use Rattle.liveness.proofs.Link.{correct-below}
 use Rattle.liveness.proofs.TickLaws.{clock-up}
@@ -114,6 +114,11 @@ module _ (plan : Plan) (positive : 0 < plan .gamma) (clock view : ℕ) (was : cl
 
 -- ---- a tick that no check refuses
 
+-- what is posted leaves as much room
+made-room : (s : State) (c : Change) → s .run .held + length (c .sent) ≤ roomIn s → roomIn (made s c) ≡ roomIn s
+unfolding made
+made-room s c room = ap (λ (n : ℕ). n / messageWords) (posted-length (s .network) (s .run .held) (s .run .time) (c .sent) room)
+
 module _ (s : State) (long-clocks : s .run .plan .n ≤ length (s .run .clocks)) (long-views : s .run .plan .n ≤ length (s .run .views)) (fit : Fit (s .run))
     (on : some (endsAt (s .run)) (s .run .plan .n) ≡ false) where
   abbrev ticked : State
@@ -141,11 +146,8 @@ module _ (s : State) (long-clocks : s .run .plan .n ≤ length (s .run .clocks))
   fit-ticked = record {
     plan = fit .plan;
     faulty = fit .faulty;
-    clocks = λ p c. rw (clock-ticked p c, view-ticked p c) (stays-inside (s .run .plan) (omega (
-      arith,
-      within (s .run .plan) (fit .plan) .delta-least,
-      within (s .run .plan) (fit .plan) .gamma-least,
-    )) (clockOf (s .run) p) (viewOf (s .run) p) (fit .clocks p c) (still-on p c));
+    clocks = λ p c. rw (clock-ticked p c, view-ticked p c) (stays-inside (s .run .plan) (gamma-positive (s .run .plan) (within (s .run .plan) (fit .plan)))
+        (clockOf (s .run) p) (viewOf (s .run) p) (fit .clocks p c) (still-on p c));
   }
     where
       still-on : (p : ℕ) → isCorrect (s .run) p ≡ true → atEnd (s .run .plan) (clockOf (s .run) p + 1) ≡ false
@@ -153,11 +155,11 @@ module _ (s : State) (long-clocks : s .run .plan .n ≤ length (s .run .clocks))
           let l : p < s .run .plan .n = correct-below (s .run .plan) (s .run .faulty) p (rw c tt) in
           rw c at (some-not (endsAt (s .run)) (s .run .plan .n) p on l)
 
-  pub went-ticked : s .run .held + length (arrivedBelow s (s .run .plan .n) .sent) ≤ capacity (s .network) → Went s ticked
+  pub went-ticked : s .run .held + length (arrivedBelow s (s .run .plan .n) .sent) ≤ roomIn s → Went s ticked
   unfolding made arrivals
   went-ticked room = record {
     fit = fit-ticked;
-    room = omega (arith, room, ap (λ (n : ℕ). n / messageWords) (posted-length (s .network) (s .run .held) (s .run .time + 1) (arrivedBelow s (s .run .plan .n) .sent) room));
+    room = omega (arith, room, made-room (advanced s) (arrivals (advanced s)) room);
     time = refl;
     clock = λ p c. (c, omega (arith, clock-ticked p c));
   }

@@ -9,7 +9,7 @@ use Rattle.types.specs.declared.Run.{Run}
 use Rattle.types.specs.declared.Traffic.{Traffic}
 use Rattle.types.specs.Traffic.{trafficSent}
 use Rattle.model.specs.State.{State, stateOf, runOf, withHeld, withTime, withClocks, withViews, withTraffic, clockOf, viewOf, capacity}
-use Rattle.model.specs.Moves.{changed, Entry, clocksOn, advanced, arrival, arrivals, made}
+use Rattle.model.specs.Moves.{Change, changed, Entry, clocksOn, advanced, arrival, arrivals, made}
 use Rattle.model.specs.Processors.{messagesOf}
 use Rattle.simulator.specs.declared.Reaction.{Reaction}
 use Rattle.simulator.specs.Inner.{Posts, pairs, sentBy, enteredBy, Arrives, seat, arrivedBelow}
@@ -18,9 +18,9 @@ use Rattle.simulator.proofs.Entries as entered
 use Rattle.simulator.proofs.Entries.{turn, entries-views}
 use Rattle.simulator.proofs.Arrivals.{clocks-ahead, arrived-clocks, same-processor, same-sent, clocks-more}
 
--- two states with equal parts are equal
-pub state-by : (s s' : State) → s .run ≡ s' .run → s .tally ≡ s' .tally → s .network ≡ s' .network → s ≡ s'
-state-by s s' a b c = λ i. record { run = a i; tally = b i; network = c i }
+-- equal runs and buffers are equal states
+pub state-by : {r r' : Run} {t t' ws ws' : List ℕ} → r ≡ r' → t ≡ t' → ws ≡ ws' → stateOf r t ws ≡ stateOf r' t' ws'
+state-by a b c = λ i. stateOf (a i) (b i) (c i)
 
 module _ (s : State) where
   abbrev entry : ℕ → Entry
@@ -55,33 +55,38 @@ module _ (s : State) where
     pub tally-turn : (t t' : List ℕ) → t ≡ arrivedBelow s k .tally → t' ≡ enteredBy t k (x .sends) → t' ≡ arrivedBelow s (k + 1) .tally
     tally-turn = entered.tally-turn entry (advanced s .run) (s .tally) k x is-processor is-sent
 
-    module _ (room : s .run .held + length (arrivedBelow s (s .run .plan .n) .sent) ≤ capacity (s .network)) (time held : ℕ) (ws : List ℕ)
-        (posts : Posts (arrivedBelow s k .sent) (s .run .held) time (s .network) held ws) where
+    module _ (before : List ℕ) (room : s .run .held + length (arrivedBelow s (s .run .plan .n) .sent) ≤ capacity before) (time held : ℕ) (ws : List ℕ)
+        (posts : Posts (arrivedBelow s k .sent) (s .run .held) time before held ws) where
       pub arrival-fits : held + length (sentBy (s .run .plan) (s .run .faulty) k (x .sends)) ≤ capacity ws
       arrival-fits = entered.entry-fits entry (advanced s .run) (s .tally) k x is-processor is-sent (s .run .plan .n) (s .run .held) time held
-          (s .network) ws low room posts
+          before ws low room posts
 
       pub posts-turn : (held' : ℕ) (ws' : List ℕ) → Posts (sentBy (s .run .plan) (s .run .faulty) k (x .sends)) held time ws held' ws'
-          → Posts (arrivedBelow s (k + 1) .sent) (s .run .held) time (s .network) held' ws'
+          → Posts (arrivedBelow s (k + 1) .sent) (s .run .held) time before held' ws'
       posts-turn = entered.posts-turn entry (advanced s .run) (s .tally) k x is-processor is-sent (s .run .plan .n) (s .run .held) time held
-          (s .network) ws low room posts
+          before ws low room posts
 
   -- who enters in a tick enters an initial view
   tick-paired : (k : ℕ) → Paired (arrivedBelow s k .sent)
   tick-paired k = paired-entries entry (advanced s .run) (s .tally) k (initially-arrives (advanced s .run))
 
-  -- what the second pass leaves is the tick
-  pub tick-made : s .run .plan .n ≤ length (s .run .clocks) → (next : Run) (held : ℕ) (traffic : Traffic) (t ws : List ℕ)
-      → next ≡ withViews (arrivedBelow s (s .run .plan .n) .views) (withClocks (clocksOn (s .run) (s .run .plan .n)) (s .run))
-      → t ≡ arrivedBelow s (s .run .plan .n) .tally
-      → Posts (arrivedBelow s (s .run .plan .n) .sent) (s .run .held) (s .run .time + 1) (s .network) held ws
-      → traffic ≡ trafficSent (s .run .traffic) (pairs ((held - s .run .held) / 2))
-      → stateOf (withTraffic traffic (withHeld held (withTime (s .run .time + 1) next))) t ws ≡ made (advanced s) (arrivals (advanced s))
+-- what the second pass leaves of a run and the buffers lent with it is the tick
+module _ (r : Run) (t₀ ws₀ : List ℕ) where
+  abbrev lent : State
+  lent = stateOf r t₀ ws₀
+
+  abbrev all : Change
+  all = arrivedBelow lent (r .plan .n)
+
+  pub tick-made : r .plan .n ≤ length (r .clocks) → (next : Run) (held : ℕ) (traffic : Traffic) (t ws : List ℕ)
+      → next ≡ withViews (all .views) (withClocks (clocksOn r (r .plan .n)) r) → t ≡ all .tally → Posts (all .sent) (r .held) (r .time + 1) ws₀ held ws
+      → traffic ≡ trafficSent (r .traffic) (pairs ((held - r .held) / 2))
+      → stateOf (withTraffic traffic (withHeld held (withTime (r .time + 1) next))) t ws ≡ made (advanced lent) (arrivals (advanced lent))
   unfolding made arrivals
-  tick-made long next held traffic t ws e f g h = state-by _ _
-      (ap (λ (y : Run). withTraffic traffic (withHeld held (withTime (s .run .time + 1) y))) e
-      ∙ ap₂ (λ (k : ℕ) (c : List ℕ). runOf (s .run .plan) (s .run .faulty) (s .run .time + 1) (s .run .settled) (s .run .gst) k c
-      (arrivedBelow s (s .run .plan .n) .views) traffic) (g .number) (sym (arrived-clocks s long (s .run .plan .n) (omega arith)))
-      ∙ ap (λ (y : Traffic). withTraffic y (withHeld (s .run .held + length (arrivedBelow s (s .run .plan .n) .sent)) (changed (advanced s .run) (arrivedBelow s (s .run .plan .n)))))
-      (h ∙ paired-counted (arrivedBelow s (s .run .plan .n) .sent) (held - s .run .held) (tick-paired (s .run .plan .n)) (omega (arith, g .number)) (s .run .traffic)))
+  tick-made long next held traffic t ws e f g h = state-by
+      (ap (λ (y : Run). withTraffic traffic (withHeld held (withTime (r .time + 1) y))) e
+      ∙ ap₂ (λ (k : ℕ) (c : List ℕ). runOf (r .plan) (r .faulty) (r .time + 1) (r .settled) (r .gst) k c (all .views) traffic)
+      (g .number) (sym (arrived-clocks lent long (r .plan .n) (omega arith)))
+      ∙ ap (λ (y : Traffic). withTraffic y (withHeld (r .held + length (all .sent)) (changed (advanced lent .run) all)))
+      (h ∙ paired-counted (all .sent) (held - r .held) (tick-paired lent (r .plan .n)) (omega (arith, g .number)) (r .traffic)))
       f (g .words)

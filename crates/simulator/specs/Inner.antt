@@ -20,7 +20,7 @@ use Rattle.types.specs.Quantities.{nMost, correct}
 use Rattle.base.specs.Scan.{some}
 use Rattle.types.specs.Traffic.{trafficDelivered}
 use Rattle.types.specs.Messages.{viewStage, voteStage, lacksForm}
-use Rattle.model.specs.State.{State, After, stateOf, runFrom, withHeld, withTraffic, clockOf, viewOf, isCorrect, enteredWord, added, posted, capacity, checkOf, refused, done}
+use Rattle.model.specs.State.{State, After, stateOf, runFrom, withRun, withNetwork, withHeld, withTraffic, clockOf, viewOf, isCorrect, enteredWord, added, posted, capacity, roomIn, checkOf, refused, done}
 use Rattle.model.specs.Moves.{Change, toCorrect, movedTo, formedMessages, heardChange, stay, entries, handling, advanced, arrival, arrivals, made}
 use Rattle.model.specs.Checks.{judged, planOutside, faultyOutside, unsound, clockOutside, atEnd, reachesEnd}
 use Rattle.model.specs.Events.{outcomeChecks, namedChecks, waitSince, tickOnce, Ticks, tickRun, applied}
@@ -139,7 +139,7 @@ TickMade s s' = s' ≡ made (advanced s) (arrivals (advanced s))
 -- what a tick that was done has left; a clock that enters may gain more than the tick
 pub record Went (s s' : State) : Type 0 where
   pub fit : Fit (s' .run)
-  pub room : s' .run .held ≤ capacity (s' .network)
+  pub room : s' .run .held ≤ roomIn s'
   pub time : s' .run .time ≡ s .run .time + 1
   pub clock : (p : ℕ) → isCorrect (s .run) p ≡ true → (isCorrect (s' .run) p ≡ true) × (clockOf (s .run) p + 1 ≤ clockOf (s' .run) p)
 
@@ -204,7 +204,7 @@ trafficWithout x m wait h i = cond (ltb i h) (trafficDelivered x m wait) x
 abbrev pub leaving : State → Message → ℕ → State
 leaving s m i =
     let x = trafficWithout (s .run .traffic) m (waitSince (s .run .time) (s .network) i) (s .run .held) i in
-    stateOf (withTraffic x (withHeld (heldWithout (s .run .held) i) (s .run))) (s .tally) (taken (s .network) (s .run .held) i)
+    withRun (withTraffic x (withHeld (heldWithout (s .run .held) i) (s .run))) (withNetwork (taken (s .network) (s .run .held) i) s)
 
 -- m, held at place i or not held, is handled
 abbrev pub handled : State → Message → ℕ → After
@@ -223,6 +223,6 @@ Admitted e s = (lacksForm e ≡ false) × (unsound s ≡ false)
 -- that doing the task is applying the event
 abbrev pub Tasks : Event → State → Task → Type 0
 Tasks e s (Refuse k) = refused s k ≡ applied e s
-Tasks e s (Finish x) = done (stateOf (runFrom x (s .run .clocks) (s .run .views)) (s .tally) (s .network)) ≡ applied e s
+Tasks e s (Finish x) = done (withRun (runFrom x (s .run .clocks) (s .run .views)) s) ≡ applied e s
 Tasks e s (Handle m i) = CanHandle s m × (handled s m i ≡ applied e s)
 Tasks e s (RunTicks m) = (0 < m) × (unsound s ≡ false) × (tickRun m s ≡ applied e s)

@@ -19,10 +19,10 @@ use Rattle.liveness.proofs.Judging.{or-none}
 use Rattle.liveness.proofs.Promises.{list-law, reachable-sound, refused-opening-stays}
 use Rattle.lines.specs.declared.Read.{Read}
 use Rattle.lines.specs.declared.Read.the-variants as Read
-use Rattle.lines.specs.declared.Reading.{Reading}
+use Rattle.lines.specs.Contracts.{Reading}
 use Rattle.lines.specs.Splitting.{Cut, inputLines, cutRead}
 use Rattle.reader.specs.Lines.{reading}
-use Rattle.printout.specs.Printout.{Standing, standingState, standingAfter, atStart, leaving, eventReply, openingReply, readReply, reply}
+use Rattle.printout.specs.Printout.{Standing, standingAfter, atStart, leaving, eventReply, openingReply, readReply, reply}
 use Rattle.stream.specs.History.{History, never, openedWith, eventHistory, openingHistory, readHistory, historyFrom, lastRun}
 use Rattle.stream.specs.Promises.{RunAfter, HistoryLeads, HistoryAdds}
 
@@ -38,19 +38,19 @@ event-history e (openedWith u before es) x l = rw (l .running) (record {
 })
 
 -- a refused opening changes nothing
-unopened-history : (h : History) (x : Standing) (s : State) (b : Bool) → b ≡ x .session .opened → s ≡ standingState x → HistoryLeads h x
+unopened-history : (h : History) (x : Standing) (s : State) (b : Bool) → b ≡ x .opened → s ≡ x .state → HistoryLeads h x
     → HistoryLeads h (leaving b s)
 unopened-history never x s b e q l = e ∙ l
 unopened-history (openedWith u before es) x s b e q l = record { running = e ∙ l .running; opens = l .opens; state = q ∙ l .state }
 
 opening-history : (u : Setup) (h : History) (x : Standing) → HistoryLeads h x → HistoryLeads (openingHistory u x h) (openingReply u x .standing)
 unfolding openingReply after
-opening-history u h x l = go (accepted (opening u (standingState x) .answer)) refl
+opening-history u h x l = go (accepted (opening u (x .state) .answer)) refl
   where
-    go : (b : Bool) → accepted (opening u (standingState x) .answer) ≡ b
-        → HistoryLeads (cond b (openedWith u (standingState x) []) h) (leaving (x .session .opened || b) (opening u (standingState x) .state))
-    go true q = record { running = or-second (x .session .opened) true refl; opens = rw q tt; state = refl }
-    go false q = unopened-history h x _ _ (or-none (x .session .opened) false (λ z. z)) (refused-opening-stays u (standingState x) q) l
+    go : (b : Bool) → accepted (opening u (x .state) .answer) ≡ b
+        → HistoryLeads (cond b (openedWith u (x .state) []) h) (leaving (x .opened || b) (opening u (x .state) .state))
+    go true q = record { running = or-second (x .opened) true refl; opens = rw q tt; state = refl }
+    go false q = unopened-history h x _ _ (or-none (x .opened) false (λ z. z)) (refused-opening-stays u (x .state) q) l
 
 read-history : (r : Read) (u : Setup) (h : History) (x : Standing) → HistoryLeads h x → HistoryLeads (readHistory r u x h) (readReply r u x .standing)
 read-history (Read.Event e) u h x l = event-history e h x l
@@ -70,13 +70,13 @@ input-history input = lines-history (inputLines input) never atStart refl
 -- ---- the report
 
 -- check 9 does not refuse it
-pub history-sound : (u : Setup) (before : State) (es : List Event) (x : Standing) → RunAfter u before es x → unsound (standingState x) ≡ false
+pub history-sound : (u : Setup) (before : State) (es : List Event) (x : Standing) → RunAfter u before es x → unsound (x .state) ≡ false
 history-sound u before es x l =
-    reachable-sound (standingState x) (record { setup = u; before = before; opens = l .opens; events = es; is = l .state })
+    reachable-sound (x .state) (record { setup = u; before = before; opens = l .opens; events = es; is = l .state })
 
 -- it is that of the events
 pub history-totals : (u : Setup) (before : State) (es : List Event) (x : Standing) → RunAfter u before es x
-    → totals (standingState x) ≡ historyTotals u before es
+    → totals (x .state) ≡ historyTotals u before es
 history-totals u before es x l =
     ap totals (l .state) ∙ report-is-history u before (l .opens) es
 

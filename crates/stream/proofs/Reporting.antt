@@ -18,7 +18,7 @@ use Rattle.lines.specs.Printout.{trafficText, totalsText, totalsMost}
 use Rattle.lines.specs.Splitting.{inputLines}
 use Rattle.lines.proofs.Putting.{put-none, put-prints}
 use Rattle.printout.specs.declared.Session.{Session}
-use Rattle.printout.specs.Printout.{Standing, standingOf, standingState, standingAfter, atStart}
+use Rattle.printout.specs.Printout.{Standing, standingOf, standingAfter, atStart}
 use Rattle.printout.specs.Traffic.{reportText, trafficPrintout}
 use Rattle.printout.proofs.Reporting.{reports-fed}
 use Rattle.stream.specs.History.{History, never, openedWith, lastRun, historyText}
@@ -27,11 +27,11 @@ use Rattle.stream.proofs.History.{input-history, history-sound, history
 
 -- ---- what is printed
 
-open-text : (x : Standing) → x .session .opened ≡ true → reportText x ≡ totalsText (totals (standingState x))
+open-text : (x : Standing) → x .opened ≡ true → reportText x ≡ totalsText (totals (x .state))
 unfolding reportText
 open-text x e = rw e
 
-closed-text : (x : Standing) → x .session .opened ≡ false → reportText x ≡ []
+closed-text : (x : Standing) → x .opened ≡ false → reportText x ≡ []
 unfolding reportText
 closed-text x e = rw e
 
@@ -46,7 +46,7 @@ reported s t ws out h x r after o e q p =
     subst (λ (text : List ℕ). Prints totalsMost text out r after) same p
 
 -- no run is open
-pub nothing-reported : (x : Standing) (out : List ℕ) → x .session .opened ≡ false → totalsMost ≤ length out → Prints totalsMost (reportText x) out (Bytes 0) out
+pub nothing-reported : (x : Standing) (out : List ℕ) → x .opened ≡ false → totalsMost ≤ length out → Prints totalsMost (reportText x) out (Bytes 0) out
 nothing-reported x out o h =
     subst (λ (text : List ℕ). Prints totalsMost text out (Bytes 0) out) (sym (closed-text x o)) (put-prints totalsMost [] out 0 out h (put-none out))
 
@@ -66,9 +66,9 @@ unfolding trafficPrintout
 reports-told input = go (lastRun input) (standingAfter atStart (inputLines input)) (input-history input)
   where
     go : (h : History) (x : Standing) → HistoryLeads h x
-        → reportText x ≡ cond (x .session .opened) (trafficText (x .session .run .traffic) (heldCounts (standingState x))) []
+        → reportText x ≡ cond (x .opened) (trafficText (x .state .run .traffic) (heldCounts (x .state))) []
     go never x l = closed-text x l ∙ rw l
-    go (openedWith u before es) x l = open-text x (l .running) ∙ told-sound (standingState x) (history-sound u before es x l) ∙ rw (l .running)
+    go (openedWith u before es) x l = open-text x (l .running) ∙ told-sound (x .state) (history-sound u before es x l) ∙ rw (l .running)
 
 pub reports-history : ReportsHistory
 unfolding trafficPrintout

@@ -12,7 +12,7 @@ use Rattle.lines.specs.declared.Read.the-variants as Read
 use Rattle.lines.specs.Printout.{totalsText}
 use Rattle.lines.specs.Splitting.{Cut, inputLines, cutRead}
 use Rattle.reader.specs.Lines.{reading}
-use Rattle.printout.specs.Printout.{Standing, standingState, atStart, reply}
+use Rattle.printout.specs.Printout.{Standing, atStart, reply}
 
 -- ---- the last run
 
@@ -28,7 +28,7 @@ eventHistory e (openedWith u before es) = openedWith u before (es ++ (e ∷ []))
 
 -- "A later accepted opening begins a new run in place of the old; a refused one leaves the old run going."
 abbrev pub openingHistory : Setup → Standing → History → History
-openingHistory u x h = cond (accepted (opening u (standingState x) .answer)) (openedWith u (standingState x) []) h
+openingHistory u x h = cond (accepted (opening u (x .state) .answer)) (openedWith u (x .state) []) h
 
 -- a line that is none of the forms changes nothing
 abbrev pub readHistory : Read → Setup → Standing → History → History

@@ -14,7 +14,7 @@ use Rattle.model.specs.Traffic.{heldCounts, historyTotals}
 use Rattle.liveness.specs.Traffic.{bothCounts}
 use Rattle.lines.specs.Printout.{trafficText}
 use Rattle.lines.specs.Splitting.{inputLines}
-use Rattle.printout.specs.Printout.{Standing, standingOf, standingState, standingAfter, atStart}
+use Rattle.printout.specs.Printout.{Standing, standingOf, standingAfter, atStart}
 use Rattle.printout.specs.Traffic.{reportText, trafficPrintout}
 use Rattle.stream.specs.declared.Progress.{Progress}
 use Rattle.stream.specs.Threads.{Reaches}
@@ -30,19 +30,19 @@ ReportsReached =
 abbrev pub ReportsTold : Type 0
 ReportsTold =
     (input : List ℕ) → let x = standingAfter atStart (inputLines input) in
-    trafficPrintout input ≡ cond (x .session .opened) (trafficText (x .session .run .traffic) (heldCounts (standingState x))) []
+    trafficPrintout input ≡ cond (x .opened) (trafficText (x .state .run .traffic) (heldCounts (x .state))) []
 
 -- ---- "The sums are those of the schedule's history: sent is delivered plus held, kind by kind"
 
 -- that a run is open, and is what an accepted opening and the events after it have left
 pub record RunAfter (u : Setup) (before : State) (es : List Event) (x : Standing) : Type 0 where
-  pub running : x .session .opened ≡ true
+  pub running : x .opened ≡ true
   pub opens : T (accepted (opening u before .answer))
-  pub state : standingState x ≡ after (opening u before .state) es
+  pub state : x .state ≡ after (opening u before .state) es
 
 -- that a history leads to the state x; without an accepted opening no run is open
 abbrev pub HistoryLeads : History → Standing → Type 0
-HistoryLeads never x = x .session .opened ≡ false
+HistoryLeads never x = x .opened ≡ false
 HistoryLeads (openedWith u before es) x = RunAfter u before es x
 
 -- that its report adds up

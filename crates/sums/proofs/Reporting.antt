@@ -5,10 +5,9 @@ use mathlib.Core.List.{List}
 use Prim.Native.Nat.{ℕ, _≤_, _<_}
 use native.Mathlib.Nat.{le-refl}
 use mir.Val.{boolByte}
-use lib.Dec.{eqb, leb, ltb, eqb→eq}
-use borrow.Author.Tests.{ltb-false, le-ltb}
+use lib.Dec.{eqb, leb, eqb→eq}
+use borrow.Author.Tests.{ltb-false}
 use Rattle.base.specs.Count.{bit}
-use Rattle.base.specs.Choice.{or-neither}
 use Rattle.base.specs.Tests.{fails, T-false}
 use Rattle.types.specs.declared.Plan.{Plan}
 use Rattle.types.specs.declared.Message.{Message}
@@ -18,12 +17,12 @@ use Rattle.types.specs.declared.Totals.{Totals}
 use Rattle.types.specs.Traffic.{countsOf, noCounts, noTraffic}
 use Rattle.types.specs.Messages.{kindOf, kindLeast, kindMost}
 use Rattle.types.specs.PlanFunctions.{clockTimeWord}
-use Rattle.model.specs.State.{State, kindAt, capacity}
-use Rattle.model.specs.Checks.{planOutside, limitsBroken, heldTooMany, atEnd, timeUnsound, unsound, unsoundForGood}
+use Rattle.model.specs.State.{State, Held, heldAt, capacity, roomIn}
+use Rattle.model.specs.Checks.{planOutside, limitsBroken, heldTooMany, atEnd, timeUnsound, unsound, unsoundForGood, kindOutside}
 use Rattle.model.specs.Traffic.{heldOfKind, totals}
 use Rattle.buffers.specs.declared.Stored.the-variants.{Holds, Unknown}
 use Rattle.buffers.specs.Kinds.{stored}
-use Rattle.buffers.specs.KindLaws.{kindOutside, stored-holds, stored-unknown}
+use Rattle.buffers.specs.KindLaws.{kind-inside, stored-holds, stored-unknown}
 use Rattle.liveness.proofs.Answers.{no-yes}
 use Rattle.liveness.proofs.Soundness.{SoundRun, good-of, unsound-parts}
 use Rattle.pacemaker.proofs.LimitLaws.{within, time-word}
@@ -31,14 +30,14 @@ use Rattle.checks.proofs.Nine.{plan-passes}
 
 -- ---- kinds
 
-pub kind-held : (ws : List ℕ) (i : ℕ) (m : Message) (k : ℕ) → stored ws i ≡ Holds m → eqb (kindOf m) k ≡ eqb (kindAt ws i) k
-kind-held ws i m k e = ap (λ (x : ℕ). eqb x k) (sym (stored-holds ws i m e .0))
+pub kind-held : (ws : List ℕ) (i : ℕ) (m : Message) (k : ℕ) → stored ws i ≡ Holds m → eqb (kindOf m) k ≡ eqb (heldAt ws i .kind) k
+kind-held ws i m k e = ap (λ (h : Held). eqb (h .kind) k) (sym (stored-holds ws i m e))
 
 -- words that are no message are of none of the kinds
-pub kind-none : (ws : List ℕ) (i k : ℕ) → i < capacity ws → kindLeast ≤ k → k ≤ kindMost → stored ws i ≡ Unknown → false ≡ eqb (kindAt ws i) k
+pub kind-none : (ws : List ℕ) (i k : ℕ) → i < capacity ws → kindLeast ≤ k → k ≤ kindMost → stored ws i ≡ Unknown → false ≡ eqb (heldAt ws i .kind) k
 kind-none ws i k l a b e =
-    let inside : kindOutside k ≡ false = or-neither (ltb k kindLeast) (ltb kindMost k) (le-ltb k kindLeast a) (le-ltb kindMost k b) in
-    sym (T-false (eqb (kindAt ws i) k) (λ t. no-yes (sym (stored-unknown ws i l e) ∙ ap kindOutside (eqb→eq (kindAt ws i) k t) ∙ inside)))
+    sym (T-false (eqb (heldAt ws i .kind) k)
+    (λ t. no-yes (sym (stored-unknown ws i l e) ∙ ap kindOutside (eqb→eq (heldAt ws i .kind) k t) ∙ kind-inside k (a, b))))
 
 -- a test that is counted as a number
 pub byte-bit : (b : Bool) → boolByte b ≡ bit b
@@ -62,7 +61,7 @@ module _ (s : State) (broken : Bool) (is : broken ≡ unsoundForGood s) where
   nine-is nine e = e ∙ ap (λ (b : Bool). b || timeUnsound s) is ∙ sym (unsound-parts s)
 
   -- no more messages than fit
-  pub held-fits : broken ≡ false → s .run .held ≤ capacity (s .network)
+  pub held-fits : broken ≡ false → s .run .held ≤ roomIn s
   held-fits e = ltb-false _ _ (T-false (heldTooMany s) (good-when e .room))
 
 -- ---- the report

@@ -13,7 +13,7 @@ ghost use lib.ListN.{replicate};
 ghost use Rattle.base.specs.Count.{count};
 ghost use Rattle.types.specs.Traffic.{countsMore, trafficSent, trafficDelivered};
 ghost use Rattle.types.specs.Messages.{kindLeast, kindMost};
-ghost use Rattle.model.specs.State.{stateOf, runFrom, kindAt, capacity};
+ghost use Rattle.model.specs.State.{stateOf, runFrom, heldAt, capacity};
 ghost use Rattle.model.specs.Checks.{unsound};
 ghost use Rattle.model.specs.Traffic.{totals};
 
@@ -90,7 +90,7 @@ pub fn deliver(traffic: Traffic, message: Message, wait: u64) -> Traffic
 // Whether message i is of that kind.
 fn is_kind(network: &[u64], i: usize, kind: u64) -> bool
     requires { ⌜ (i < capacity (now network)) × (kindLeast ≤ kind) × (kind ≤ kindMost) ⌝ }
-    ensures { λ r. ⌜ r ≡ eqb (kindAt (now (network .entry)) i) kind ⌝ }
+    ensures { λ r. ⌜ r ≡ eqb (heldAt (now (network .entry)) i .kind) kind ⌝ }
 {
     let stored = buffers::decode(network, i);
     match stored {
@@ -102,7 +102,7 @@ fn is_kind(network: &[u64], i: usize, kind: u64) -> bool
 // How many held messages are of that kind.
 fn count_kind(network: &[u64], held: usize, kind: u64) -> u64
     requires { ⌜ (held ≤ capacity (now network)) × (kindLeast ≤ kind) × (kind ≤ kindMost) ⌝ }
-    ensures { λ r. ⌜ r ≡ count held (λ i. eqb (kindAt (now (network .entry)) i) kind) ⌝ }
+    ensures { λ r. ⌜ r ≡ count held (λ i. eqb (heldAt (now (network .entry)) i .kind) kind) ⌝ }
 {
     let mut k = 0;
     let mut i = 0;

@@ -102,7 +102,7 @@ fn answer_whole(session: Session, line: &[u8], tally: &mut [u64], network: &mut 
     replied.session
 }
 
-// ---- read_line, open, apply, write_answer
+// ---- read_line, read_setup, open, apply, write_answer
 
 fn say_answer(answer: Answer) {
     let mut out = [0u8; driver::PRINTED_MOST];
@@ -158,8 +158,7 @@ fn apply(session: Session, event: Event, tally: &mut [u64], network: &mut [u64])
 
 // A line in parts: read, applied or opened, and its answer written.
 fn take_apart(session: Session, line: &[u8], tally: &mut [u64], network: &mut [u64]) -> Session {
-    let reading = reader::read_line(line);
-    let read = reading.read;
+    let read = reader::read_line(line);
     if let Read::Event(event) = read {
         return apply(session, event, tally, network);
     }
@@ -167,7 +166,7 @@ fn take_apart(session: Session, line: &[u8], tally: &mut [u64], network: &mut [u
         say_answer(Answer::Refused(1));
         return session;
     };
-    open(session, reading.setup, tally, network)
+    open(session, reader::read_setup(line), tally, network)
 }
 
 // ---- line by line

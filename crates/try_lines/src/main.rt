@@ -108,8 +108,7 @@ fn say_refused() {
 
 // The answer is an event, an opening, or anything else: check 1.
 fn tell_line(line: &[u8]) {
-    let reading = reader::read_line(line);
-    let read = reading.read;
+    let read = reader::read_line(line);
     let mut out = [0u8; LINE_BYTES];
     if let Read::Event(e) = read {
         say_event(e);
@@ -121,7 +120,7 @@ fn tell_line(line: &[u8]) {
         say_refused();
         return;
     };
-    let setup = reading.setup;
+    let setup = reader::read_setup(line);
     say_setup(setup);
     let answer = writer::write_setup(setup, &mut out);
     say_written(answer, &out, line);

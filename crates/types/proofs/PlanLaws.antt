@@ -1,4 +1,5 @@
--- Multiples of the views per leader, and the next of them above a view. What that number is only the first law knows. Assumes nothing.
+-- Multiples of the views per leader, and the next of them above a view; what the least slot gives. What the views per leader are only the first law
+-- knows. Assumes nothing.
 use mathlib.Core.Path.{_≡_, ap, _∙_}
 use mathlib.Core.Bool.{true}
 use Prim.Native.Nat.{ℕ, _+_, _*_, _/_, _%_, _≤_, _<_}
@@ -6,11 +7,15 @@ use native.Mathlib.Omega.{arith}
 use native.Mathlib.Nat.{add-mod-right, mul-mod-left, div-add-mod', mod-lt, zero-div, zero-mul, mul-le-mul-right, lt-of-mul-lt-mul-right}
 use borrow.Author.Tests.{eqb-true, eq-eqb}
 use Rattle.types.specs.declared.Plan.{Plan}
-use Rattle.types.specs.Quantities.{perLeader, turnStart, nextInitial}
+use Rattle.types.specs.Quantities.{gammaLeast, perLeader, turnStart, nextInitial}
 
 pub per-leader-positive : (p : Plan) → 0 < perLeader p
 unfolding perLeader
 per-leader-positive p = omega arith
+
+-- a slot is two delays or more
+pub gamma-twice : (p : Plan) → gammaLeast p ≤ p .gamma → 2 * p .delta ≤ p .gamma
+gamma-twice p l = l
 
 module _ (p : Plan) where
   abbrev k : ℕ

@@ -1,6 +1,6 @@
 -- What messages and events are: their kinds, what they name, and which have a form.
 use mathlib.Core.Bool.{Bool, true, false, not, cond}
-use Prim.Native.Nat.{ℕ}
+use Prim.Native.Nat.{ℕ, _≤_}
 use lib.Dec.{eqb, leb}
 use Rattle.types.specs.declared.Plan.{Plan}
 use Rattle.types.specs.declared.Message.{Message}
@@ -42,6 +42,10 @@ kindLeast = 1
 
 abbrev pub kindMost : ℕ
 kindMost = 4
+
+-- a number is the kind of a message
+abbrev pub IsKind : ℕ → Type 0
+IsKind k = (kindLeast ≤ k) × (k ≤ kindMost)
 
 -- the stage that a message belongs to
 abbrev pub stageOf : Message → Bool

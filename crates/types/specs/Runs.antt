@@ -1,9 +1,10 @@
--- A run and its parts: the head, which goes by value, and the two tables, which are lent beside it; and a setup of its parts.
+-- A run and its parts: the head, which goes by value, and the two tables, which are lent beside it; a setup of its parts; and a plan as numbers.
 use mathlib.Core.Path.{_≡_, refl, ap}
 use mathlib.Core.Bool.{Bool, true, false, cond}
-use mathlib.Core.List.{List}
+use mathlib.Core.List.{List, [], _∷_}
 use Prim.Native.Nat.{ℕ}
 use lib.Dec.{eqb}
+use lib.ListN.{getD}
 use Rattle.types.specs.declared.Head.{Head}
 use Rattle.types.specs.declared.Plan.{Plan}
 use Rattle.types.specs.declared.Run.{Run}
@@ -53,3 +54,10 @@ head-back r = ap (λ (b : Bool). record {
 
 abbrev pub setupWith : Plan → ℕ → List ℕ → Setup
 setupWith plan faulty clocks = record { plan = plan; faulty = faulty; clocks = clocks }
+
+-- "n Δ Γ V": the numbers of a plan, and the plan that the first numbers of a list are
+abbrev pub planNumbers : Plan → List ℕ
+planNumbers p = p .n ∷ p .delta ∷ p .gamma ∷ p .views ∷ []
+
+abbrev pub planIn : List ℕ → Plan
+planIn ns = record { n = getD ns 0 0; delta = getD ns 1 0; gamma = getD ns 2 0; views = getD ns 3 0 }

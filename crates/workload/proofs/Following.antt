@@ -2,7 +2,7 @@
 use mathlib.Core.Path.{_≡_, refl, sym, ap, _∙_, subst}
 use mathlib.Core.Bool.{Bool, true, false, _||_, cond}
 use mathlib.Core.Logic.{_≢_, inl, inr}
-use mathlib.Core.List.{List, [], _∷_, map}
+use mathlib.Core.List.{List, [], map}
 use Prim.Native.Nat.{ℕ, _-_, _≤_, _<_}
 use native.Mathlib.Omega.{arith}
 use lib.Dec.{T, eqb}
@@ -29,30 +29,19 @@ use Rattle.liveness.proofs.Opens.{planned}
 use Rattle.liveness.proofs.Soundness.{sound-of}
 use Rattle.liveness.proofs.Answers.{no-yes}
 use Rattle.liveness.proofs.Promises.{opened-so, opening-reaches, event-reaches, reachable-sound, opens-alike, answers-told, beyond-unread, opens-within}
-use Rattle.lines.specs.declared.Reading.{Reading}
 use Rattle.lines.specs.Forms.{eventForm, lineClocks, setupForm, setupFields, Below, EventLine, SetupLine, trimmed}
-use Rattle.lines.specs.Contracts.{noForm}
+use Rattle.lines.specs.Contracts.{Reading}
 use Rattle.lines.specs.Splitting.{Cut, ended, inputLines, cutRead}
-use Rattle.lines.specs.Promises.{Formed, AllFormed, scheduleOf, readingOf}
-use Rattle.lines.proofs.Schedules.{cuts-back}
+use Rattle.lines.specs.Promises.{Formed, AllFormed, scheduleOf}
 use Rattle.reader.specs.Lines.{reading}
-use Rattle.reader.proofs.RoundTrip.{reads-back}
-use Rattle.printout.specs.Printout.{Standing, standingState, leaving, Reply, refusedReply, ticksPrinted, printedAnswer, eventReply, openingReply, reply, lineAccepted}
+use Rattle.lines.proofs.Schedules.{cuts-back}
+use Rattle.reader.proofs.RoundTrip.{line-back}
+use Rattle.printout.specs.Printout.{Standing, leaving, Reply, refusedReply, ticksPrinted, printedAnswer, eventReply, openingReply, reply, lineAccepted}
 use Rattle.loads.specs.Loads.{Point, pointOf, Load, halted, lineThen, lineBytes, turned, loadFrom, turn}
 use Rattle.loads.proofs.Turns.{by-load, by-whole}
 use Rattle.loads.proofs.Choices.{turn-line}
 use Rattle.workload.proofs.Making.{setup-formed}
 use Rattle.workload.specs.Promises.{AllAccepted, standingAfter, LoadAccepted, StandsAt, LoadLeads}
-
--- ---- a line
-
-abbrev firstOf : List Reading → Reading
-firstOf [] = noForm
-firstOf (r ∷ rs) = r
-
--- as the whole of a schedule is
-line-read : (s : List ℕ) (f : Formed s) → cutRead reading (ended s) ≡ readingOf s f
-line-read s f = ap firstOf (sym (ap (map (cutRead reading)) (cuts-back (s ∷ []) (f, tt))) ∙ reads-back (s ∷ []) (f, tt))
 
 -- ---- an event
 
@@ -81,11 +70,11 @@ event-accepted e s = subst (λ (a : Answer). accepted a ≡ true → lineAccepte
     (from-accepted (checkOf (applied e s .answer)) (ticksOf (applied e s .answer)) (applied e s .state .run .held))
 
 -- what a reader with an open run makes of an accepted event
-replied : (e : Event) (y : Standing) → y .session .opened ≡ true → accepted (applied e (standingState y) .answer) ≡ true
-    → eventReply e y ≡ record { standing = leaving true (applied e (standingState y) .state); answer = applied e (standingState y) .answer }
+replied : (e : Event) (y : Standing) → y .opened ≡ true → accepted (applied e (y .state) .answer) ≡ true
+    → eventReply e y ≡ record { standing = leaving true (applied e (y .state) .state); answer = applied e (y .state) .answer }
 unfolding eventReply
 replied e y o a =
-    let s : After = applied e (standingState y) in
+    let s : After = applied e (y .state) in
     ap (λ (c : Bool). cond c (record { standing = leaving true (s .state); answer = printedAnswer e (s .state .run .held) (s .answer) }) (refusedReply 9 y)) o
     ∙ ap (λ (b : Answer). record { standing = leaving true (s .state); answer = b }) (printed-accepted e (s .state .run .held) (s .answer) a)
 
@@ -109,13 +98,13 @@ follows-turn : (settle : ℕ) (x : Point) → accepted (applied (turn settle x .
 follows-turn settle x a r y w l next =
     let e : Event = turn settle x .event in
     let k : EventLine (eventForm e) e = turn-line settle x (sound-of (x .state) (fails (unsound (x .state)) (reachable-sound (x .state) r))) in
-    let b = beyond-unread e (x .state) (standingState y) (w .state) in
-    let a' : accepted (applied e (standingState y) .answer) ≡ true = ap accepted (sym (b .0)) ∙ a in
+    let b = beyond-unread e (x .state) (y .state) (w .state) in
+    let a' : accepted (applied e (y .state) .answer) ≡ true = ap accepted (sym (b .0)) ∙ a in
     let q : reply (cutRead reading (ended (eventForm e))) y
-    ≡ record { standing = leaving true (applied e (standingState y) .state); answer = applied e (standingState y) .answer } =
-    ap (λ (v : Reading). reply v y) (line-read (eventForm e) (inl (e, k))) ∙ replied e y (w .opened) a' in
-    follows-more (eventForm e) y l (inl (e, k)) (ap (λ (v : Reply). lineAccepted (v .answer)) q ∙ event-accepted e (standingState y) a')
-    (subst (λ (v : Reply). Follows (v .standing) l) (sym q) (next (leaving true (applied e (standingState y) .state)) (record { opened = refl; state = b .1 })))
+    ≡ record { standing = leaving true (applied e (y .state) .state); answer = applied e (y .state) .answer } =
+    ap (λ (v : Reading). reply v y) (line-back (eventForm e) (inl (e, k))) ∙ replied e y (w .opened) a' in
+    follows-more (eventForm e) y l (inl (e, k)) (ap (λ (v : Reply). lineAccepted (v .answer)) q ∙ event-accepted e (y .state) a')
+    (subst (λ (v : Reply). Follows (v .standing) l) (sym q) (next (leaving true (applied e (y .state) .state)) (record { opened = refl; state = b .1 })))
 
 from-follows : (steps settle : ℕ) (x : Point) (room : ℕ) → Reachable (x .state) → (y : Standing) → StandsAt x y → Follows y (loadFrom settle (steps - x .step) x room)
 from-follows steps settle = by-load steps settle (λ x room l. Reachable (x .state) → (y : Standing) → StandsAt x y → Follows y l)
@@ -157,31 +146,31 @@ module _ (u : Setup) (before : State) (table : length (u .clocks) ≡ tableClock
         bytes = refl;
       }
 
-  module _ (x : Standing) (tally : length (x .tally) ≡ length (before .tally)) (network : length (x .network) ≡ length (before .network)) where
-    within : SameWithin (opening u before .state) (opening u (standingState x) .state)
-    within = opens-within u before (standingState x) (sym tally) (sym network) .1 a
+  module _ (x : Standing) (tally : length (x .state .tally) ≡ length (before .tally)) (network : length (x .state .network) ≡ length (before .network)) where
+    within : SameWithin (opening u before .state) (opening u (x .state) .state)
+    within = opens-within u before (x .state) (sym tally) (sym network) .1 a
 
-    accepts-there : accepted (opening u (standingState x) .answer) ≡ true
-    accepts-there = ap accepted (sym (opens-within u before (standingState x) (sym tally) (sym network) .0)) ∙ a
+    accepts-there : accepted (opening u (x .state) .answer) ≡ true
+    accepts-there = ap accepted (sym (opens-within u before (x .state) (sym tally) (sym network) .0)) ∙ a
 
     opened-there : reply (cutRead reading (ended (setupForm u))) x
-        ≡ record { standing = leaving true (opening u (standingState x) .state); answer = opening u (standingState x) .answer }
+        ≡ record { standing = leaving true (opening u (x .state) .state); answer = opening u (x .state) .answer }
     unfolding openingReply
     opened-there =
-        ap (λ (v : Reading). reply v x) (line-read (setupForm u) (inr (u, setup-line)))
-        ∙ ap (λ (v : After). record { standing = leaving (x .session .opened || accepted (v .answer)) (v .state); answer = v .answer })
-        (trimmed-opens u (standingState x) (omega (arith, plan-fits .n-most, table)))
-        ∙ ap (λ (o : Bool). record { standing = leaving o (opening u (standingState x) .state); answer = opening u (standingState x) .answer })
-        (or-second (x .session .opened) (accepted (opening u (standingState x) .answer)) accepts-there)
+        ap (λ (v : Reading). reply v x) (line-back (setupForm u) (inr (u, setup-line)))
+        ∙ ap (λ (v : After). record { standing = leaving (x .opened || accepted (v .answer)) (v .state); answer = v .answer })
+        (trimmed-opens u (x .state) (omega (arith, plan-fits .n-most, table)))
+        ∙ ap (λ (o : Bool). record { standing = leaving o (opening u (x .state) .state); answer = opening u (x .state) .answer })
+        (or-second (x .opened) (accepted (opening u (x .state) .answer)) accepts-there)
 
     whole-follows : (steps settle seed room : ℕ) → Follows x (lineThen (setupForm u) (loadFrom settle (steps - 0) (pointOf (opening u before .state) seed 0) room))
     whole-follows steps settle seed room =
         let y : Point = pointOf (opening u before .state) seed 0 in
         let l : Load = loadFrom settle (steps - 0) y room in
         follows-more (setupForm u) x l (inr (u, setup-line))
-        (ap (λ (v : Reply). lineAccepted (v .answer)) opened-there ∙ opening-accepted u (standingState x) accepts-there)
+        (ap (λ (v : Reply). lineAccepted (v .answer)) opened-there ∙ opening-accepted u (x .state) accepts-there)
         (subst (λ (v : Reply). Follows (v .standing) l) (sym opened-there)
-        (from-follows steps settle y room (opening-reaches u before reached) (leaving true (opening u (standingState x) .state))
+        (from-follows steps settle y room (opening-reaches u before reached) (leaving true (opening u (x .state) .state))
         (record { opened = refl; state = within })))
 
 -- ---- whole loads

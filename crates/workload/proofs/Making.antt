@@ -27,7 +27,7 @@ use Rattle.lines.specs.Forms.{setupForm, lacksSetupForm}
 use Rattle.lines.specs.Contracts.{line, Writes, Put}
 use Rattle.lines.specs.Promises.{scheduleOf}
 use Rattle.lines.proofs.Putting.{put-none, put-inside, put-part, left-over, put-written, never-refused, few-written}
-use Rattle.checks.specs.Setups.{setupCheck}
+use Rattle.checks.specs.Setups.{openingCheck}
 use Rattle.checks.proofs.Opens.{setup-check}
 use Rattle.loads.specs.Loads.{Point, pointOf, Load, halted, lineThen, lineBytes, loadFrom, furtherLoad, wholeLoad}
 use Rattle.loads.specs.Contracts.{PutLoad}
@@ -48,7 +48,7 @@ none-put l out x full e = subst (λ (m : Load). PutLoad m out x full 0 out) (sym
 
 -- ---- by the number of the first check of the opening
 
-module _ (u : Setup) (s : State) (check : ℕ) (is : check ≡ setupCheck u (length (s .tally)) (length (s .network))) where
+module _ (u : Setup) (s : State) (check : ℕ) (is : check ≡ openingCheck u s) where
   by-check : opening u s ≡ cond (eqb check 0) (done (opened u s)) (refused s check)
   unfolding opening
   by-check = setup-check u s (done (opened u s)) ∙ ap (λ (r : ℕ). cond (eqb r 0) (done (opened u s)) (refused s r)) (sym is)

@@ -24,7 +24,7 @@ use Rattle.liveness.proofs.Promises.{opening-reaches, reachable-sound, refused-
 use Rattle.lines.specs.Forms.{setupForm}
 use Rattle.loads.specs.Loads.{Point, pointOf, refusedOverdue, Load, lineBytes, loadFrom, turn}
 use Rattle.loads.proofs.Turns.{by-whole}
-use Rattle.loads.proofs.Choices.{Held, held, held-delivery, by-turn}
+use Rattle.loads.proofs.Choices.{Holding, held, held-delivery, by-turn}
 use Rattle.workload.proofs.Stages.{in-place-passes, Staged, staged-at, event-staged, opening-staged}
 use Rattle.workload.specs.Promises.{Ends, EndsWhole, LoadEnds, SubstitutesOverdue}
 use Rattle.workload.proofs.Endings.{no-room-more, from-ends}
@@ -99,7 +99,7 @@ in-time s is-sound o =
 
 pub turn-limits : (settle : ℕ) (x : Point) → unsound (x .state) ≡ false → Staged (x .state) → ByLimits (applied (turn settle x .event) (x .state))
 turn-limits settle x is-sound staged = by-turn (λ (e : Event). ByLimits (applied e s)) settle x
-    (λ i l. let h : Held s sound i = held s sound i l in
+    (λ i l. let h : Holding s sound i = held s sound i l in
     subst (λ (e : Event). ByLimits (applied e s)) (sym (held-delivery s sound i l))
     (delivery-limits s is-sound (h .message) i l (h .shows) (h .addressed)
     (in-place-passes (s .run .plan) (stageOf (h .message)) (viewIn (h .message)) (staged-at s staged (h .message) i l (h .shows)))))

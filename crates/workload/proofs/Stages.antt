@@ -25,9 +25,9 @@ use Rattle.model.specs.Checks.{notInitial, isAt, notHeld, overfull}
 use Rattle.model.specs.Opening.{blank, firstEntry, opened, openingChecks, opening}
 use Rattle.model.specs.Events.{without, delivering, signing, nowSettled, tickChecks, tickOnce, continued, ticks, tickRun, effect, applied}
 use Rattle.liveness.proofs.Judging.{Passes, Passed, by-judged, by-applied}
-use Rattle.liveness.proofs.Flight.{Sent, sentAs, stamped, found-at, found-in, rest, rest-in}
+use Rattle.liveness.proofs.Flight.{Sent, sentAs, stamped, found-in, rest, rest-in}
 use Rattle.liveness.proofs.Sending.{signature, in-stamped, elem-correct, At, entry-sent, each-got}
-use Rattle.liveness.proofs.Link.{Wire, wire-length, wire-posted, wire-removed, wire-found}
+use Rattle.liveness.proofs.Link.{Wire, wire-length, wire-found-at, wire-posted, wire-removed, wire-found}
 use Rattle.liveness.proofs.Opens.{opened-lengths, opened-tracked}
 use Rattle.liveness.proofs.Promises.{opened-so}
 
@@ -103,8 +103,7 @@ pub record Staged (s : State) : Type 0 where
 -- a message at a place within them
 pub staged-at : (s : State) → Staged s → (m : Message) (i : ℕ) → i < s .run .held → T (isAt (s .network) m i) → InPlace (s .run .plan) m
 staged-at s x m i l t =
-    let found = found-at (x .messages) (x .wire .spare) m i (omega (arith, x .wire .number)) (subst (λ (ws : List ℕ). T (isAt ws m i)) (x .wire .words) t) in
-    x .in-place (sentAs m (found .time)) (found-in found)
+    let found = wire-found-at (x .wire) m i l t in x .in-place (sentAs m (found .time)) (found-in found)
 
 made-staged : (s : State) (c : Change) → Staged s → AllInPlace (s .run .plan) (c .sent) → (T (overfull s c) → ⊥) → Staged (made s c)
 unfolding made

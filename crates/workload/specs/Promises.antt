@@ -21,7 +21,7 @@ use Rattle.lines.specs.Forms.{eventForm, setupForm, setupFields, Below}
 use Rattle.lines.specs.Splitting.{Cut, inputLines, cutRead}
 use Rattle.lines.specs.Promises.{scheduleOf}
 use Rattle.reader.specs.Lines.{reading}
-use Rattle.printout.specs.Printout.{Standing, standingState, reply, lineAccepted}
+use Rattle.printout.specs.Printout.{Standing, reply, lineAccepted}
 use Rattle.workload.specs.declared.Generated.{Generated}
 use Rattle.workload.specs.Contracts.{Generates}
 use Rattle.loads.specs.Loads.{Point, pointOf, refusedOverdue, Load, halted, followed, lineBytes, turn, furtherLoad, wholeLoad}
@@ -37,7 +37,7 @@ AllAccepted x (c ∷ cs) = let r = reply (cutRead reading c) x in (lineAccepted 
 abbrev pub OfLoads : (Standing → Load → Type 0) → Type 0
 OfLoads P =
     (u : Setup) (before : State) (steps settle seed room : ℕ) → length (u .clocks) ≡ tableClocks → Below (setupFields u)
-    → (x : Standing) → length (x .tally) ≡ length (before .tally) → length (x .network) ≡ length (before .network)
+    → (x : Standing) → length (x .state .tally) ≡ length (before .tally) → length (x .state .network) ≡ length (before .network)
     → P x (wholeLoad u before steps settle seed room)
 
 -- "Each line is accepted when read in turn with lent buffers as long."
@@ -46,8 +46,8 @@ LoadAccepted = OfLoads (λ x l. AllAccepted x (inputLines (scheduleOf (l .forms)
 
 -- a reader has a run open, and it is that of the load's point
 pub record StandsAt (x : Point) (y : Standing) : Type 0 where
-  pub opened : y .session .opened ≡ true
-  pub state : SameWithin (x .state) (standingState y)
+  pub opened : y .opened ≡ true
+  pub state : SameWithin (x .state) (y .state)
 
 -- a load that has a line leads its reader to where it ended
 abbrev pub LoadLeads : Type 0
@@ -64,7 +64,7 @@ GeneratedAccepted =
     (u : Setup) (before : State) (steps settle seed : ℕ) (out tally network : List ℕ) (r : Generated) (after : List ℕ)
     → Generates (checkOf (opening u before .answer)) (wholeLoad u before steps settle seed (length out)) out tally network r after
     → length (u .clocks) ≡ tableClocks → Below (setupFields u)
-    → (x : Standing) → length (x .tally) ≡ length (before .tally) → length (x .network) ≡ length (before .network)
+    → (x : Standing) → length (x .state .tally) ≡ length (before .tally) → length (x .state .network) ≡ length (before .network)
     → Replayed r tally network (take (r .bytes) after) x
 
 -- ---- what ends a load

@@ -1,4 +1,4 @@
--- The clocks of a setup: the first and the further ones, and those of the line. Assumes nothing.
+-- The clocks of a setup: the first and the further ones. Assumes nothing.
 use mathlib.Core.Path.{_≡_, sym, ap}
 use Prim.Native.Nat.{ℕ, _+_, _-_, _<_}
 use native.Mathlib.Omega.{arith}
@@ -16,7 +16,3 @@ clocks-cons (c ∷ cs) h = ap (λ (z : List ℕ). decimal c ++ furtherClocks z) 
 pub further-length : (cs : List ℕ) → 0 < length cs → length (furtherClocks cs) ≡ 1 + length (clocksForm cs)
 further-length [] h = absurd (omega arith)
 further-length (c ∷ cs) h = omega arith
-
--- where all that are lent are the line's
-pub line-whole : (n : ℕ) (cs : List ℕ) → length cs ≡ n → take n cs ≡ cs
-line-whole n cs e = take-all n cs (omega arith)

@@ -1,18 +1,15 @@
 -- How many bytes the forms have. Assumes nothing.
 use mathlib.Core.Path.{_≡_, refl}
-use Prim.Native.Nat.{ℕ, suc, _+_, _<_}
+use Prim.Native.Nat.{ℕ, suc, _+_}
 use native.Mathlib.Omega.{arith}
 use mathlib.Core.List.{List, [], _∷_}
-use lib.ListN.{length, take, length-append}
-use Rattle.types.specs.declared.Plan.{Plan}
+use lib.ListN.{length, length-append}
 use Rattle.types.specs.declared.Message.{Message}
 use Rattle.types.specs.declared.Event.the-variants.{Deliver, Sign, Show, Settle, Tick}
 use Rattle.types.specs.Messages.{viewIn, processorIn}
 use Rattle.lines.specs.Decimal.{decimal}
-use Rattle.lines.specs.Forms.{newline, kindWord, messageForm, eventForm, furtherClocks, clocksForm, setupForm}
+use Rattle.lines.specs.Forms.{newline, kindWord, messageForm, eventForm}
 use Rattle.lines.specs.Contracts.{line}
-use Rattle.types.specs.Runs.{setupWith}
-use Rattle.writer.proofs.Clocks.{further-length, line-whole}
 
 pub message-bytes : (m : Message) (k v p a b : ℕ) → k ≡ length (kindWord m) → v ≡ viewIn m → a ≡ length (decimal v) → p ≡ processorIn m → b ≡ length (decimal p)
     → k + a + b + 4 ≡ length (messageForm m)
@@ -38,15 +35,6 @@ settle-bytes = refl
 pub tick-bytes : (n k : ℕ) → k ≡ length (decimal n) → 7 + k ≡ length (eventForm (Tick n))
 unfolding eventForm
 tick-bytes n k h = simp length-append (omega arith)
-
-pub setup-bytes : (plan : Plan) (faulty : ℕ) (cs : List ℕ) (k n delta gamma views set : ℕ) → 0 < plan .n → length cs ≡ plan .n → k ≡ length (furtherClocks cs)
-    → n ≡ length (decimal (plan .n)) → delta ≡ length (decimal (plan .delta)) → gamma ≡ length (decimal (plan .gamma)) → views ≡ length (decimal (plan .views))
-    → set ≡ length (decimal faulty) → 13 + k + n + delta + gamma + views + set ≡ length (setupForm (setupWith plan faulty cs))
-unfolding setupForm
-setup-bytes plan faulty cs k n delta gamma views set p l hk hn hd hg hv hs =
-    let t : take (plan .n) cs ≡ cs = line-whole (plan .n) cs l in
-    let f : length (furtherClocks cs) ≡ 1 + length (clocksForm cs) = further-length cs (omega arith) in
-    simp length-append (rw t (omega arith))
 
 -- and with the newline
 pub line-bytes : (form : List ℕ) (j k : ℕ) → j + k ≡ length form → suc j + k ≡ length (line form)

@@ -2,6 +2,7 @@
 pub mod Stamping
 pub mod Digits
 pub mod Lengths
+pub mod Opening
 pub mod Writing
 pub mod Spacing
 pub mod Clocks

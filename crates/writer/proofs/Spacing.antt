@@ -14,7 +14,7 @@ use Rattle.writer.specs.Stamps.{Room, Stamped}
 use Rattle.writer.proofs.Stamping.{stamped-none, room-first, room-second, written-both}
 
 -- numbers, and what follows them
-joined-spaced : (l : List ℕ) (r : List (List ℕ)) → joined (spaced l ++ r) ≡ joined (spaced l) ++ joined r
+pub joined-spaced : (l : List ℕ) (r : List (List ℕ)) → joined (spaced l ++ r) ≡ joined (spaced l) ++ joined r
 joined-spaced [] r = refl
 joined-spaced (n ∷ l) r =
     ap (λ (z : List ℕ). oneBlank ++ (decimal n ++ z)) (joined-spaced l r) ∙ sym (ap (λ (z : List ℕ). oneBlank ++ z) (append-assoc (decimal n) (joined (spaced l)) (joined r)))

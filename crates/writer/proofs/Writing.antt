@@ -7,7 +7,6 @@ use native.Mathlib.Nat.{zero-add}
 use native.Mathlib.Omega.{arith}
 use mathlib.Core.List.{List, [], _∷_, _++_}
 use lib.ListN.{length, drop, length-append}
-use lib.Seq.{take-take}
 use lib.Dec.{eqb, ltb}
 use borrow.Author.Tests.{lt-ltb, le-ltb, eq-eqb, ne-eqb}
 use Rattle.base.specs.Choice.{or-first, or-second, or-neither, cond-yes, cond-no}
@@ -15,9 +14,9 @@ use Rattle.types.specs.declared.Setup.{Setup}
 use Rattle.types.specs.Quantities.{nMost}
 use Rattle.lines.specs.declared.Written.{Written}
 use Rattle.lines.specs.declared.Written.the-variants.{Bytes, Refused}
-use Rattle.lines.specs.Forms.{newline, lineClocks, setupForm, lacksSetupForm}
+use Rattle.lines.specs.Forms.{newline, openWord, clocksForm, lineClocks, openingForm, setForm, setupForm, lacksSetupForm}
 use Rattle.lines.specs.Contracts.{line, notWritten, writtenAs, writtenIn, Writes}
-use Rattle.types.specs.Runs.{setupWith}
+use Rattle.types.specs.Runs.{planNumbers}
 use Rattle.writer.specs.Stamps.{stamp, Room, Stamped}
 use Rattle.writer.proofs.Stamping.{room-first, room-second, written-both}
 
@@ -69,13 +68,9 @@ refused-none u d e = refused-form (lacksSetupForm u) (setupForm u) d (or-first _
 pub refused-many : (u : Setup) (d : List ℕ) → nMost < u .plan .n → Writes (lacksSetupForm u) (setupForm u) d (Refused 1) d
 refused-many u d h = refused-form (lacksSetupForm u) (setupForm u) d (or-second (eqb (u .plan .n) 0) _ (lt-ltb _ _ h))
 
--- the line's clocks are as good as the whole table
-form-of-line : (u : Setup) → setupForm (setupWith (u .plan) (u .faulty) (lineClocks u)) ≡ setupForm u
-unfolding setupForm
-form-of-line u = rw (take-take (u .plan .n) (u .plan .n) (u .clocks) (omega arith))
-
 pub written-setup : (u : Setup) (d : List ℕ) (r : Written) (e : List ℕ) → u .plan .n ≢ 0 → u .plan .n ≤ nMost
-    → Writes false (setupForm (setupWith (u .plan) (u .faulty) (lineClocks u))) d r e → Writes (lacksSetupForm u) (setupForm u) d r e
+    → Writes false (openingForm openWord (planNumbers (u .plan)) (setForm (u .faulty)) (clocksForm (lineClocks u))) d r e → Writes (lacksSetupForm u) (setupForm u) d r e
+unfolding setupForm
 written-setup u d r e some few x =
     let l : lacksSetupForm u ≡ false = or-neither (eqb (u .plan .n) 0) (ltb nMost (u .plan .n)) (ne-eqb _ _ some) (le-ltb _ _ few) in
-    subst (λ (b : Bool). Writes b (setupForm u) d r e) (sym l) (subst (λ (w : List ℕ). Writes false w d r e) (form-of-line u) x)
+    subst (λ (b : Bool). Writes b (setupForm u) d r e) (sym l) x

@@ -1,9 +1,8 @@
--- A setup in parts, as the writer's functions take it.
+-- An opening in parts, as the writer's functions take it.
+use mathlib.Core.List.{List, [], _∷_, _++_}
 use Prim.Native.Nat.{ℕ}
-use mathlib.Core.List.{List, [], _∷_}
-use Rattle.lines.specs.Decimal.{decimal}
-use Rattle.lines.specs.Forms.{oneBlank, openBracket, closeBracket, joined, clocksForm}
+use Rattle.lines.specs.Forms.{oneBlank, openBracket, joined, spaced}
 
--- what its form has behind the plan
-abbrev pub startForm : ℕ → List ℕ → List ℕ
-startForm faulty clocks = joined (oneBlank ∷ decimal faulty ∷ oneBlank ∷ openBracket ∷ clocksForm clocks ∷ closeBracket ∷ closeBracket ∷ [])
+-- what its form has before the numbers of its table
+abbrev pub frontForm : List ℕ → List ℕ → List ℕ → List ℕ
+frontForm w ns set = joined (openBracket ∷ w ∷ spaced ns ++ (set ∷ oneBlank ∷ openBracket ∷ []))

@@ -18,10 +18,9 @@ ghost use Prim.Native.Nat.{_≤_, _<_};
 ghost use lib.ListN.{length};
 ghost use Rattle.types.specs.Quantities.{nMost};
 ghost use Rattle.types.specs.Messages.{lacksForm};
-ghost use Rattle.lines.specs.Forms.{eventForm, setupForm, lacksSetupForm};
+ghost use Rattle.lines.specs.Forms.{clocksForm, openingForm, setForm, eventForm, setupForm, lacksSetupForm};
 ghost use Rattle.lines.specs.Printout.{answerForm, processorForm, totalsText, totalsMost};
 ghost use Rattle.lines.specs.Contracts.{line, Writes, Prints};
-ghost use Rattle.types.specs.Runs.{setupWith};
 
 // The most bytes of a report.
 pub const TOTALS_MOST: usize = 468;
@@ -56,16 +55,22 @@ pub fn event_bytes(event: Event) -> usize
     }
 }
 
-// The line of a setup that has a form, of which the clocks that are lent are those of the line.
-fn write_formed(plan: Plan, faulty: u64, clocks: &[u64], out: &mut [u8]) -> Written
-    requires { ⌜ (0 < plan .n) × (plan .n ≤ nMost) × (length (now clocks) ≡ plan .n) ⌝ }
-    ensures { λ r. ⌜ Writes false (setupForm (setupWith plan faulty (now (clocks .entry)))) (now (out .entry)) r (now (out .exit)) ⌝ }
+// The line of an opening, in its parts.
+fn write_opening(
+    word: &[u8],
+    numbers: &[u64],
+    faulty: u64,
+    clocks: &[u64],
+    out: &mut [u8],
+) -> Written
+    requires { ⌜ (length (now word) ≤ nMost) × (length (now numbers) ≤ nMost) × (0 < length (now clocks)) × (length (now clocks) ≤ nMost) ⌝ }
+    ensures { λ r. ⌜ Writes false (openingForm (now (word .entry)) (now (numbers .entry)) (setForm faulty) (clocksForm (now (clocks .entry)))) (now (out .entry)) r (now (out .exit)) ⌝ }
 {
-    let bytes = setups::setup_length(plan, faulty, clocks) + 1;
+    let bytes = setups::opening_length(word, numbers, faulty, clocks) + 1;
     if out.len() < bytes {
         return Written::Refused(1);
     }
-    let end = setups::put_setup(out, plan, faulty, clocks);
+    let end = setups::put_opening(out, word, numbers, faulty, clocks);
     pieces::put_byte(out, end, b'\n');
     Written::Bytes(bytes)
 }
@@ -81,9 +86,10 @@ pub fn write_setup(setup: Setup, out: &mut [u8]) -> Written
     if Plan::N_MOST < plan.n {
         return Written::Refused(1);
     }
+    let numbers = [plan.n, plan.delta, plan.gamma, plan.views];
     let table = setup.clocks;
     let n = plan.n as usize;
-    write_formed(plan, setup.faulty, &table[..n], out)
+    write_opening(b"open", &numbers, setup.faulty, &table[..n], out)
 }
 
 // The line of an answer.

@@ -1,16 +1,49 @@
-// The form of a setup: how many bytes it has, and its bytes written. The clocks that are lent are those of the line, one of each processor.
+// The form of an opening, in its parts: how many bytes it has, and its bytes written. The clocks that are lent are those of the line, one of each processor.
 use crate::numbers;
 use crate::pieces;
-use types::Plan;
 ghost use mathlib.Core.Path.{_≡_};
-ghost use Prim.Native.Nat.{_≤_, _<_};
+ghost use Prim.Native.Nat.{_*_, _≤_, _<_};
 ghost use lib.ListN.{length};
 ghost use Rattle.types.specs.Quantities.{nMost};
-ghost use Rattle.lines.specs.Forms.{setupForm, clocksForm};
+ghost use Rattle.lines.specs.Forms.{setForm, clocksForm, openingForm};
 ghost use Rattle.lines.specs.Splitting.{lineMost};
-ghost use Rattle.types.specs.Runs.{setupWith};
-ghost use Rattle.writer.specs.Setups.{startForm};
+ghost use Rattle.writer.specs.Setups.{frontForm};
 ghost use Rattle.writer.specs.Stamps.{Room, Stamped};
+
+// The bytes of the set.
+fn set_length(faulty: u64) -> usize
+    ensures { λ r. ⌜ (r ≡ length (setForm faulty)) × (r ≤ 21) ⌝ }
+{
+    1 + pieces::width(faulty)
+}
+
+// The set.
+fn put_set(out: &mut [u8], at: usize, faulty: u64) -> usize
+    requires { ⌜ Room (now out) at (setForm faulty) ⌝ }
+    ensures { λ r. ⌜ Stamped (now (out .entry)) at (setForm faulty) r (now (out .exit)) ⌝ }
+{
+    pieces::put_spaced(out, at, faulty)
+}
+
+// The bytes of what stands before the numbers of the table: beside word, numbers and set there are 3, a bracket and " (".
+fn front_length(word: &[u8], numbers: &[u64], faulty: u64) -> usize
+    requires { ⌜ (length (now word) ≤ nMost) × (length (now numbers) ≤ nMost) ⌝ }
+    ensures { λ r. ⌜ (r ≡ length (frontForm (now (word .entry)) (now (numbers .entry)) (setForm faulty))) × (r ≤ 23 * nMost) ⌝ }
+{
+    3 + word.len() + numbers::numbers_length(numbers) + set_length(faulty)
+}
+
+// What stands before the numbers of the table.
+fn put_front(out: &mut [u8], word: &[u8], numbers: &[u64], faulty: u64) -> usize
+    requires { ⌜ Room (now out) 0 (frontForm (now word) (now numbers) (setForm faulty)) ⌝ }
+    ensures { λ r. ⌜ Stamped (now (out .entry)) 0 (frontForm (now (word .entry)) (now (numbers .entry)) (setForm faulty)) r (now (out .exit)) ⌝ }
+{
+    let inner = pieces::put_byte(out, 0, b'(');
+    let first = pieces::put_word(out, inner, word);
+    let set = numbers::put_numbers(out, first, numbers);
+    let table = put_set(out, set, faulty);
+    pieces::put_word(out, table, b" (")
+}
 
 // Clocks with a blank between them.
 fn put_clocks(out: &mut [u8], at: usize, clocks: &[u64]) -> usize
@@ -21,40 +54,26 @@ fn put_clocks(out: &mut [u8], at: usize, clocks: &[u64]) -> usize
     numbers::put_numbers(out, end, &clocks[1..])
 }
 
-// The bytes of a setup's form: beside the numbers, and a blank or bracket before each clock, there are 13. These are the word and its bracket, a blank
-// before each number that is no clock, one before the clocks, and two brackets at the end.
-pub(crate) fn setup_length(plan: Plan, faulty: u64, clocks: &[u64]) -> usize
-    requires { ⌜ (0 < plan .n) × (plan .n ≤ nMost) × (length (now clocks) ≡ plan .n) ⌝ }
-    ensures { λ r. ⌜ (r ≡ length (setupForm (setupWith plan faulty (now (clocks .entry))))) × (r ≤ lineMost) ⌝ }
+// The bytes of an opening's form: the clocks have a blank before each but the first, and two brackets stand at the end.
+pub(crate) fn opening_length(word: &[u8], numbers: &[u64], faulty: u64, clocks: &[u64]) -> usize
+    requires { ⌜ (length (now word) ≤ nMost) × (length (now numbers) ≤ nMost) × (0 < length (now clocks)) × (length (now clocks) ≤ nMost) ⌝ }
+    ensures { λ r. ⌜ (r ≡ length (openingForm (now (word .entry)) (now (numbers .entry)) (setForm faulty) (clocksForm (now (clocks .entry))))) × (r ≤ lineMost) ⌝ }
 {
-    let mut bytes = 13 + numbers::numbers_length(clocks);
-    bytes += pieces::width(plan.n);
-    bytes += pieces::width(plan.delta);
-    bytes += pieces::width(plan.gamma);
-    bytes += pieces::width(plan.views);
-    bytes + pieces::width(faulty)
+    front_length(word, numbers, faulty) + numbers::numbers_length(clocks) + 1
 }
 
-// What stands behind the plan: the faulty set, the clocks in their brackets and the last bracket.
-fn put_start(out: &mut [u8], at: usize, faulty: u64, clocks: &[u64]) -> usize
-    requires { ⌜ (0 < length (now clocks)) × Room (now out) at (startForm faulty (now clocks)) ⌝ }
-    ensures { λ r. ⌜ Stamped (now (out .entry)) at (startForm faulty (now (clocks .entry))) r (now (out .exit)) ⌝ }
+// An opening's form, from the first byte on.
+pub(crate) fn put_opening(
+    out: &mut [u8],
+    word: &[u8],
+    numbers: &[u64],
+    faulty: u64,
+    clocks: &[u64],
+) -> usize
+    requires { ⌜ (0 < length (now clocks)) × Room (now out) 0 (openingForm (now word) (now numbers) (setForm faulty) (clocksForm (now clocks))) ⌝ }
+    ensures { λ r. ⌜ Stamped (now (out .entry)) 0 (openingForm (now (word .entry)) (now (numbers .entry)) (setForm faulty) (clocksForm (now (clocks .entry)))) r (now (out .exit)) ⌝ }
 {
-    let bracket = pieces::put_spaced(out, at, faulty);
-    let first = pieces::put_word(out, bracket, b" (");
+    let first = put_front(out, word, numbers, faulty);
     let end = put_clocks(out, first, clocks);
     pieces::put_word(out, end, b"))")
-}
-
-// A setup's form, from the first byte on.
-pub(crate) fn put_setup(out: &mut [u8], plan: Plan, faulty: u64, clocks: &[u64]) -> usize
-    requires { ⌜ (0 < plan .n) × (length (now clocks) ≡ plan .n) × Room (now out) 0 (setupForm (setupWith plan faulty (now clocks))) ⌝ }
-    ensures { λ r. ⌜ Stamped (now (out .entry)) 0 (setupForm (setupWith plan faulty (now (clocks .entry)))) r (now (out .exit)) ⌝ }
-{
-    let n = pieces::put_word(out, 0, b"(open");
-    let delta = pieces::put_spaced(out, n, plan.n);
-    let gamma = pieces::put_spaced(out, delta, plan.delta);
-    let views = pieces::put_spaced(out, gamma, plan.gamma);
-    let start = pieces::put_spaced(out, views, plan.views);
-    put_start(out, start, faulty, clocks)
 }

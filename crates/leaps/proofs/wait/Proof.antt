@@ -12,7 +12,7 @@ wait-for-all-requires : tie.Need-wait-for-all-requires
 wait-for-all-requires c κs = search needs
 
 returns : tie.Need-returns
-returns c = λ k v t. waits-settled (stateOf (runFrom (c .before .before .before .before .args .head) k v) t (c .before .before .before .before .args .network .now)) (c .before .before .before .before .args .most) _ (eq-eqb _ _ (c .before .if1 .taken)) (c .wait-for-all .ensures)
+returns c = λ k v t. waits-settled (runFrom (c .before .before .before .before .args .head) k v) t (c .before .before .before .before .args .network .now) (c .before .before .before .before .args .most) _ (eq-eqb _ _ (c .before .if1 .taken)) (c .wait-for-all .ensures)
 
 returns-2 : tie.Need-returns-2
 returns-2 c = λ k v t. waits-unsettled (stateOf (runFrom (c .before .before .before .args .head) k v) t (c .before .before .before .args .network .now)) (c .before .before .before .args .most) (ne-eqb _ _ (c .if1 .left))

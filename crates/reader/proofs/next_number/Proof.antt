@@ -1,4 +1,4 @@
-use Rattle.reader.specs.Lines.{nextNumberAt}
+use Rattle.reader.specs.Scan.{nextNumberAt}
 use mathlib.Core.Path.{sym, _∙_}
 use borrow.Author.Needs.{needs}
 use Rattle.reader.proofs.next_number.Statement.{statement}

@@ -4,11 +4,10 @@ use Rattle.reader.proofs.read_inside.Statement.{statement}
 use Rattle.reader.proofs.read_inside.Tie as tie
 use Rattle.reader.proofs.read_inside.Reads as reads
 use Rattle.reader.proofs.read_inside.Lts as lts
-use Rattle.reader.proofs.after_blank.Reads as after-blank-reads
 use Rattle.reader.proofs.after_close_bracket.Reads as after-close-bracket-reads
 use Rattle.reader.proofs.make.Reads as make-reads
+use Rattle.reader.proofs.next_number.Reads as next-number-reads
 use Rattle.reader.proofs.read_kind.Reads as read-kind-reads
-use Rattle.reader.proofs.read_number.Reads as read-number-reads
 
 read-kind-requires : tie.Need-read-kind-requires
 read-kind-requires c κs = search needs
@@ -22,75 +21,29 @@ enum-told c = search needs
 returns : tie.Need-returns
 returns c = rw (sym (c .before .before .read-kind .ensures) ∙ c .enum-told .given .1)
 
-after-blank-requires : tie.Need-after-blank-requires
-after-blank-requires c κs = search needs
+next-number-requires : tie.Need-next-number-requires
+next-number-requires c κs = search needs
 
-enum-known-b : tie.Need-enum-known-b
-enum-known-b c = search needs
+enum-known-w : tie.Need-enum-known-w
+enum-known-w c = search needs
 
 enum-told-2 : tie.Need-enum-told-2
 enum-told-2 c = search needs
 
 returns-2 : tie.Need-returns-2
-returns-2 c =
-    rw (
-      sym (c .before .before .before .before .before .before .read-kind .ensures) ∙ c .before .before .before .before .kind .given .1,
-      sym (c .before .before .after-blank .ensures) ∙ c .enum-told2 .given .1,
-    )
+returns-2 c = rw (sym (c .before .before .before .before .before .before .read-kind .ensures) ∙ c .before .before .before .before .kind .given .1, sym (c .before .before .next-number .ensures) ∙ c .enum-told2 .given .1)
 
-read-number-requires : tie.Need-read-number-requires
-read-number-requires c κs = search needs
+next-number-requires-2 : tie.Need-next-number-requires-2
+next-number-requires-2 c κs = search needs
 
-enum-known-w : tie.Need-enum-known-w
-enum-known-w c = search needs
+enum-known-p : tie.Need-enum-known-p
+enum-known-p c = search needs
 
 enum-told-3 : tie.Need-enum-told-3
 enum-told-3 c = search needs
 
 returns-3 : tie.Need-returns-3
-returns-3 c =
-    rw (
-      sym (c .before .before .before .before .before .before .before .before .before .before .read-kind .ensures) ∙ c .before .before .before .before .before .before .before .before .kind .given .1,
-      sym (c .before .before .before .before .before .before .after-blank .ensures) ∙ c .before .before .before .before .b .given .1,
-      sym (c .before .before .read-number .ensures) ∙ c .enum-told3 .given .1,
-    )
-
-after-blank-requires-2 : tie.Need-after-blank-requires-2
-after-blank-requires-2 c κs = search needs
-
-enum-known-d : tie.Need-enum-known-d
-enum-known-d c = search needs
-
-enum-told-4 : tie.Need-enum-told-4
-enum-told-4 c = search needs
-
-returns-4 : tie.Need-returns-4
-returns-4 c =
-    rw (
-      sym (c .before .before .before .before .before .before .before .before .before .before .before .before .before .before .read-kind .ensures) ∙ c .before .before .before .before .before .before .before .before .before .before .before .before .kind .given .1,
-      sym (c .before .before .before .before .before .before .before .before .before .before .after-blank .ensures) ∙ c .before .before .before .before .before .before .before .before .b .given .1,
-      sym (c .before .before .before .before .before .before .read-number .ensures) ∙ c .before .before .before .before .w .given .1,
-      sym (c .before .before .after-blank2 .ensures) ∙ c .enum-told4 .given .1,
-    )
-
-read-number-requires-2 : tie.Need-read-number-requires-2
-read-number-requires-2 c κs = search needs
-
-enum-known-p : tie.Need-enum-known-p
-enum-known-p c = search needs
-
-enum-told-5 : tie.Need-enum-told-5
-enum-told-5 c = search needs
-
-returns-5 : tie.Need-returns-5
-returns-5 c =
-    rw (
-      sym (c .before .before .before .before .before .before .before .before .before .before .before .before .before .before .before .before .before .before .read-kind .ensures) ∙ c .before .before .before .before .before .before .before .before .before .before .before .before .before .before .before .before .kind .given .1,
-      sym (c .before .before .before .before .before .before .before .before .before .before .before .before .before .before .after-blank .ensures) ∙ c .before .before .before .before .before .before .before .before .before .before .before .before .b .given .1,
-      sym (c .before .before .before .before .before .before .before .before .before .before .read-number .ensures) ∙ c .before .before .before .before .before .before .before .before .w .given .1,
-      sym (c .before .before .before .before .before .before .after-blank2 .ensures) ∙ c .before .before .before .before .d .given .1,
-      sym (c .before .before .read-number2 .ensures) ∙ c .enum-told5 .given .1,
-    )
+returns-3 c = rw (sym (c .before .before .before .before .before .before .before .before .before .before .read-kind .ensures) ∙ c .before .before .before .before .before .before .before .before .kind .given .1, sym (c .before .before .before .before .before .before .next-number .ensures) ∙ c .before .before .before .before .w .given .1, sym (c .before .before .next-number2 .ensures) ∙ c .enum-told3 .given .1)
 
 after-close-bracket-requires : tie.Need-after-close-bracket-requires
 after-close-bracket-requires c κs = search needs
@@ -98,34 +51,17 @@ after-close-bracket-requires c κs = search needs
 enum-known-k : tie.Need-enum-known-k
 enum-known-k c = search needs
 
-enum-told-6 : tie.Need-enum-told-6
-enum-told-6 c = search needs
+enum-told-4 : tie.Need-enum-told-4
+enum-told-4 c = search needs
 
-returns-6 : tie.Need-returns-6
-returns-6 c =
-    rw (
-      sym (c .before .before .before .before .before .before .before .before .before .before .before .before .before .before .before .before .before .before .before .before .before .before .read-kind .ensures) ∙ c .before .before .before .before .before .before .before .before .before .before .before .before .before .before .before .before .before .before .before .before .kind .given .1,
-      sym (c .before .before .before .before .before .before .before .before .before .before .before .before .before .before .before .before .before .before .after-blank .ensures) ∙ c .before .before .before .before .before .before .before .before .before .before .before .before .before .before .before .before .b .given .1,
-      sym (c .before .before .before .before .before .before .before .before .before .before .before .before .before .before .read-number .ensures) ∙ c .before .before .before .before .before .before .before .before .before .before .before .before .w .given .1,
-      sym (c .before .before .before .before .before .before .before .before .before .before .after-blank2 .ensures) ∙ c .before .before .before .before .before .before .before .before .d .given .1,
-      sym (c .before .before .before .before .before .before .read-number2 .ensures) ∙ c .before .before .before .before .p .given .1,
-      sym (c .before .before .after-close-bracket .ensures) ∙ c .enum-told6 .given .1,
-    )
+returns-4 : tie.Need-returns-4
+returns-4 c = rw (sym (c .before .before .before .before .before .before .before .before .before .before .before .before .before .before .read-kind .ensures) ∙ c .before .before .before .before .before .before .before .before .before .before .before .before .kind .given .1, sym (c .before .before .before .before .before .before .before .before .before .before .next-number .ensures) ∙ c .before .before .before .before .before .before .before .before .w .given .1, sym (c .before .before .before .before .before .before .next-number2 .ensures) ∙ c .before .before .before .before .p .given .1, sym (c .before .before .after-close-bracket .ensures) ∙ c .enum-told4 .given .1)
 
 make-requires : tie.Need-make-requires
 make-requires c κs = search needs
 
-returns-7 : tie.Need-returns-7
-returns-7 c =
-    rw (
-      sym (c .before .before .before .before .before .before .before .before .before .before .before .before .before .before .before .before .before .before .before .before .before .before .before .before .read-kind .ensures) ∙ c .before .before .before .before .before .before .before .before .before .before .before .before .before .before .before .before .before .before .before .before .before .before .kind .given .1,
-      sym (c .before .before .before .before .before .before .before .before .before .before .before .before .before .before .before .before .before .before .before .before .after-blank .ensures) ∙ c .before .before .before .before .before .before .before .before .before .before .before .before .before .before .before .before .before .before .b .given .1,
-      sym (c .before .before .before .before .before .before .before .before .before .before .before .before .before .before .before .before .read-number .ensures) ∙ c .before .before .before .before .before .before .before .before .before .before .before .before .before .before .w .given .1,
-      sym (c .before .before .before .before .before .before .before .before .before .before .before .before .after-blank2 .ensures) ∙ c .before .before .before .before .before .before .before .before .before .before .d .given .1,
-      sym (c .before .before .before .before .before .before .before .before .read-number2 .ensures) ∙ c .before .before .before .before .before .before .p .given .1,
-      sym (c .before .before .before .before .after-close-bracket .ensures) ∙ c .before .before .k .given .1,
-      c .make .ensures,
-    )
+returns-5 : tie.Need-returns-5
+returns-5 c = rw (sym (c .before .before .before .before .before .before .before .before .before .before .before .before .before .before .before .before .read-kind .ensures) ∙ c .before .before .before .before .before .before .before .before .before .before .before .before .before .before .kind .given .1, sym (c .before .before .before .before .before .before .before .before .before .before .before .before .next-number .ensures) ∙ c .before .before .before .before .before .before .before .before .before .before .w .given .1, sym (c .before .before .before .before .before .before .before .before .next-number2 .ensures) ∙ c .before .before .before .before .before .before .p .given .1, sym (c .before .before .before .before .after-close-bracket .ensures) ∙ c .before .before .k .given .1, c .make .ensures)
 
 pub read-inside-spec : {M : Type 1} → statement M
 read-inside-spec =
@@ -135,25 +71,17 @@ read-inside-spec =
     enum-known-kind
     enum-told
     returns
-    after-blank-requires
-    enum-known-b
+    next-number-requires
+    enum-known-w
     enum-told-2
     returns-2
-    read-number-requires
-    enum-known-w
+    next-number-requires-2
+    enum-known-p
     enum-told-3
     returns-3
-    after-blank-requires-2
-    enum-known-d
-    enum-told-4
-    returns-4
-    read-number-requires-2
-    enum-known-p
-    enum-told-5
-    returns-5
     after-close-bracket-requires
     enum-known-k
-    enum-told-6
-    returns-6
+    enum-told-4
+    returns-4
     make-requires
-    returns-7)
+    returns-5)

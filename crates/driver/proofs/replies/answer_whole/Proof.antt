@@ -7,17 +7,21 @@ use Rattle.driver.proofs.replies.answer_whole.Lts as lts
 use Rattle.driver.proofs.batches.numbers_read.Reads as numbers-read-reads
 use Rattle.driver.proofs.replies.answer_batch.Reads as answer-batch-reads
 use Rattle.driver.proofs.replies.answer_opening.Reads as answer-opening-reads
-use Rattle.reader.proofs.read_line.Reads as read-line-reads
+use Rattle.reader.proofs.read_setup.Reads as read-setup-reads
+use Rattle.reader.proofs.skim_line.Reads as skim-line-reads
 use Rattle.words.proofs.put_numbers.Reads as put-numbers-reads
 
 add-used : tie.Need-add-used
 add-used c = search needs
 
-read-line-requires : tie.Need-read-line-requires
-read-line-requires c κs = search needs
+skim-line-requires : tie.Need-skim-line-requires
+skim-line-requires c κs = search needs
 
 enum-told : tie.Need-enum-told
 enum-told c = search needs
+
+read-setup-requires : tie.Need-read-setup-requires
+read-setup-requires c κs = search needs
 
 answer-opening-requires : tie.Need-answer-opening-requires
 answer-opening-requires c κs = search needs
@@ -32,7 +36,7 @@ same-length-3 : tie.Need-same-length-3
 same-length-3 c = search needs
 
 returns : tie.Need-returns
-returns c = line-opened _ _ _ _ _ _ _ _ _ (c .before .before .before .before .before .before .before .before .before .before .before .before .before .before .before .read-line .ensures .0) (c .before .before .before .before .before .before .before .before .before .before .before .before .before .enum-told .given .1) (c .before .before .before .before .before .before .answer-opening .ensures)
+returns c = line-opened _ _ _ _ _ _ _ _ _ _ (c .before .before .before .before .before .before .before .before .before .before .before .before .before .before .before .skim-line .ensures) (c .before .before .before .before .before .before .before .before .before .before .before .before .before .enum-told .given .1) (c .before .before .before .before .before .before .before .before .before .before .before .before .read-setup .ensures .0) (c .before .before .before .before .before .before .answer-opening .ensures)
 
 slice-aggregate-put-numbers : tie.Need-slice-aggregate-put-numbers
 slice-aggregate-put-numbers c = search needs
@@ -59,15 +63,16 @@ same-length-6 : tie.Need-same-length-6
 same-length-6 c = search needs
 
 returns-2 : tie.Need-returns-2
-returns-2 c = line-batched _ _ _ _ _ _ _ _ _ _ _ _ (c .before .before .before .before .before .before .before .before .before .before .before .before .before .before .before .before .before .before .before .read-line .ensures .0) (c .before .before .before .before .before .before .before .before .before .before .before .before .before .before .before .before .before .before .match .keys2) (c .before .before .before .before .before .before .before .before .before .before .before .before .before .before .before .before .numbers-read .ensures) (c .before .before .before .before .before .before .before .before .before .before .before .before .before .before .before .put-numbers .ensures) (c .before .before .before .before .before .before .before .answer-batch .ensures)
+returns-2 c = line-batched _ _ _ _ _ _ _ _ _ _ _ _ (c .before .before .before .before .before .before .before .before .before .before .before .before .before .before .before .before .before .before .before .skim-line .ensures) (c .before .before .before .before .before .before .before .before .before .before .before .before .before .before .before .before .before .before .match .keys2) (c .before .before .before .before .before .before .before .before .before .before .before .before .before .before .before .before .numbers-read .ensures) (c .before .before .before .before .before .before .before .before .before .before .before .before .before .before .before .put-numbers .ensures) (c .before .before .before .before .before .before .before .answer-batch .ensures)
 
 pub answer-whole-spec : {M : Type 1} → statement M
 answer-whole-spec =
     tie.close
     (tie.spec
     add-used
-    read-line-requires
+    skim-line-requires
     enum-told
+    read-setup-requires
     answer-opening-requires
     same-length
     same-length-2

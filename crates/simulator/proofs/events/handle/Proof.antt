@@ -45,7 +45,7 @@ outcome-check-requires : tie.Need-outcome-check-requires
 outcome-check-requires c κs =
     let s : State = stateOf (runFrom (c .before .before .before .before .before .before .before .before .before .args .head) (c .before .before .before .before .before .before .before .before .before .args .clocks .now) (c .before .before .before .before .before .before .before .before .before .args .views .now)) (c .before .before .before .before .before .before .before .before .before .args .tally .now) (c .before .before .before .before .before .before .before .before .before .args .network .now) in
     let f = fit-of s (c .before .before .before .before .before .before .before .before .before .pre .sound) in
-    let l = room-left s (c .before .before .before .before .before .before .before .before .before .args .message) (c .before .before .before .before .before .before .before .before .before .args .place) (room-of s (c .before .before .before .before .before .before .before .before .before .pre .sound)) .1 in
+    let l = room-left (s .run) (s .tally) (s .network) (c .before .before .before .before .before .before .before .before .before .args .message) (c .before .before .before .before .before .before .before .before .before .args .place) (room-of s (c .before .before .before .before .before .before .before .before .before .pre .sound)) .1 in
     rw (c .before .before .before .before .before .before .head-without .ensures) (f .plan, f .faulty, omega (arith, c .capacity .ensures, room-of s (c .before .before .before .before .before .before .before .before .before .pre .sound), l), omega (arith, c .capacity .ensures, c .before .before .before .before .before .before .before .before .before .good))
 
 refuse-requires : tie.Need-refuse-requires
@@ -79,7 +79,7 @@ perform-requires c κs =
     let k : ℕ = next .held + length (sentFor (next .plan) (next .faulty) (c .before .before .before .before .before .before .before .before .before .before .before .before .before .before .before .before .before .before .before .before .before .args .message) (c .before .before .before .before .before .before .before .before .before .before .before .before .before .before .decide .result)) in
     let p = outcome-passed (c .before .before .before .before .before .before .before .before .before .before .before .before .before .before .decide .result .ends) (ltb (c .before .before .before .before .before .before .before .before .before .before .before .before .capacity .result) k) (sym (c .before .before .before .before .before .before .before .before .before .before .before .outcome-check .ensures) ∙ z) in
     let fits : k ≤ c .before .before .before .before .before .before .before .before .before .before .before .before .capacity .result = ltb-false (c .before .before .before .before .before .before .before .before .before .before .before .before .capacity .result) k (p .1) in
-    let as-much = ap capacity (c .before .before .before .before .before .before .remove .ensures) ∙ room-left s (c .before .before .before .before .before .before .before .before .before .before .before .before .before .before .before .before .before .before .before .before .before .args .message) (c .before .before .before .before .before .before .before .before .before .before .before .before .before .before .before .before .before .before .before .before .before .args .place) (room-of s (c .before .before .before .before .before .before .before .before .before .before .before .before .before .before .before .before .before .before .before .before .before .pre .sound)) .0 in (
+    let as-much = ap capacity (c .before .before .before .before .before .before .remove .ensures) ∙ room-left (s .run) (s .tally) (s .network) (c .before .before .before .before .before .before .before .before .before .before .before .before .before .before .before .before .before .before .before .before .before .args .message) (c .before .before .before .before .before .before .before .before .before .before .before .before .before .before .before .before .before .before .before .before .before .args .place) (room-of s (c .before .before .before .before .before .before .before .before .before .before .before .before .before .before .before .before .before .before .before .before .before .pre .sound)) .0 in (
       rw (c .before .before .before .before .before .before .before .before .before .before .before .before .before .before .before .before .before .before .head-without .ensures) (omega (arith, within (c .before .before .before .before .before .before .before .before .before .before .before .before .before .before .before .before .before .before .before .before .before .args .head .plan) (f .plan) .n-least)),
       named-place (c .before .before .before .before .before .before .before .before .before .before .before .before .before .before .before .before .before .before .before .before .before .args .head .plan) (c .before .before .before .before .before .before .before .before .before .before .before .before .before .before .before .before .before .before .before .before .before .args .message) (c .before .before .before .before .before .before .before .before .before .before .before .before .before .before .before .before .before .before .before .before .before .args .message) 64 (f .plan) refl (c .before .before .before .before .before .before .before .before .before .before .before .before .before .before .before .before .before .before .before .before .before .pre .named) refl,
       omega (arith, c .before .before .before .before .before .before .before .before .before .before .before .before .capacity .ensures, fits, as-much),

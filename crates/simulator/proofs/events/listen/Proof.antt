@@ -2,7 +2,7 @@ use Prim.Native.Nat.{_-_}
 use borrow.Author.Needs.{needs}
 use mathlib.Core.Path.{sym, _∙_}
 use native.Mathlib.Omega.{arith}
-use Rattle.model.specs.State.{stateOf, runFrom}
+use Rattle.model.specs.State.{runFrom}
 use Rattle.model.specs.Moves.{heardChange}
 use Rattle.simulator.proofs.Deciding.{made-by}
 use Rattle.simulator.proofs.Counting.{formed-counted}
@@ -43,7 +43,7 @@ same-length-2 c = search needs
 returns : tie.Need-returns
 returns c = λ cs vs.
     rw (sym (c .before .before .before .before .before .before .before .before .before .before .before .stage .ensures), sym (c .before .before .before .before .before .before .before .before .before .before .view .ensures), sym (c .before .before .before .before .before .before .before .processor .ensures))
-    (made-by (stateOf (runFrom (c .before .before .before .before .before .before .before .before .before .before .before .before .before .before .args .head) cs vs) (c .before .before .before .before .before .before .before .before .before .before .before .before .before .before .args .tally .now) (c .before .before .before .before .before .before .before .before .before .before .before .before .before .before .args .network .now)) (heardChange (c .before .before .before .before .before .before .before .before .before .before .before .stage .result) (runFrom (c .before .before .before .before .before .before .before .before .before .before .before .before .before .before .args .head) cs vs) (c .before .before .before .before .before .before .before .before .before .before .before .before .before .before .args .tally .now) (c .before .before .before .before .before .before .before .before .before .before .view .result) (c .before .before .before .before .before .before .before .processor .result) (c .before .before .before .before .before .before .before .before .before .before .before .before .before .before .args .formed)) _ _ _ _ (c .before .before .before .before .before .before .hear .ensures .0) (c .before .before .before .before .before .before .hear .ensures .1)
+    (made-by (runFrom (c .before .before .before .before .before .before .before .before .before .before .before .before .before .before .args .head) cs vs) (c .before .before .before .before .before .before .before .before .before .before .before .before .before .before .args .tally .now) (c .before .before .before .before .before .before .before .before .before .before .before .before .before .before .args .network .now) (heardChange (c .before .before .before .before .before .before .before .before .before .before .before .stage .result) (runFrom (c .before .before .before .before .before .before .before .before .before .before .before .before .before .before .args .head) cs vs) (c .before .before .before .before .before .before .before .before .before .before .before .before .before .before .args .tally .now) (c .before .before .before .before .before .before .before .before .before .before .view .result) (c .before .before .before .before .before .before .before .processor .result) (c .before .before .before .before .before .before .before .before .before .before .before .before .before .before .args .formed)) _ _ _ _ (c .before .before .before .before .before .before .hear .ensures .0) (c .before .before .before .before .before .before .hear .ensures .1)
     (c .note-formed .ensures ∙ formed-counted (c .before .before .before .before .before .before .before .before .before .before .before .before .before .before .args .head .plan) (c .before .before .before .before .before .before .before .before .before .before .before .before .before .before .args .head .faulty) (c .before .before .before .before .before .before .before .before .before .before .before .stage .result) (c .before .before .before .before .before .before .before .before .before .before .view .result) (c .before .before .before .before .before .before .before .before .before .before .before .before .before .before .args .formed) (c .before .before .before .before .before .before .hear .result - c .before .before .before .before .before .before .before .before .before .before .before .before .before .before .args .head .held) (omega (arith, c .before .before .before .before .before .before .hear .ensures .0 .number)) (c .before .before .before .before .before .before .before .before .before .before .before .before .before .before .args .head .traffic)))
 
 pub listen-spec : {M : Type 1} → statement M

@@ -26,15 +26,15 @@ returns-2 : tie.Need-returns-2
 returns-2 c = λ cs vs t a.
     let s : State = stateOf (runFrom (c .before .before .before .before .before .before .args .head) cs vs) t (c .before .before .before .before .before .before .args .network .now) in
     let named : namedCheck (c .before .before .before .before .before .before .args .head .plan) (c .before .before .before .before .before .before .args .message) ≡ 0 = omega (arith, c .before .before .before .before .check-named .ensures, c .before .before .before .if1 .left) in
-    deliver-missing s (c .before .before .before .before .before .before .args .message) (a .1) named (found-none s (c .before .before .before .before .before .before .args .message) (room-of s (a .1)) _ (c .before .before .find .ensures) (c .if2 .taken))
+    deliver-missing s (c .before .before .before .before .before .before .args .message) (a .1) named (found-none (s .run) t (s .network) (c .before .before .before .before .before .before .args .message) _ (room-of s (a .1)) (c .before .before .find .ensures) (c .if2 .taken))
 
 returns-3 : tie.Need-returns-3
 returns-3 c = λ cs vs t a.
     let s : State = stateOf (runFrom (c .before .before .before .before .before .before .args .head) cs vs) t (c .before .before .before .before .before .before .args .network .now) in
     let named : namedCheck (c .before .before .before .before .before .before .args .head .plan) (c .before .before .before .before .before .before .args .message) ≡ 0 = omega (arith, c .before .before .before .before .check-named .ensures, c .before .before .before .if1 .left) in
-    let is-held = found-some s (c .before .before .before .before .before .before .args .message) (room-of s (a .1)) _ (c .before .before .find .ensures) (c .if2 .left) in (
+    let is-held = found-some (s .run) t (s .network) (c .before .before .before .before .before .before .args .message) _ (room-of s (a .1)) (c .before .before .find .ensures) (c .if2 .left) in (
       record { sound = a .1; named = named; reaches = held-reaches s (c .before .before .before .before .before .before .args .message) (a .1) is-held },
-      deliver-held s (c .before .before .before .before .before .before .args .message) (a .1) named is-held _ (leaves-without s (c .before .before .before .before .before .before .args .message) (room-of s (a .1)) _ (c .before .before .find .ensures) (c .if2 .left)),
+      deliver-held s (c .before .before .before .before .before .before .args .message) (a .1) named is-held _ (leaves-without (s .run) t (s .network) (c .before .before .before .before .before .before .args .message) _ (room-of s (a .1)) (c .before .before .find .ensures) (c .if2 .left)),
     )
 
 pub judge-delivery-spec : {M : Type 1} → statement M

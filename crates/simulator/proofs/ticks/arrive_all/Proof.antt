@@ -70,7 +70,7 @@ enter-by-tick-requires c κs =
     let most : s .run .plan .n ≤ length (s .run .clocks) = c .before .before .before .before .before .before .before .before .before .before .pre .whole .clocks in
     let a : Arrives (s .run .plan) (s .run .faulty) (seat (s .run) (c .before .before .before .before .before .before .loop .q)) (c .before .before .arrive .result) = subst (λ (p : Processor). Arrives (s .run .plan) (s .run .faulty) p (c .before .before .arrive .result)) (seat-kept s (c .before .before .before .before .before .before .loop .q) (runFrom (c .before .before .before .before .before .before .before .before .before .before .args .head) (c .before .before .before .before .before .before .loop .clocks) (c .before .before .before .before .before .before .loop .views)) (c .before .before .before .before .before .before .loop .inv .1)) (c .before .before .arrive .ensures) in
     let on : c .before .before .arrive .result .ends ≡ false = a .ends ∙ some-not (endsAt (s .run)) _ (c .before .before .before .before .before .before .loop .q) (c .before .before .before .before .before .before .before .before .before .before .pre .goes-on) (c .before .before .before .before .before .loop-test .taken) in
-    (omega (arith, within (s .run .plan) (c .before .before .before .before .before .before .before .before .before .before .pre .fit .plan) .n-least), omega (arith, c .before .before .before .before .before .loop-test .taken, within (s .run .plan) (c .before .before .before .before .before .before .before .before .before .before .pre .fit .plan) .n-most), arrival-fits s most (c .before .before .before .before .before .before .loop .q) (c .before .before .before .before .before .loop-test .taken) (c .before .before .arrive .result) a on (c .before .before .before .before .before .before .before .before .before .before .pre .room) _ _ _ (c .before .before .before .before .before .before .loop .inv .3))
+    (omega (arith, within (s .run .plan) (c .before .before .before .before .before .before .before .before .before .before .pre .fit .plan) .n-least), omega (arith, c .before .before .before .before .before .loop-test .taken, within (s .run .plan) (c .before .before .before .before .before .before .before .before .before .before .pre .fit .plan) .n-most), arrival-fits s most (c .before .before .before .before .before .before .loop .q) (c .before .before .before .before .before .loop-test .taken) (c .before .before .arrive .result) a on _ (c .before .before .before .before .before .before .before .before .before .before .pre .room) _ _ _ (c .before .before .before .before .before .before .loop .inv .3))
 
 add-q : tie.Need-add-q Inv-loop μ-loop
 add-q c = search needs
@@ -87,7 +87,7 @@ loop-again c =
       omega arith,
       next-turn s most (c .before .before .before .before .before .before .before .before .before .before .before .loop .q) (c .before .before .before .before .before .before .before .before .before .before .loop-test .taken) (c .before .before .before .before .before .before .before .arrive .result) a on (runFrom (c .before .before .before .before .before .before .before .before .before .before .before .before .before .before .before .args .head) (c .before .before .before .before .before .before .before .before .before .before .before .loop .clocks) (c .before .before .before .before .before .before .before .before .before .before .before .loop .views)) (c .before .before .before .before .before .before .before .before .before .before .before .loop .inv .1),
       tally-turn s most (c .before .before .before .before .before .before .before .before .before .before .before .loop .q) (c .before .before .before .before .before .before .before .before .before .before .loop-test .taken) (c .before .before .before .before .before .before .before .arrive .result) a on _ _ (c .before .before .before .before .before .before .before .before .before .before .before .loop .inv .2) (c .before .before .before .before .enter-by-tick .ensures .1),
-      posts-turn s most (c .before .before .before .before .before .before .before .before .before .before .before .loop .q) (c .before .before .before .before .before .before .before .before .before .before .loop-test .taken) (c .before .before .before .before .before .before .before .arrive .result) a on (c .before .before .before .before .before .before .before .before .before .before .before .before .before .before .before .pre .room) _ _ _ (c .before .before .before .before .before .before .before .before .before .before .before .loop .inv .3) _ _ (c .before .before .before .before .enter-by-tick .ensures .0),
+      posts-turn s most (c .before .before .before .before .before .before .before .before .before .before .before .loop .q) (c .before .before .before .before .before .before .before .before .before .before .loop-test .taken) (c .before .before .before .before .before .before .before .arrive .result) a on _ (c .before .before .before .before .before .before .before .before .before .before .before .before .before .before .before .pre .room) _ _ _ (c .before .before .before .before .before .before .before .before .before .before .before .loop .inv .3) _ _ (c .before .before .before .before .enter-by-tick .ensures .0),
       omega arith,
       omega arith,
     )
@@ -109,7 +109,7 @@ returns c =
     let s : State = stateOf (runFrom (c .before .before .before .before .before .before .before .args .head) (c .before .before .before .before .before .before .before .args .clocks .now) (c .before .before .before .before .before .before .before .args .views .now)) (c .before .before .before .before .before .before .before .args .tally .now) (c .before .before .before .before .before .before .before .args .network .now) in
     let most : s .run .plan .n ≤ length (s .run .clocks) = c .before .before .before .before .before .before .before .pre .whole .clocks in
     let e : c .before .before .before .loop .q ≡ s .run .plan .n = omega arith in
-    tick-made s most (runFrom (c .before .before .before .before .before .before .before .args .head) (c .before .before .before .loop .clocks) (c .before .before .before .loop .views)) (c .before .before .before .loop .held) (c .note-pairs .result) _ _
+    tick-made (s .run) (s .tally) (s .network) most (runFrom (c .before .before .before .before .before .before .before .args .head) (c .before .before .before .loop .clocks) (c .before .before .before .loop .views)) (c .before .before .before .loop .held) (c .note-pairs .result) _ _
     (c .before .before .before .loop .inv .1 ∙ ap (λ (k : ℕ). withViews (arrivedBelow s k .views) (withClocks (clocksOn (s .run) k) (s .run))) e)
     (c .before .before .before .loop .inv .2 ∙ ap (λ (k : ℕ). arrivedBelow s k .tally) e)
     (subst (λ (k : ℕ). Posts (arrivedBelow s k .sent) (s .run .held) (s .run .time + 1) (s .network) (c .before .before .before .loop .held) (c .before .before .before .loop .network)) e (c .before .before .before .loop .inv .3)) (c .note-pairs .ensures)

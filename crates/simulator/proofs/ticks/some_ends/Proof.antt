@@ -15,7 +15,7 @@ use Rattle.types.specs.declared.Plan.{Plan}
 use Rattle.types.specs.PlanFunctions.{clockTimeWord}
 use Rattle.model.specs.State.{runFrom}
 use Rattle.model.specs.Checks.{planOutside, atEnd}
-use Rattle.pacemaker.proofs.LimitLaws.{within, time-word}
+use Rattle.pacemaker.proofs.LimitLaws.{within, gamma-positive, time-word}
 use Rattle.simulator.specs.Inner.{endsAt}
 use Rattle.simulator.proofs.ticks.some_ends.Statement.{statement}
 use Rattle.simulator.proofs.ticks.some_ends.Tie as tie
@@ -33,8 +33,7 @@ module _ (plan : Plan) (ok : planOutside plan ≡ false) (e : ℕ) (is : e ≡ c
   end-positive =
       let l = within plan ok in
       let views : 0 < plan .views = omega (arith, l .views-least) in
-      let gamma : 0 < plan .gamma = omega (arith, l .delta-least, l .gamma-least) in
-      let product : 0 < plan .views * plan .gamma = mul-pos views gamma in
+      let product : 0 < plan .views * plan .gamma = mul-pos views (gamma-positive plan l) in
       omega (arith, end-is, product)
 
   ends-next : (clock : ℕ) → e - 1 ≤ clock → atEnd plan (clock + 1) ≡ true

@@ -1,10 +1,10 @@
 use borrow.Author.Tests.{leb-true, leb-false, not-true, not-false}
 use mathlib.Core.Path.{_≡_, refl, sym, _∙_}
-use mathlib.Core.Bool.{true, false}
+use mathlib.Core.Bool.{false}
 use Prim.Native.Nat.{_+_, _≤_, _<_}
 use native.Mathlib.Omega.{arith}
 use lib.ListN.{length}
-use Rattle.model.specs.State.{State, stateOf, runFrom, capacity}
+use Rattle.model.specs.State.{State, stateOf, runFrom, roomIn}
 use Rattle.base.specs.Scan.{some}
 use Rattle.simulator.specs.Inner.{arrivedBelow, endsAt}
 use Rattle.simulator.proofs.Once.{once-ends, once-full, once-done}
@@ -65,7 +65,7 @@ returns-3 c =
     let s : State = stateOf (runFrom (c .before .before .before .before .before .before .before .before .before .before .before .before .before .before .before .before .before .before .before .before .args .head) (c .before .before .before .before .before .before .before .before .before .before .before .before .before .before .before .before .before .before .before .before .args .clocks .now) (c .before .before .before .before .before .before .before .before .before .before .before .before .before .before .before .before .before .before .before .before .args .views .now)) (c .before .before .before .before .before .before .before .before .before .before .before .before .before .before .before .before .before .before .before .before .args .tally .now) (c .before .before .before .before .before .before .before .before .before .before .before .before .before .before .before .before .before .before .before .before .args .network .now) in
     let on : some (endsAt (s .run)) (s .run .plan .n) ≡ false = sym (c .before .before .before .before .before .before .before .before .before .before .before .before .before .before .before .before .some-ends .ensures (c .before .before .before .before .before .before .before .before .before .before .before .before .before .before .before .before .before .before .before .before .args .views .now)) ∙ c .before .before .before .before .before .before .before .before .before .before .before .before .before .before .before .if1 .left in
     let fits : s .run .held + length (arrivedBelow s (s .run .plan .n) .sent) ≤ c .before .before .before .before .before .before .before .before .before .before .before .before .before .capacity .result = leb-true _ _ (sym (c .before .before .before .before .before .before .before .before .before .before .has-room .ensures (s .tally) (s .network)) ∙ not-false _ (c .before .before .before .before .before .before .before .before .before .if2 .left)) in
-    let room : s .run .held + length (arrivedBelow s (s .run .plan .n) .sent) ≤ capacity (s .network) = omega (arith, c .before .before .before .before .before .before .before .before .before .before .before .before .before .capacity .ensures, fits) in
+    let room : s .run .held + length (arrivedBelow s (s .run .plan .n) .sent) ≤ roomIn s = omega (arith, c .before .before .before .before .before .before .before .before .before .before .before .before .before .capacity .ensures, fits) in
     (once-done s (c .before .before .before .before .before .before .before .before .before .before .before .before .before .before .before .before .before .before .before .before .pre .1 .clocks) (c .before .before .before .before .before .before .before .before .before .before .before .before .before .before .before .before .before .before .before .before .pre .4) on _ refl room _ (c .before .before .before .before .arrive-all .ensures) (went-ticked s (c .before .before .before .before .before .before .before .before .before .before .before .before .before .before .before .before .before .before .before .before .pre .1 .clocks) (c .before .before .before .before .before .before .before .before .before .before .before .before .before .before .before .before .before .before .before .before .pre .1 .views) (c .before .before .before .before .before .before .before .before .before .before .before .before .before .before .before .before .before .before .before .before .pre .0) on room), λ z. refl)
 
 pub tick-once-spec : {M : Type 1} → statement M

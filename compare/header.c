@@ -1,8 +1,10 @@
 /*
  * Document 01's printed schedule from C: each line is read, written again, and done by the exported functions as include/fever.h
- * declares them; the report of its traffic; and in header_loads.h a load of its setup. Prints what it got; ends with 1 where that is
- * not what the document prints, where a report or a load is not that of its lines, or where a refusal changed something.
+ * declares them; the report of its traffic; in header_carry.h its run carried over to a network of four words a message and back; and
+ * in header_loads.h a load of its setup. Prints what it got; ends with 1 where that is not what the document prints, where a report or
+ * a load is not that of its lines, where carrying over loses something, or where a refusal changed something.
  */
+#include "header_carry.h"
 #include "header_loads.h"
 #include "header_words.h"
 
@@ -201,6 +203,7 @@ int main(void)
     refuse();
     apply_all();
     refuse_all();
+    carry_over();
     report();
     step();
     generate_loads();

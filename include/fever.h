@@ -8,15 +8,15 @@
  * says, and is not NULL even where the length is 0; no two of the parts lent to one call overlap, unless the call only reads both;
  * and nobody else writes any of them meanwhile. Beyond that every function takes any words, any lengths and any numbers.
  *
- * Open, apply, step, read, generate and traffic answer a check's number where they refuse; `fever_write_event` and
+ * Open, apply, step, read, generate, traffic, pack and unpack answer a check's number where they refuse; `fever_write_event` and
  * `fever_write_setup` answer 0 for check 1, the only one that they make; and a call that refuses has changed nothing that was lent. A
  * run of ticks that is stopped answers the check that ended it, and the ticks before are done. Events applied together are answered
  * each in its own words, refused or not; that call itself refuses only where the words lent are those of no run. The contracts are in
- * crates/fever/specs: those for loads in Loads.antt, that of traffic in Traffic.antt, the others in Contracts.antt, the layouts in
- * Layout.antt, and what is promised of calls in a row and of what they answer in Promises.antt.
+ * crates/fever/specs: those for loads in Loads.antt, that of traffic in Traffic.antt, those of carrying over in Carrying.antt, the
+ * others in Contracts.antt, the layouts in Layout.antt, and what is promised of calls in a row and of what they answer in Promises.antt.
  *
  * The checks: 1 no such form, or too few elements lent; 2 to 8 refuse an opening; 9 to 18 an event; one processor uses 9, 10, 11 and
- * 17, a report of traffic 1 and 9. The README lists them.
+ * 17, a report of traffic 1 and 9, carrying a run over 1, 6 and 9. The README lists them.
  */
 #ifndef FEVER_H
 #define FEVER_H
@@ -60,11 +60,17 @@ extern "C" {
  *
  * The tally has four words a view: the correct processors that entered it, those whose view message its leader heard, those whose
  * vote it heard, and two marks (1 view certificate formed, 2 quorum certificate formed). It needs 4V words.
- * The network has four words a message in flight: kind, view, processor, sending time. It needs 8n words and may have 524,288.
+ * The network has two words a message in flight: view * 512 + (kind - 1) * 64 + processor, and then the sending time. It needs 4n words
+ * and may have 524,288. Which of its words are messages is told by run[FEVER_RUN_HELD] alone: 0, 0 is one, the view message of
+ * processor 0 for view 0 sent at 0. Words beyond the last message are 0, an odd one at the end too.
+ *
+ * The wide form of a network has four words a message: kind, view, processor, sending time; and 8n words or more. Such a network lent
+ * by mistake is not told apart for certain, since its words may be those of other messages: carry it over first, by `fever_pack`.
  */
 
 #define FEVER_TALLY_ROW_WORDS 4
-#define FEVER_NETWORK_MESSAGE_WORDS 4
+#define FEVER_NETWORK_MESSAGE_WORDS 2
+#define FEVER_NETWORK_WIDE_WORDS 4 /* the words of a message in the wide form */
 #define FEVER_NETWORK_MOST 524288
 
 /* ---- an event: four numbers */
@@ -239,6 +245,29 @@ uint64_t fever_generate_more(uint64_t *run, size_t run_len, uint64_t *tally, siz
  */
 uint64_t fever_traffic(const uint64_t *run, size_t run_len, const uint64_t *tally, size_t tally_len, const uint64_t *network,
                        size_t network_len, uint64_t *report, size_t report_len);
+
+/* ---- held runs carried over, from networks of four words a message and back */
+
+/*
+ * Carries a run over from a network of four words a message to one of two, the target: it then holds the same messages in the same
+ * order, and zeros behind them, whatever it held before. Run, tally and network are only read, and may overlap each other, but not the
+ * target. The run and its tally go on with the target in the network's place; `fever_unpack` leads back to the same words, into a target
+ * as long as the network was.
+ *
+ * Answers 0; or 1 where the run has fewer than 146 words; 6 where the target has fewer than 4n words, n being what the run says, more
+ * than 524,288, or too few for the messages that the run says are held; 9 where the run is unsound, a settled word above 1 among it, as
+ * one with a network of four words a message, which needs 8n words; and then no word has changed.
+ */
+uint64_t fever_pack(const uint64_t *run, size_t run_len, const uint64_t *tally, size_t tally_len, const uint64_t *network,
+                    size_t network_len, uint64_t *target, size_t target_len);
+
+/*
+ * Carries a run over from a network of two words a message to one of four, the target, as `fever_pack` does the other way. No other
+ * call takes such a network. Answers as `fever_pack`, but that the target needs 8n words and the network 4n. A run that holds more than
+ * 131,072 messages has no target: the answer is 6.
+ */
+uint64_t fever_unpack(const uint64_t *run, size_t run_len, const uint64_t *tally, size_t tally_len, const uint64_t *network,
+                      size_t network_len, uint64_t *target, size_t target_len);
 
 #ifdef __cplusplus
 }

@@ -3,17 +3,18 @@
 //! A run is opened from a [`Setup`] and moved by one [`Event`] after the other, alone or many in a call; tally and network are lent
 //! by the caller. [`step`] moves one [`Processor`] alone. Lines of a schedule are read and written by [`read_line`], [`write_event`]
 //! and [`write_setup`]. [`generate`] writes a whole schedule that a seed chooses, and [`generate_more`] goes on with it.
-//! [`Run::traffic`] reports how many messages of each kind a run has sent, delivered and holds.
+//! [`Run::traffic`] reports how many messages of each kind a run has sent, delivered and holds. [`pack`] carries a held run over from
+//! a network of four words a message, the wide form, and [`unpack`] carries it back.
 //!
-//! [`open`], [`apply`], [`apply_all`], [`step`], [`generate`], [`generate_more`] and [`Run::traffic`] name the first check whose
-//! sentence holds where they refuse, [`read_line`] and the two that write a line answer `None`; what is refused has changed nothing. A
-//! run of ticks that is stopped names the check that ended it and the ticks done.
+//! [`open`], [`apply`], [`apply_all`], [`step`], [`generate`], [`generate_more`], [`Run::traffic`], [`pack`] and [`unpack`] name the
+//! first check whose sentence holds where they refuse, [`read_line`] and the two that write a line answer `None`; what is refused has
+//! changed nothing. A run of ticks that is stopped names the check that ended it and the ticks done.
 //!
 //! ```
 //! use fever::{apply, apply_all, open, Answer, Event, Plan, Run, Setup};
 //!
 //! let plan = Plan { n: 4, delta: 2, gamma: 4, views: 6 };
-//! let (mut run, mut tally, mut network) = (Run::unopened(), [0; 24], [0; 64]);
+//! let (mut run, mut tally, mut network) = (Run::unopened(), [0; 24], [0; 32]);
 //! let opened = open(&Setup::new(plan), &mut run, &mut tally, &mut network);
 //! assert_eq!(opened, Answer::Done { ticks: 0, held: 8 });
 //! let ticked = apply(&mut run, Event::Tick(3), &mut tally, &mut network);
@@ -33,6 +34,7 @@
 #![deny(missing_docs)]
 #![deny(unsafe_code)]
 
+mod carrying;
 mod events;
 mod lines;
 mod loads;
@@ -44,6 +46,7 @@ mod runs;
 mod tests;
 mod traffic;
 
+pub use carrying::{pack, unpack};
 pub use events::{Event, Kind, Message};
 pub use lines::{read_line, write_event, write_setup, Line};
 pub use loads::{generate, generate_more, Generated, Load};

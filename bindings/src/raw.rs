@@ -47,6 +47,10 @@ pub const TRAFFIC_DELIVERED: usize = 4;
 pub const TRAFFIC_HELD: usize = 8;
 /// Where a report has the sum of waits.
 pub const TRAFFIC_WAITS: usize = 12;
+/// The words of a message in the network: view × 512 + (kind − 1) × 64 + processor, and the sending time.
+pub const MESSAGE_WORDS: usize = 2;
+/// The words of a message in the wide form: kind, view, processor, sending time.
+pub const WIDE_WORDS: usize = 4;
 /// The kinds of messages: a word for each of them.
 pub const KINDS: usize = 4;
 /// The clocks or views of a table.
@@ -237,6 +241,41 @@ pub fn traffic(run: &[u64], tally: &[u64], network: &[u64], report: &mut [u64]) 
             network.len(),
             report.as_mut_ptr(),
             report.len(),
+        )
+    }
+}
+
+/// `fever_pack`: 0, and the target holds in two words a message what the network holds in four; else no word has changed: 1 where the
+/// run has too few words, 6 where the target has too few or too many, 9 where the run is unsound.
+pub fn pack(run: &[u64], tally: &[u64], network: &[u64], target: &mut [u64]) -> u64 {
+    // SAFETY: as in `traffic`.
+    unsafe {
+        archive::fever_pack(
+            run.as_ptr(),
+            run.len(),
+            tally.as_ptr(),
+            tally.len(),
+            network.as_ptr(),
+            network.len(),
+            target.as_mut_ptr(),
+            target.len(),
+        )
+    }
+}
+
+/// `fever_unpack`: as [`pack`], from two words a message to four.
+pub fn unpack(run: &[u64], tally: &[u64], network: &[u64], target: &mut [u64]) -> u64 {
+    // SAFETY: as in `traffic`.
+    unsafe {
+        archive::fever_unpack(
+            run.as_ptr(),
+            run.len(),
+            tally.as_ptr(),
+            tally.len(),
+            network.as_ptr(),
+            network.len(),
+            target.as_mut_ptr(),
+            target.len(),
         )
     }
 }

@@ -2,6 +2,7 @@
 
 use crate::*;
 
+mod carrying;
 mod lines;
 mod loads;
 mod together;

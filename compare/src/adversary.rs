@@ -176,8 +176,8 @@ impl Style {
             Order::Newest => Some(held - 1),
             Order::Any => Some(any),
             Order::Starve(processor) => {
-                let other = scene.receiver(&scene.messages()[any]) != processor;
-                other.then_some(any)
+                let message = scene.messages().nth(any)?;
+                (scene.receiver(message) != processor).then_some(any)
             }
             // Before the network settles no delay is the last legal one.
             Order::Last => (!scene.run.settled && draws.per_mille(500)).then_some(any),

@@ -1,5 +1,6 @@
 //! What was met: printed at the end, so that one sees which checks were.
 
+use crate::carry_counts::Carried;
 use crate::load_counts::Loads;
 use crate::traffic_counts::TrafficCounts;
 use reference::Answer;
@@ -33,6 +34,8 @@ pub struct Counts {
     pub loads: Loads,
     /// The messages, sums and reports.
     pub traffic: TrafficCounts,
+    /// The runs carried over from one form of network to the other.
+    pub carried: Carried,
 }
 
 /// Counts of calls that apply events together.
@@ -137,6 +140,7 @@ impl Counts {
         self.together.add(&other.together);
         self.loads.add(&other.loads);
         self.traffic.add(&other.traffic);
+        self.carried.add(&other.carried);
     }
 
     /// The checks from 1 to 18 that were met less often.
@@ -212,7 +216,7 @@ impl Display for Counts {
         if !self.loads.is_empty() {
             write!(out, "  {}", self.loads)?;
         }
-        write!(out, "{}", self.traffic)
+        write!(out, "{}{}", self.traffic, self.carried)
     }
 }
 

@@ -5,6 +5,7 @@
 
 use crate::report::adds_up;
 use crate::scene::Scene;
+use crate::stored::Fields;
 use reference::{ByKind, Event, Message, Sums, Traffic};
 
 /// What has come into a network and left it so far.
@@ -13,7 +14,7 @@ pub struct History {
     /// The sums: from an opening on, or from what was handed in.
     sums: Sums,
     /// The messages held.
-    held: Vec<[u64; 4]>,
+    held: Vec<Fields>,
     /// Per view, the view messages and view certificates posted since the
     /// opening; none where the run was handed in.
     view_stage: Option<Vec<u64>>,
@@ -37,7 +38,7 @@ impl History {
     pub fn handed_in(scene: Scene) -> Self {
         Self {
             sums: scene.run.sums,
-            held: scene.messages().to_vec(),
+            held: scene.messages().collect(),
             view_stage: None,
         }
     }
@@ -55,8 +56,8 @@ impl History {
     /// The report of the run, as its history tells it.
     pub fn traffic(&self) -> Traffic {
         let mut held = [0; 4];
-        for words in &self.held {
-            count(&mut held, words[0]);
+        for &[kind, ..] in &self.held {
+            count(&mut held, kind);
         }
         let sums = self.sums;
         Traffic { sums, held }
@@ -78,7 +79,7 @@ impl History {
     /// A message leaves: the first of equal ones.
     fn deliver(&mut self, message: Message, now: u64) -> Result<(), String> {
         let name = [message.kind(), message.view(), message.processor()];
-        let equal = |words: &[u64; 4]| words[..3] == name;
+        let equal = |fields: &Fields| fields[..3] == name;
         let Some(place) = self.held.iter().position(equal) else {
             return Err(format!("{message:?} was delivered and not held"));
         };
@@ -91,21 +92,22 @@ impl History {
     /// Takes in what stands behind the messages known, and judges the sums;
     /// answers as [`History::after`].
     fn look(&mut self, scene: Scene) -> Result<u64, String> {
-        let now = scene.messages();
-        let Some(posted) = now.strip_prefix(&self.held[..]) else {
+        let mut now = scene.messages();
+        if !self.held.iter().all(|&known| now.next() == Some(known)) {
             return Err("messages held before have moved".to_owned());
-        };
+        }
+        let posted: Vec<Fields> = now.collect();
         let mut bound_met = 0;
-        for words in posted {
-            count(&mut self.sums.sent, words[0]);
-            if let (Some(view_stage), 1 | 3) = (&mut self.view_stage, words[0]) {
-                let number = &mut view_stage[words[1] as usize];
+        for &[kind, view, ..] in &posted {
+            count(&mut self.sums.sent, kind);
+            if let (Some(view_stage), 1 | 3) = (&mut self.view_stage, kind) {
+                let number = &mut view_stage[view as usize];
                 *number += 1;
                 bound_met += u64::from(*number == bound(scene));
             }
         }
-        let seen: Vec<u64> = posted.iter().map(|words| words[1]).collect();
-        self.held.extend_from_slice(posted);
+        let seen: Vec<u64> = posted.iter().map(|&[_, view, ..]| view).collect();
+        self.held.extend(posted);
         self.judge(scene, &seen).map(|()| bound_met)
     }
 
@@ -248,14 +250,14 @@ mod tests {
         let (mut history, _) = History::opened(scene(&run, &tally, &network));
         // Four view messages are posted; five certificates make them nine.
         for place in 8..13 {
-            network[4 * place] = 3;
+            network[2 * place] = 2 << 6;
         }
         run.held = 13;
         run.sums.sent[2] = 5;
         let kept = history.after(Event::Settle, true, scene(&run, &tally, &network));
         let told = "more than 8 view messages and view certificates for view 0";
         assert_eq!(kept, Err(told.to_owned()));
-        network[0] = 2;
+        network[0] = 1 << 6;
         let kept = history.after(Event::Settle, true, scene(&run, &tally, &network));
         assert!(kept.is_err_and(|what| what.contains("moved")));
     }

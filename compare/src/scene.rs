@@ -1,6 +1,7 @@
 //! What a schedule's author sees of a run: who is where, what is in flight,
 //! what was signed. Everything is read from the run and its lent words.
 
+use crate::stored::{Fields, Width};
 use crate::words;
 use reference::{Message, Run};
 
@@ -60,20 +61,19 @@ impl Scene<'_> {
         self.tally.get(place).copied().unwrap_or(0)
     }
 
-    /// The messages held, four words each.
-    pub fn messages(&self) -> &[[u64; 4]] {
-        let all = self.network.as_chunks().0;
-        &all[..(self.run.held as usize).min(all.len())]
+    /// The messages held.
+    pub fn messages(&self) -> impl ExactSizeIterator<Item = Fields> + Clone + '_ {
+        Width::Two.messages(self.network, self.run.held)
     }
 
     /// The message at a place.
     pub fn message(&self, place: usize) -> Option<Message> {
-        let &[kind, view, processor, _] = self.messages().get(place)?;
+        let [kind, view, processor, _] = self.messages().nth(place)?;
         words::message_of(kind, view, processor)
     }
 
     /// Who a held message is addressed to.
-    pub const fn receiver(&self, &[kind, view, processor, _]: &[u64; 4]) -> u64 {
+    pub const fn receiver(&self, [kind, view, processor, _]: Fields) -> u64 {
         if kind < 3 {
             self.run.plan.lead(view)
         } else {
@@ -93,10 +93,9 @@ impl Scene<'_> {
         if !self.run.settled {
             return Vec::new();
         }
-        let is_due = |words: &[u64; 4]| self.run.time >= self.due(words[3]);
-        let places = self.messages().iter().enumerate();
+        let places = self.messages().enumerate();
         places
-            .filter(|(_, words)| is_due(words))
+            .filter(|&(_, [.., sent])| self.run.time >= self.due(sent))
             .map(|(place, _)| place)
             .collect()
     }
@@ -113,7 +112,7 @@ impl Scene<'_> {
 
     /// The ticks until the first message held is overdue.
     pub fn ticks_to_overdue(&self) -> Option<u64> {
-        let first = self.messages().iter().map(|words| words[3]).min()?;
+        let first = self.messages().map(|[.., sent]| sent).min()?;
         Some(self.due(first).saturating_sub(self.run.time))
     }
 
@@ -129,7 +128,7 @@ impl Scene<'_> {
 
     /// How many messages more fit.
     pub const fn room(&self) -> u64 {
-        (self.network.len() as u64 / 4).saturating_sub(self.run.held)
+        (self.network.len() as u64 / 2).saturating_sub(self.run.held)
     }
 
     /// Whether the adversary has a certificate to show: "for a correct leader
@@ -170,7 +169,7 @@ mod tests {
             clocks: [0; 64],
         };
         (setup.clocks[0], setup.clocks[2]) = (5, 5);
-        let (mut run, mut tally, mut network) = (Run::unopened(), vec![0; 24], vec![0; 64]);
+        let (mut run, mut tally, mut network) = (Run::unopened(), vec![0; 24], vec![0; 32]);
         open(&setup, &mut run, &mut tally, &mut network);
         for event in [Event::Settle, Event::Tick(1)] {
             apply(&mut run, event, &mut tally, &mut network);

@@ -8,7 +8,7 @@ use std::fmt::{self, Display, Formatter};
 const LEAST_EVENTS: u64 = 200_000;
 /// How often it meets each check on each way, and how often 16, 17 and 18 each
 /// end ticks there, at least; and all that is counted of events together, of
-/// loads, of traffic and of the search for newlines.
+/// loads, of traffic, of runs carried over and of the search for newlines.
 const LEAST_MET: u64 = 5;
 
 /// What a comparison met.
@@ -48,8 +48,8 @@ impl Summary {
     /// What is missing of a comparison that says something: enough events,
     /// every check met on both ways and by events together, and every one that
     /// ends ticks; all that is counted of calls for events together and for
-    /// loads, of traffic and of the search for newlines; reports of loads;
-    /// demand 3 due whole as often as there are rounds.
+    /// loads, of traffic, of runs carried over and of the search for newlines;
+    /// reports of loads; demand 3 due whole as often as there are rounds.
     pub fn missing(&self) -> Option<String> {
         let alone = |counts: &Counts| counts.together.calls == 0 && counts.loads.is_empty();
         let library = self.library(alone);
@@ -84,12 +84,13 @@ impl Summary {
         })
     }
 
-    /// What was met less often of all that is counted of loads, of traffic and
-    /// of the search for newlines.
+    /// What was met less often of all that is counted of loads, of traffic, of
+    /// runs carried over and of the search for newlines.
     fn counted_too_little(&self) -> Option<String> {
         let (program, generator) = (&self.program.traffic, &self.generator);
         let loads = self.library(|counts| !counts.loads.is_empty()).loads;
-        let library = self.library(|_| true).traffic;
+        let all = self.library(|_| true);
+        let (library, carried) = (all.traffic, all.carried);
         let parts = [
             ("search for newlines", self.search.lacks(LEAST_MET)),
             (
@@ -103,6 +104,7 @@ impl Summary {
             ("loads of the library", loads.library_lacks(LEAST_MET)),
             ("traffic of the program", program.program_lacks(LEAST_MET)),
             ("traffic of the library", library.library_lacks(LEAST_MET)),
+            ("runs carried over", carried.lacks(LEAST_MET)),
         ];
         let mut parts = parts.into_iter();
         parts.find_map(|(part, few)| few.map(|few| format!("{part}, {few}")))
@@ -130,6 +132,7 @@ impl Display for Summary {
 #[cfg(test)]
 mod tests {
     use super::*;
+    use crate::carry_counts::Carried;
     use crate::counts::Together;
     use crate::load_counts::Loads;
     use crate::traffic_counts::TrafficCounts;
@@ -159,10 +162,15 @@ mod tests {
             ..Counts::default()
         };
         loads.events = loads.loads.events();
+        let carried = Counts {
+            carried: Carried::met_everywhere(LEAST_MET),
+            ..Counts::default()
+        };
         let library = vec![
             ("calls", program.clone()),
             ("loads", loads.clone()),
             ("together", together),
+            ("carried", carried),
         ];
         loads.traffic = TrafficCounts::met_everywhere(LEAST_MET);
         program.due = 3;
@@ -192,7 +200,10 @@ mod tests {
         lacks(|summary| summary.program.stopped[18] = 0, "ended ticks");
         lacks(|summary| summary.library[0].1.met[13] = 0, "met, library");
         lacks(|summary| summary.library[2].1.met[13] = 0, "met, events");
-        lacks(|summary| _ = summary.library.pop(), "met, events");
+        lacks(|summary| summary.library.truncate(2), "met, events");
+        lacks(|summary| _ = summary.library.pop(), "carried over, packed");
+        let spoil = |summary: &mut Summary| summary.library[3].1.carried.lists.apart = 0;
+        lacks(spoil, "carried over, both forms, openings apart by 6: 0");
         let spoil = |summary: &mut Summary| summary.library[2].1.together.outlasted = 0;
         lacks(spoil, "0 in which the time");
         lacks(|summary| summary.program.events = 1, "only 2 events");

@@ -2,6 +2,7 @@
 
 use crate::check;
 use crate::effect::{self, Effect};
+use crate::form::{Form, Packed};
 use crate::message::{Event, Message};
 use crate::network;
 use crate::plan::Plan;
@@ -15,13 +16,24 @@ use crate::tick;
 /// Applies an event to any run and any lent words, all checks included.
 /// Refused, nothing changes.
 pub fn apply(run: &mut Run, event: Event, tally: &mut [u64], network: &mut [u64]) -> Answer {
+    apply_in(Packed, run, event, tally, network)
+}
+
+/// The same, with a network in that form.
+pub fn apply_in(
+    form: impl Form,
+    run: &mut Run,
+    event: Event,
+    tally: &mut [u64],
+    network: &mut [u64],
+) -> Answer {
     if !event.has_form() {
         return Answer::Refused(check::NO_FORM);
     }
-    if !soundness::is_sound(run, tally, network) {
+    if !soundness::is_sound_in(form, run, tally, network) {
         return Answer::Refused(check::UNSOUND);
     }
-    act(run, event, tally, network)
+    act(form, run, event, tally, network)
 }
 
 /// Applies an event to a run that the caller knows to be sound, so that check 9
@@ -34,15 +46,22 @@ pub fn apply_sound(run: &mut Run, event: Event, tally: &mut [u64], network: &mut
     if !event.has_form() {
         return Answer::Refused(check::NO_FORM);
     }
-    if !soundness::fits(run, tally, network) {
+    if !soundness::fits(Packed, run, tally, network) {
         return Answer::Refused(check::UNSOUND);
     }
-    act(run, event, tally, network)
+    act(Packed, run, event, tally, network)
 }
 
 /// Checks 10 to 18 and the event.
-fn act(run: &mut Run, event: Event, tally: &mut [u64], network: &mut [u64]) -> Answer {
+fn act(
+    form: impl Form,
+    run: &mut Run,
+    event: Event,
+    tally: &mut [u64],
+    network: &mut [u64],
+) -> Answer {
     let mut state = State {
+        form,
         run,
         tally,
         network,
@@ -76,14 +95,15 @@ fn named(plan: Plan, message: Message) -> Result<(), u64> {
 }
 
 /// "It leaves the network (the first, of equal ones) and is handled."
-fn deliver(state: &mut State, message: Message) -> Result<(), u64> {
+fn deliver(state: &mut State<impl Form>, message: Message) -> Result<(), u64> {
     named(state.run.plan, message)?;
-    let Some(place) = network::find(state.network, state.run.held, message) else {
+    let form = state.form;
+    let Some(place) = network::find(form, state.network, state.run.held, message) else {
         return Err(check::NOT_HELD);
     };
     let effect = effect::of(state, message)?;
     state.room(1, effect.sent(state))?;
-    let sent = network::remove(state.network, &mut state.run.held, place);
+    let sent = network::remove(form, state.network, &mut state.run.held, place);
     state.run.sums.deliver(message, sent, state.run.time);
     effect.carry_out(state);
     Ok(())
@@ -91,7 +111,7 @@ fn deliver(state: &mut State, message: Message) -> Result<(), u64> {
 
 /// "faulty p's signature is heard by the leader of w; if that is faulty,
 /// nothing changes."
-fn sign(state: &mut State, message: Message) -> Result<(), u64> {
+fn sign(state: &mut State<impl Form>, message: Message) -> Result<(), u64> {
     named(state.run.plan, message)?;
     if !set::holds(state.run.faulty, message.processor()) {
         return Err(check::WRONG_PARTY);
@@ -107,7 +127,7 @@ fn sign(state: &mut State, message: Message) -> Result<(), u64> {
 }
 
 /// "correct p receives a certificate from the adversary."
-fn show(state: &mut State, message: Message) -> Result<(), u64> {
+fn show(state: &mut State<impl Form>, message: Message) -> Result<(), u64> {
     named(state.run.plan, message)?;
     if set::holds(state.run.faulty, message.processor()) {
         return Err(check::WRONG_PARTY);
@@ -123,7 +143,7 @@ fn show(state: &mut State, message: Message) -> Result<(), u64> {
 
 /// "It exists, for a correct leader of w, if formed; for a faulty one, if f
 /// plus the correct processors that entered w come to t+1 (vc) or n−t (qc)."
-fn exists(state: &State, certificate: Message) -> bool {
+fn exists(state: &State<impl Form>, certificate: Message) -> bool {
     let plan = state.run.plan;
     let view = certificate.view();
     let (mark, signers) = if let Message::Vc(..) = certificate {

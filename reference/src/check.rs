@@ -12,8 +12,8 @@ pub const DELAY_OR_SLOT: u64 = 3;
 pub const VIEW_LIMIT: u64 = 4;
 /// "`faulty` has a bit at n or above, or more than t ones."
 pub const TOO_FAULTY: u64 = 5;
-/// "The tally has fewer than 4 times `views` words, or the network fewer than
-/// 8n or more than 524,288."
+/// "The tally has fewer than 4 times `views` words, or the network fewer than"
+/// 4n "or more than 524,288."
 pub const BUFFERS: u64 = 6;
 /// "A correct start clock is 3 times `gamma` or more."
 pub const START_CLOCK: u64 = 7;
@@ -39,5 +39,5 @@ pub const OVERDUE: u64 = 16;
 /// "A correct clock would reach `views` times `gamma`."
 pub const LAST_CLOCK: u64 = 17;
 /// "The messages held after the event would exceed the network's words divided
-/// by 4, rounded down."
+/// by" 2, "rounded down."
 pub const NETWORK_FULL: u64 = 18;

@@ -2,6 +2,7 @@
 //! An effect is found first and carried out once no check refuses it.
 
 use crate::check;
+use crate::form::Form;
 use crate::message::Message;
 use crate::processor;
 use crate::set;
@@ -31,7 +32,7 @@ pub(crate) enum Effect {
 
 /// The effect of a message on its receiver, or check 17 for a certificate that
 /// would bring a clock to the limit.
-pub(crate) fn of(state: &State, message: Message) -> Result<Effect, u64> {
+pub(crate) fn of(state: &State<impl Form>, message: Message) -> Result<Effect, u64> {
     let entered = match message {
         Message::View(..) | Message::Vote(..) => return Ok(hearing(state, message)),
         Message::Vc(view, to) => processor::entered_by_view(state.run.views[to as usize], view),
@@ -52,7 +53,7 @@ pub(crate) fn of(state: &State, message: Message) -> Result<Effect, u64> {
 /// at most w, it forms the view certificate." Rule 5: "Likewise for votes with
 /// n−t signers or more, whatever its own view, it forms the quorum
 /// certificate."
-fn hearing(state: &State, message: Message) -> Effect {
+fn hearing(state: &State<impl Form>, message: Message) -> Effect {
     let view = message.view();
     let plan = state.run.plan;
     let signers = |which| set::size(state.tallied(view, which) | set::only(message.processor()));
@@ -70,7 +71,7 @@ fn hearing(state: &State, message: Message) -> Effect {
 
 impl Effect {
     /// How many messages it puts into the network.
-    pub(crate) fn sent(self, state: &State) -> u64 {
+    pub(crate) fn sent(self, state: &State<impl Form>) -> u64 {
         match self {
             Self::Nothing | Self::Hear { forms: false, .. } => 0,
             Self::Enter { view, .. } => state.sent_on_entering(view),
@@ -79,7 +80,7 @@ impl Effect {
     }
 
     /// Carries it out.
-    pub(crate) fn carry_out(self, state: &mut State) {
+    pub(crate) fn carry_out(self, state: &mut State<impl Form>) {
         match self {
             Self::Nothing => {}
             Self::Enter { processor, view } => state.enter(processor, view),
@@ -89,7 +90,7 @@ impl Effect {
 }
 
 /// Adds the signer and, if so decided, forms the certificate.
-fn hear(state: &mut State, message: Message, forms: bool) {
+fn hear(state: &mut State<impl Form>, message: Message, forms: bool) {
     let view = message.view();
     let signer = set::only(message.processor());
     if let Message::View(..) = message {

@@ -1,6 +1,7 @@
 //! Checks 2 to 6: the limits that an opening and every later run keep.
 
 use crate::check;
+use crate::form::Form;
 use crate::plan::Plan;
 use crate::set;
 
@@ -24,18 +25,27 @@ pub(crate) const fn plan(plan: Plan) -> Result<(), u64> {
     Ok(())
 }
 
+/// Whether check 6 passes a network of so many words, for whatever n: it has
+/// not "fewer than" the least of its form "or more than 524,288".
+pub(crate) fn network<F: Form>(_: F, n: u64, words: usize) -> bool {
+    let words = words as u128;
+    words >= u128::from(n) * u128::from(F::LEAST) && words <= u128::from(MOST_NETWORK_WORDS)
+}
+
 /// The first of checks 2 to 6 that a plan, its faulty processors and the lent
 /// words fail.
-pub(crate) fn all(fixed: Plan, faulty: u64, tally: &[u64], network: &[u64]) -> Result<(), u64> {
+pub(crate) fn all<F: Form>(
+    form: F,
+    fixed: Plan,
+    faulty: u64,
+    tally: &[u64],
+    lent: &[u64],
+) -> Result<(), u64> {
     plan(fixed)?;
     if faulty & !set::below(fixed.n) != 0 || set::size(faulty) > fixed.tolerance() {
         return Err(check::TOO_FAULTY);
     }
-    let (tally_words, network_words) = (tally.len() as u64, network.len() as u64);
-    if tally_words < 4 * fixed.views
-        || network_words < 8 * fixed.n
-        || network_words > MOST_NETWORK_WORDS
-    {
+    if (tally.len() as u64) < 4 * fixed.views || !network(form, fixed.n, lent.len()) {
         return Err(check::BUFFERS);
     }
     Ok(())

@@ -5,6 +5,7 @@
 
 use crate::apply::apply_sound;
 use crate::check;
+use crate::form::Packed;
 use crate::message::{Event, Message};
 use crate::network;
 use crate::opening::{self, open};
@@ -48,7 +49,7 @@ pub fn generate(
     network: &mut [u64],
     out: &mut [u8],
 ) -> Result<Piece, u64> {
-    opening::allowed(setup, tally, network)?;
+    opening::allowed(Packed, setup, tally, network)?;
     load.step = 0;
     let Ok(bytes) = write_setup(setup, out) else {
         let full = true;
@@ -162,12 +163,12 @@ impl Making<'_> {
     /// mod the number held, counted from 0; an empty network gives a tick and
     /// no second draw."
     fn drawn(&self, seed: &mut u64) -> Option<Message> {
-        let held = network::messages(self.network, self.run.held);
-        if draw(seed) % 4 > 1 || held.is_empty() {
+        if draw(seed) % 4 > 1 || self.run.held == 0 {
             return None;
         }
-        let place = draw(seed) % held.len() as u64;
-        Some(network::message(&held[place as usize]))
+        let place = draw(seed) % self.run.held;
+        let stored = network::at(Packed, self.network, place as usize);
+        Some(network::message(stored))
     }
 
     fn settle(&mut self) -> Result<(), End> {
@@ -207,9 +208,8 @@ impl Making<'_> {
 
     /// The first message of the network that is overdue.
     fn first_overdue(&self) -> Option<Message> {
-        network::messages(self.network, self.run.held)
-            .iter()
-            .find(|words| tick::is_overdue(self.run, Some(words[3])))
+        network::messages(Packed, self.network, self.run.held)
+            .find(|stored| tick::is_overdue(self.run, Some(stored.sent)))
             .map(network::message)
     }
 

@@ -1,6 +1,7 @@
 //! Opening a run: checks 2 to 8, and what an accepted opening leaves.
 
 use crate::check;
+use crate::form::{Form, Packed};
 use crate::limits;
 use crate::run::{Answer, Run, Setup};
 use crate::set;
@@ -12,7 +13,18 @@ use crate::tally;
 /// The clocks and views of faulty processors and from n on are "not read"; the
 /// run keeps them as 0.
 pub fn open(setup: &Setup, run: &mut Run, tally: &mut [u64], network: &mut [u64]) -> Answer {
-    if let Err(check) = allowed(setup, tally, network) {
+    open_in(Packed, setup, run, tally, network)
+}
+
+/// Opens a run with a network in that form.
+pub fn open_in(
+    form: impl Form,
+    setup: &Setup,
+    run: &mut Run,
+    tally: &mut [u64],
+    network: &mut [u64],
+) -> Answer {
+    if let Err(check) = allowed(form, setup, tally, network) {
         return Answer::Refused(check);
     }
     start(setup, run);
@@ -22,6 +34,7 @@ pub fn open(setup: &Setup, run: &mut Run, tally: &mut [u64], network: &mut [u64]
     network.fill(0);
     let correct = run.correct();
     let mut state = State {
+        form,
         run,
         tally,
         network,
@@ -50,9 +63,14 @@ fn start(setup: &Setup, run: &mut Run) {
 }
 
 /// The first of checks 2 to 8 that the opening fails.
-pub(crate) fn allowed(setup: &Setup, tally: &[u64], network: &[u64]) -> Result<(), u64> {
+pub(crate) fn allowed(
+    form: impl Form,
+    setup: &Setup,
+    tally: &[u64],
+    network: &[u64],
+) -> Result<(), u64> {
     let plan = setup.plan;
-    limits::all(plan, setup.faulty, tally, network)?;
+    limits::all(form, plan, setup.faulty, tally, network)?;
     let correct = set::below(plan.n) & !setup.faulty;
     let clocks = || set::members(correct).map(|processor| setup.clocks[processor as usize]);
     let highest = clocks().max().unwrap_or(0);

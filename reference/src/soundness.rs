@@ -1,5 +1,6 @@
 //! Check 9: whether a run handed in is sound.
 
+use crate::form::{Form, Packed, Stored};
 use crate::limits;
 use crate::network;
 use crate::plan::Plan;
@@ -9,9 +10,9 @@ use crate::set;
 
 /// Whether checks 2 to 6 hold and no more messages are held than fit: what
 /// every event relies on to find its words.
-pub(crate) fn fits(run: &Run, tally: &[u64], network: &[u64]) -> bool {
-    limits::all(run.plan, run.faulty, tally, network).is_ok()
-        && run.held <= network::capacity(network)
+pub(crate) fn fits(form: impl Form, run: &Run, tally: &[u64], network: &[u64]) -> bool {
+    limits::all(form, run.plan, run.faulty, tally, network).is_ok()
+        && run.held <= network::capacity(form, network)
 }
 
 /// Whether check 9 passes the run: "a limit of 2 to 6 broken, a correct clock
@@ -25,18 +26,28 @@ pub(crate) fn fits(run: &Run, tally: &[u64], network: &[u64]) -> bool {
 /// The order of sending times and whether a held view message or view
 /// certificate names an initial view are no part of it.
 pub fn is_sound(run: &Run, tally: &[u64], network: &[u64]) -> bool {
-    run.time < run.plan.clock_limit() && is_sound_but_for_time(run, tally, network)
+    is_sound_in(Packed, run, tally, network)
 }
 
 /// Whether nothing but "the time at or above" `views` times `gamma` can make
 /// the run unsound.
 pub fn is_sound_but_for_time(run: &Run, tally: &[u64], network: &[u64]) -> bool {
-    fits(run, tally, network)
+    lasts(Packed, run, tally, network)
+}
+
+/// Whether check 9 passes the run with a network in that form.
+pub fn is_sound_in(form: impl Form, run: &Run, tally: &[u64], network: &[u64]) -> bool {
+    run.time < run.plan.clock_limit() && lasts(form, run, tally, network)
+}
+
+/// Check 9 without its clause about the time.
+fn lasts(form: impl Form, run: &Run, tally: &[u64], network: &[u64]) -> bool {
+    fits(form, run, tally, network)
         && run.gst <= run.time
         && (run.settled || run.gst == 0)
         && processors_are_sound(run)
-        && messages_are_sound(run, network)
-        && network::beyond(network, run.held)
+        && messages_are_sound(form, run, network)
+        && network::beyond(form, network, run.held)
             .iter()
             .all(|&word| word == 0)
 }
@@ -50,19 +61,24 @@ fn processors_are_sound(run: &Run) -> bool {
 }
 
 /// Whether every held message is sound.
-fn messages_are_sound(run: &Run, network: &[u64]) -> bool {
+fn messages_are_sound(form: impl Form, run: &Run, network: &[u64]) -> bool {
     let correct = run.correct();
-    network::messages(network, run.held).iter().all(|words| {
-        words[3] <= run.time
-            && receiver(run.plan, words).is_some_and(|number| set::holds(correct, number))
+    network::messages(form, network, run.held).all(|stored| {
+        stored.sent <= run.time
+            && receiver(run.plan, stored).is_some_and(|number| set::holds(correct, number))
     })
 }
 
 /// Who a held message is addressed to, if its kind, view and processor are in
 /// range: the leader of its view for kinds 1 and 2, the processor named for 3
 /// and 4.
-fn receiver(plan: Plan, words: &[u64; network::WORDS]) -> Option<u64> {
-    let &[kind, view, processor, _] = words;
+fn receiver(plan: Plan, stored: Stored) -> Option<u64> {
+    let Stored {
+        kind,
+        view,
+        processor,
+        ..
+    } = stored;
     if view >= plan.views || processor >= plan.n {
         return None;
     }

@@ -1,6 +1,7 @@
 //! A run with its tally and network, while one event or opening alters them.
 
 use crate::check;
+use crate::form::Form;
 use crate::message::Message;
 use crate::network;
 use crate::run::Run;
@@ -9,13 +10,14 @@ use crate::tally::{self, Word};
 
 /// What an event may alter. Checks 2 to 6 hold of it, and no more messages are
 /// held than fit.
-pub(crate) struct State<'a> {
+pub(crate) struct State<'a, F> {
+    pub(crate) form: F,
     pub(crate) run: &'a mut Run,
     pub(crate) tally: &'a mut [u64],
     pub(crate) network: &'a mut [u64],
 }
 
-impl State<'_> {
+impl<F: Form> State<'_, F> {
     /// One word of a view's tally.
     pub(crate) fn tallied(&self, view: u64, which: Word) -> u64 {
         tally::word(self.tally, view, which)
@@ -39,7 +41,7 @@ impl State<'_> {
     /// Check 18: whether the network still holds all after an event that takes
     /// `removed` messages out and sends `sent`.
     pub(crate) fn room(&self, removed: u64, sent: u64) -> Result<(), u64> {
-        if self.run.held - removed + sent > network::capacity(self.network) {
+        if self.run.held - removed + sent > network::capacity(self.form, self.network) {
             return Err(check::NETWORK_FULL);
         }
         Ok(())
@@ -73,7 +75,8 @@ impl State<'_> {
     /// Puts a message into the network, sent now.
     fn send(&mut self, message: Message) {
         let time = self.run.time;
-        network::push(self.network, &mut self.run.held, message, time);
+        let held = &mut self.run.held;
+        network::push(self.form, self.network, held, message, time);
         self.run.sums.send(message);
     }
 }

@@ -1,6 +1,7 @@
 //! Runs of single ticks.
 
 use crate::check;
+use crate::form::Form;
 use crate::network;
 use crate::processor;
 use crate::run::{Answer, Run};
@@ -23,7 +24,7 @@ struct Pace {
 }
 
 impl Pace {
-    fn of(state: &State) -> Self {
+    fn of(state: &State<impl Form>) -> Self {
         let run = &*state.run;
         let mut pace = Self {
             correct: run.correct(),
@@ -38,7 +39,7 @@ impl Pace {
             pace.eve[place] = run.plan.clock_time(next) - 1;
         }
         if run.settled {
-            pace.earliest = network::earliest(state.network, run.held);
+            pace.earliest = network::earliest(state.form, state.network, run.held);
         }
         pace
     }
@@ -58,7 +59,7 @@ impl Pace {
 /// "up to m single ticks. ... The run of ticks ends before the first refused
 /// tick and reports how many it did". "A run of one tick or more is an
 /// accepted event; one that did none is refused by that check."
-pub(crate) fn run_of_ticks(state: &mut State, most: u64) -> Answer {
+pub(crate) fn run_of_ticks(state: &mut State<impl Form>, most: u64) -> Answer {
     let mut pace = Pace::of(state);
     let mut ticks = 0;
     while ticks < most {
@@ -85,7 +86,7 @@ const fn stopped(ticks: u64, held: u64, check: u64) -> Answer {
 /// "A single tick adds 1 to time and to every correct clock." Those that it
 /// brings to the clock time of an initial view enter it, by rising number and
 /// at the new time.
-fn tick(state: &mut State, pace: &mut Pace) -> Result<(), u64> {
+fn tick(state: &mut State<impl Form>, pace: &mut Pace) -> Result<(), u64> {
     if is_overdue(state.run, pace.earliest) {
         return Err(check::OVERDUE);
     }
@@ -122,7 +123,7 @@ fn advance(run: &mut Run, pace: &mut Pace) {
 
 /// How many messages the processors entering by the next tick put into the
 /// network.
-fn sent_by_clock(state: &State, entering: u64) -> u64 {
+fn sent_by_clock(state: &State<impl Form>, entering: u64) -> u64 {
     set::members(entering)
         .filter_map(|number| {
             let clock = state.run.clocks[number as usize] + 1;
@@ -133,7 +134,7 @@ fn sent_by_clock(state: &State, entering: u64) -> u64 {
 }
 
 /// Rule 1, for all the processors whose clocks the tick has brought there.
-fn enter_by_clock(state: &mut State, pace: &mut Pace, entering: u64) {
+fn enter_by_clock(state: &mut State<impl Form>, pace: &mut Pace, entering: u64) {
     let held = state.run.held;
     for number in set::members(entering) {
         let clock = state.run.clocks[number as usize];

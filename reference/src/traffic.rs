@@ -3,6 +3,7 @@
 //! message to a correct processor, put into the network.
 
 use crate::check;
+use crate::form::Packed;
 use crate::message::Message;
 use crate::network;
 use crate::print;
@@ -66,8 +67,8 @@ pub fn traffic(run: &Run, tally: &[u64], network: &[u64]) -> Result<Traffic, u64
 /// The report of a sound run.
 pub(crate) fn of_sound(run: &Run, network: &[u64]) -> Traffic {
     let mut held = [0; 4];
-    for words in network::messages(network, run.held) {
-        count(&mut held, network::message(words).kind());
+    for stored in network::messages(Packed, network, run.held) {
+        count(&mut held, stored.kind);
     }
     Traffic {
         sums: run.sums,

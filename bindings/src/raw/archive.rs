@@ -99,4 +99,24 @@ extern "C" {
         report: *mut u64,
         report_len: usize,
     ) -> u64;
+    pub fn fever_pack(
+        run: *const u64,
+        run_len: usize,
+        tally: *const u64,
+        tally_len: usize,
+        network: *const u64,
+        network_len: usize,
+        target: *mut u64,
+        target_len: usize,
+    ) -> u64;
+    pub fn fever_unpack(
+        run: *const u64,
+        run_len: usize,
+        tally: *const u64,
+        tally_len: usize,
+        network: *const u64,
+        network_len: usize,
+        target: *mut u64,
+        target_len: usize,
+    ) -> u64;
 }

@@ -172,7 +172,7 @@ fn settling_and_stopped_ticks_keep_the_sums() {
 #[test]
 fn a_refused_delivery_counts_nothing() {
     let mut simulator = Simulator::new();
-    simulator.network.truncate(32);
+    simulator.network.truncate(16);
     simulator.open(&setup(&[0, 0, 0, 0], 0));
     simulator.deliver(Kind::View, 0, 0);
     let kept = simulator.clone();
@@ -189,7 +189,7 @@ fn a_refused_delivery_counts_nothing() {
 fn of_equal_messages_the_first_was_in_flight() {
     let mut simulator = Simulator::opened(&setup(&[0, 0, 0, 0], 0));
     simulator.done(Event::Tick(3));
-    simulator.network[32..36].copy_from_slice(&[1, 0, 1, 2]);
+    simulator.network[16..18].copy_from_slice(&[1, 2]);
     simulator.run.words_mut()[raw::RUN_HELD] = 9;
     for waits in [3, 4] {
         simulator.deliver(Kind::View, 0, 1);
@@ -231,13 +231,13 @@ fn reports_of_unsound_runs_are_refused() {
         unsound.push(spoilt);
     }
     let mut spoilt = good.clone();
-    spoilt.network[0] = 5;
+    spoilt.network[0] = 256;
     unsound.push(spoilt);
     for simulator in unsound {
         assert_eq!(simulator.traffic(), Err(9));
     }
     assert_eq!(good.run.traffic(&good.tally[..23], &good.network), Err(9));
-    assert_eq!(good.run.traffic(&good.tally, &good.network[..31]), Err(9));
+    assert_eq!(good.run.traffic(&good.tally, &good.network[..15]), Err(9));
 }
 
 #[test]

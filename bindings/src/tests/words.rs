@@ -56,7 +56,7 @@ fn short_slices_are_refused_and_kept() {
         6
     );
     assert_eq!(
-        raw::open(&words, &mut run, &mut tally, &mut network[..31]),
+        raw::open(&words, &mut run, &mut tally, &mut network[..15]),
         6
     );
     assert_eq!(

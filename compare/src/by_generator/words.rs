@@ -18,7 +18,7 @@ const MOST_VIEWS: u64 = 900;
 /// the lines of some thousands.
 const MOST_STEPS: u64 = 30_000;
 /// The steps of a load that a delivery may end before.
-const ENDING_STEPS: u64 = 2_000;
+const ENDING_STEPS: u64 = 5_000;
 
 /// The words for a short load, or for an opening that is refused.
 pub fn short(draws: &mut Draws) -> Words {
@@ -64,13 +64,13 @@ pub fn ending(draws: &mut Draws) -> Words {
         n: draws.one_of(if few_views {
             &[4, 5, 7, 10]
         } else {
-            &[48, 55, 60, 64]
+            &[48, 55, 60, 60, 64]
         }),
         delta: 1,
         gamma: if few_views {
             10_000
         } else {
-            draws.one_of(&[12, 16, 20, 25, 30, 40])
+            draws.one_of(&[14, 16, 16, 18, 20, 20])
         },
         views: if few_views { 3 } else { 300 },
     };

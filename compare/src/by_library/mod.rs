@@ -1,6 +1,8 @@
 //! The comparison through the static library: raw calls on lent words, on runs
 //! sound and unsound.
 
+pub mod both_forms;
+pub mod carrying;
 pub mod lines;
 pub mod loads;
 pub mod openings;
@@ -25,7 +27,7 @@ use crate::reference_calls::guarded;
 type Case = fn(&mut Draws, &mut Counts) -> Result<(), Difference>;
 
 /// The parts, and how many cases of each make one round.
-const PARTS: [(&str, Case, u64); 10] = [
+const PARTS: [(&str, Case, u64); 12] = [
     ("openings", openings::case, 400),
     ("sound runs", sound::case, 40),
     ("unsound runs", unsound::case, 60),
@@ -36,6 +38,8 @@ const PARTS: [(&str, Case, u64); 10] = [
     ("events together", together::case, 60),
     ("loads", loads::case, 100),
     ("reports", reports::case, 40),
+    ("runs carried over", carrying::case, 60),
+    ("both forms", both_forms::case, 40),
 ];
 
 /// Compares so many rounds of every part, and answers the counts of each.

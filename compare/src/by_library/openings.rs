@@ -53,7 +53,7 @@ fn wild(draws: &mut Draws) -> Setup {
 /// Words enough for a setup, or a few too few.
 fn lent_to(setup: &Setup, draws: &mut Draws) -> State {
     let tally = 4 * setup.plan.views.min(MOST_VIEWS) as usize;
-    let network = 8 * setup.plan.n.min(64) as usize;
+    let network = 4 * setup.plan.n.min(64) as usize;
     let some = draws.place(20);
     let few = draws.one_of(&[0, tally.saturating_sub(1), tally.saturating_sub(4)]);
     let (more, beyond) = (draws.one_of(&[0, some]), draws.one_of(&[0, 1, some]));

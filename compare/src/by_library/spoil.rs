@@ -4,18 +4,24 @@
 use super::sums;
 use crate::calls::State;
 use crate::draws::Draws;
+use crate::stored::Width;
 use crate::words::{CLOCKS, RUN_WORDS, SENT, SETTLED, VIEWS};
 use reference::Run;
 
 /// Changes one thing of a state whose run was this one while it was sound.
 pub fn spoil(state: &mut State, good: &Run, draws: &mut Draws) {
+    spoil_in(Width::Two, state, good, draws);
+}
+
+/// The same, with a network in which a message takes that many words.
+pub fn spoil_in(width: Width, state: &mut State, good: &Run, draws: &mut Draws) {
     match draws.below(11) {
         0 | 1 => put(state, plan(good, draws)),
-        2 => put(state, times(state, good, draws)),
+        2 => put(state, times(width, state, good, draws)),
         3 => put(state, clock(good, draws)),
         4 | 5 => put(state, view(good, draws)),
-        6 | 7 => message(state, good, draws),
-        8 => lend_less(state, good, draws),
+        6 | 7 => message(width, state, good, draws),
+        8 => lend_less(width, state, good, draws),
         9 => put(state, sum(draws)),
         _ => {
             let (place, value) = (draws.place(state.tally.front().len()), draws.any());
@@ -64,9 +70,9 @@ fn plan(good: &Run, draws: &mut Draws) -> (usize, u64) {
 }
 
 /// The time, whether and when it settled, how many messages are held.
-fn times(state: &State, good: &Run, draws: &mut Draws) -> (usize, u64) {
+fn times(width: Width, state: &State, good: &Run, draws: &mut Draws) -> (usize, u64) {
     let limit = good.plan.clock_limit();
-    let fit = state.network.front().len() as u64 / 4;
+    let fit = (state.network.front().len() / width.words()) as u64;
     let any = draws.edge();
     let place = draws.between(5, 8) as usize;
     let value = match place {
@@ -75,8 +81,8 @@ fn times(state: &State, good: &Run, draws: &mut Draws) -> (usize, u64) {
         7 => draws.one_of(&[0, 1, good.time, good.time + 1, u64::MAX, any]),
         _ => {
             let fewer = good.held.wrapping_sub(1);
-            // Four words each, these many would wrap to few.
-            let wraps = (1 << 62) + draws.below(4);
+            // Two or four words each, these many would wrap to few.
+            let wraps = (1 << draws.between(62, 63)) + draws.below(4);
             let more = good.held + 1;
             draws.one_of(&[more, fewer, 0, fit, fit + 1, wraps, 1 << 61, u64::MAX, any])
         }
@@ -143,12 +149,12 @@ fn sum(draws: &mut Draws) -> (usize, u64) {
     (place, sums::one(draws))
 }
 
-/// A word of a held message, or one behind the last.
-fn message(state: &mut State, good: &Run, draws: &mut Draws) {
-    let plan = good.plan;
+/// A held message, or a word behind the last.
+fn message(width: Width, state: &mut State, good: &Run, draws: &mut Draws) {
     let any = draws.edge();
     let words = state.network.front_mut();
-    let used = (good.held as usize * 4).min(words.len());
+    let whole = words.len() - words.len() % width.words();
+    let used = (good.held as usize * width.words()).min(whole);
     if used == 0 || draws.per_mille(250) {
         let behind = words.len() - used;
         let some = draws.place(behind);
@@ -158,25 +164,59 @@ fn message(state: &mut State, good: &Run, draws: &mut Draws) {
         }
         return;
     }
-    let place = draws.place(used);
-    words[place] = match place % 4 {
-        0 => draws.one_of(&[0, 1, 2, 3, 4, 5, 1 << 32, any]),
+    let place = draws.place(used / width.words()) * width.words();
+    let stored = &mut words[place..place + width.words()];
+    if draws.per_mille(150) {
+        let bit = draws.below(64);
+        let word = &mut stored[draws.place(width.words())];
+        *word = draws.one_of(&[any, *word ^ 1 << bit, *word ^ 1 << (bit % 16)]);
+        return;
+    }
+    let mut fields = width.fields(stored);
+    let field = draws.place(4);
+    fields[field] = out_of_range(width, field, good, draws);
+    width.put(fields, stored);
+}
+
+/// Another kind, view, processor or sending time of a held message: most of
+/// them at an edge of their range. Two words have kinds 1 to 8 and processors
+/// 0 to 63 only.
+fn out_of_range(width: Width, field: usize, good: &Run, draws: &mut Draws) -> u64 {
+    let plan = good.plan;
+    let any = draws.edge();
+    match field {
+        0 => {
+            let other = draws.one_of(&[0, 9, 1 << 32, any]);
+            let kind = draws.one_of(&[1, 2, 3, 4, 5, 6, 7, 8, other]);
+            if let Width::Two = width {
+                kind.clamp(1, 8)
+            } else {
+                kind
+            }
+        }
         1 => {
             let inside = draws.below(plan.views);
-            draws.one_of(&[inside, inside, plan.views - 1, plan.views, any])
+            let wraps = (1 << draws.between(50, 55)) + inside;
+            draws.one_of(&[inside, plan.views - 1, plan.views, plan.views, wraps, any])
         }
         2 => {
             let inside = draws.below(plan.n);
             let faulty = u64::from(good.faulty.trailing_zeros());
-            draws.one_of(&[inside, faulty, faulty, plan.n, 64, any])
+            let processor = draws.one_of(&[inside, faulty, faulty, plan.n, plan.n, 64, any]);
+            if let Width::Two = width {
+                processor.min(63)
+            } else {
+                processor
+            }
         }
         _ => draws.one_of(&[0, good.time, good.time + 1, u64::MAX, any]),
-    };
+    }
 }
 
 /// Fewer words of one buffer, or a few that were behind it.
-fn lend_less(state: &mut State, good: &Run, draws: &mut Draws) {
-    let (tally, network) = (4 * good.plan.views as usize, 8 * good.plan.n as usize);
+fn lend_less(width: Width, state: &mut State, good: &Run, draws: &mut Draws) {
+    let (tally, network) = (4 * good.plan.views, width.least() * good.plan.n);
+    let (tally, network) = (tally as usize, network as usize);
     match draws.below(3) {
         0 => {
             let all = RUN_WORDS;

@@ -7,6 +7,7 @@ use crate::calls::{Call, State};
 use crate::draws::Draws;
 use crate::lent::Lent;
 use crate::openings;
+use crate::stored::Width;
 use crate::words::{self, put_run, setup_words, Numbers, RUN_WORDS};
 use reference::{is_sound, Event, Plan, Run, Setup};
 
@@ -25,12 +26,12 @@ pub fn fresh(draws: &mut Draws) -> (State, Setup) {
 pub fn lent_to(setup: &Setup, draws: &mut Draws) -> State {
     let Plan { n, views, .. } = setup.plan;
     let tally = 4 * views + draws.one_of(&[0, 0, 0, 1, 3, 4, 9]);
-    let some = draws.below(64) * n;
-    let beyond = draws.one_of(&[0, 0, 0, 1, 2, 3, 4, 5, 7, 8, 4 * n, 4 * n + 1, 16 * n, some]);
+    let some = draws.below(32) * n;
+    let beyond = draws.one_of(&[0, 0, 0, 1, 1, 2, 3, 4, 5, 2 * n, 2 * n + 1, 8 * n, some]);
     State {
         run: Lent::untouched(RUN_WORDS, draws),
         tally: Lent::untouched(tally as usize, draws),
-        network: Lent::untouched((8 * n + beyond) as usize, draws),
+        network: Lent::untouched((4 * n + beyond) as usize, draws),
         ..State::default()
     }
 }
@@ -110,7 +111,12 @@ pub fn next(state: &State, style: &Style, draws: &mut Draws) -> Event {
 /// no list of events need leave them: sending times in any order, messages of
 /// no one's sending, sets of signers with any bits.
 pub fn arbitrary(draws: &mut Draws) -> State {
-    let (mut state, setup) = fresh(draws);
+    let (state, setup) = fresh(draws);
+    arbitrary_of(state, &setup, draws)
+}
+
+/// The same, of this setup, in words in which it opens.
+pub fn arbitrary_of(mut state: State, setup: &Setup, draws: &mut Draws) -> State {
     let plan = setup.plan;
     let mut run = Run {
         plan,
@@ -171,12 +177,12 @@ fn fill_network(state: &mut State, run: &mut Run, draws: &mut Draws) {
     let plan = run.plan;
     let words = state.network.front_mut();
     words.fill(0);
-    let fit = words.len() as u64 / 4;
+    let fit = words.len() as u64 / 2;
     let some = draws.below(fit + 1);
     let few = draws.below(4);
     let held = draws.one_of(&[0, few, some, fit]);
     let recent = draws.per_mille(700);
-    for message in words.as_chunks_mut().0.iter_mut().take(held as usize) {
+    for words in words.chunks_exact_mut(2).take(held as usize) {
         let span = if recent { 2 * plan.delta } else { run.time };
         let sent = run.time - draws.below(span + 1).min(run.time);
         let (kind, view) = (draws.between(1, 4), draws.below(plan.views));
@@ -184,12 +190,13 @@ fn fill_network(state: &mut State, run: &mut Run, draws: &mut Draws) {
         let to = if kind < 3 { plan.lead(view) } else { processor };
         // With every leader of these few views faulty there may be none to
         // send to, but a correct processor can always be sent a certificate.
-        *message = if run.correct() >> to & 1 == 1 {
+        let message = if run.correct() >> to & 1 == 1 {
             [kind, view, processor, sent]
         } else {
             let correct = u64::from(run.correct().trailing_zeros());
             [draws.between(3, 4), view, correct, sent]
         };
+        Width::Two.put(message, words);
     }
     run.held = held;
 }

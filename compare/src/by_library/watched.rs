@@ -130,7 +130,7 @@ mod tests {
         let mut state = State {
             run: lent(RUN_WORDS),
             tally: lent(24),
-            network: lent(32),
+            network: lent(16),
             report: lent(TRAFFIC_WORDS),
             ..State::default()
         };

@@ -132,7 +132,7 @@ fn rounds(gamma: u64) -> Times {
         gamma,
         views: 3 * (ROUNDS + 1),
     };
-    let words = 4 * 8 * (ROUNDS as usize + 1);
+    let words = 2 * 8 * (ROUNDS as usize + 1);
     ticked(&opened(plan, [0; 64], words), 3 * gamma * ROUNDS, 1)
 }
 
@@ -151,7 +151,7 @@ fn busy() -> Times {
     for (number, clock) in clocks.iter_mut().enumerate() {
         *clock = number as u64 % 6;
     }
-    let words = 4 * 120 * (BUSY as usize / 6 + 2);
+    let words = 2 * 120 * (BUSY as usize / 6 + 2);
     ticked(&opened(plan, clocks, words), BUSY, 4)
 }
 
@@ -173,7 +173,7 @@ mod tests {
             gamma: 2,
             views: 3 * (ROUNDS + 1),
         };
-        let words = 4 * 8 * (ROUNDS as usize + 1);
+        let words = 2 * 8 * (ROUNDS as usize + 1);
         all(&mut opened(plan, [0; 64], words), 6 * ROUNDS);
     }
 }

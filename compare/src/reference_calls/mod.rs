@@ -8,7 +8,7 @@ use crate::words::{
     self, Numbers, HELD, LOAD_WORDS, OPENING, READ_WORDS, RUN_WORDS, SETTLED, SETUP_WORDS, TIME,
     TRAFFIC_WORDS,
 };
-use reference::{Answer, Input, Plan, Processor, Reading, Stepped};
+use reference::{Answer, Form, Input, Packed, Plan, Processor, Reading, Run, Stepped, Wide};
 use std::panic::{catch_unwind, AssertUnwindSafe};
 
 /// What a call answers; none if it panics. What it was lent is then not looked
@@ -27,11 +27,23 @@ const fn check_of(answer: &Answer) -> u64 {
 
 /// Opens a setup.
 pub fn open(setup: &[u64], run: &mut [u64], tally: &mut [u64], network: &mut [u64]) -> u64 {
+    open_in(Packed, setup, run, tally, network)
+}
+
+/// Opens a setup with a network in that form.
+pub fn open_in(
+    form: impl Form,
+    setup: &[u64],
+    run: &mut [u64],
+    tally: &mut [u64],
+    network: &mut [u64],
+) -> u64 {
     if setup.len() < SETUP_WORDS || run.len() < RUN_WORDS {
         return 1;
     }
     let mut opened = words::run_of(run);
-    let answer = reference::open(&words::setup_of(setup), &mut opened, tally, network);
+    let setup = words::setup_of(setup);
+    let answer = reference::open_in(form, &setup, &mut opened, tally, network);
     if !matches!(answer, Answer::Refused(_)) {
         words::put_run(&opened, run);
     }
@@ -40,6 +52,17 @@ pub fn open(setup: &[u64], run: &mut [u64], tally: &mut [u64], network: &mut [u6
 
 /// Applies an event.
 pub fn apply(run: &mut [u64], numbers: Numbers, tally: &mut [u64], network: &mut [u64]) -> u64 {
+    apply_in(Packed, run, numbers, tally, network)
+}
+
+/// Applies an event to a run with a network in that form.
+pub fn apply_in(
+    form: impl Form,
+    run: &mut [u64],
+    numbers: Numbers,
+    tally: &mut [u64],
+    network: &mut [u64],
+) -> u64 {
     if run.len() < RUN_WORDS {
         return 1;
     }
@@ -50,7 +73,7 @@ pub fn apply(run: &mut [u64], numbers: Numbers, tally: &mut [u64], network: &mut
         return 9;
     }
     let mut moved = words::run_of(run);
-    let answer = reference::apply(&mut moved, event, tally, network);
+    let answer = reference::apply_in(form, &mut moved, event, tally, network);
     if !matches!(answer, Answer::Refused(_)) {
         words::put_run(&moved, run);
     }
@@ -204,4 +227,38 @@ pub fn traffic(run: &[u64], tally: &[u64], network: &[u64], report: &mut [u64]) 
             0
         }
     }
+}
+
+/// Carries a run over from four words a message to two.
+pub fn pack(run: &[u64], tally: &[u64], network: &[u64], target: &mut [u64]) -> u64 {
+    carry(run, (Packed, target), |run, target| {
+        reference::pack(run, tally, network, target)
+    })
+}
+
+/// Carries a run over from two words a message to four.
+pub fn unpack(run: &[u64], tally: &[u64], network: &[u64], target: &mut [u64]) -> u64 {
+    carry(run, (Wide, target), |run, target| {
+        reference::unpack(run, tally, network, target)
+    })
+}
+
+/// Carries a run over to a target in that form. A settled word above 1 makes
+/// the run unsound, which is asked behind the target's length.
+fn carry(
+    run: &[u64],
+    (form, target): (impl Form, &mut [u64]),
+    carried: impl FnOnce(&Run, &mut [u64]) -> Result<(), u64>,
+) -> u64 {
+    if run.len() < RUN_WORDS {
+        return 1;
+    }
+    let decoded = words::run_of(run);
+    let fits = reference::target_fits(form, &decoded, target.len());
+    if fits.is_ok() && run[SETTLED] > 1 {
+        return 9;
+    }
+    fits.and_then(|()| carried(&decoded, target))
+        .err()
+        .unwrap_or(0)
 }

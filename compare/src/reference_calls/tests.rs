@@ -24,7 +24,7 @@ fn openings_and_events() {
     );
     assert_eq!(open(&setup(), &mut run, &mut tally[..23], &mut network), 6);
     assert_eq!(open(&setup(), &mut run, &mut tally, &mut network), 0);
-    assert_eq!((run[0], run[8], network[0]), (4, 8, 1));
+    assert_eq!((run[0], run[8], network[2]), (4, 8, 64));
     let mut call = |numbers| apply(&mut run, numbers, &mut tally, &mut network);
     assert_eq!(call([1, 5, 0, 0]), 1);
     assert_eq!(call([1, 1, 0, 0]), 0);
@@ -145,4 +145,39 @@ fn reports() {
     assert_eq!(call(&run, 14), 0);
     assert_eq!(report, [4, 4, 4, 0, 2, 0, 0, 0, 2, 4, 4, 0, 6, 7]);
     assert_eq!(report[..8], run[SENT..WAITS]);
+}
+
+#[test]
+fn runs_carried_over() {
+    let (mut run, mut tally, mut network) = (vec![7; RUN_WORDS], vec![0; 24], vec![0; 17]);
+    open(&setup(), &mut run, &mut tally, &mut network);
+    let mut wide = [7; 35];
+    assert_eq!(unpack(&run[..145], &tally, &network, &mut wide), 1);
+    assert_eq!(unpack(&run, &tally, &network, &mut wide[..31]), 6);
+    run[SETTLED] = 2;
+    assert_eq!(unpack(&run, &tally, &network, &mut wide[..31]), 6);
+    assert_eq!(unpack(&run, &tally, &network, &mut wide), 9);
+    run[SETTLED] = 0;
+    assert_eq!(unpack(&run, &tally[1..], &network, &mut wide), 9);
+    assert_eq!(wide, [7; 35]);
+    assert_eq!(unpack(&run, &tally, &network, &mut wide), 0);
+    assert_eq!(
+        (&wide[4..12], &wide[32..]),
+        (&[2, 0, 0, 0, 1, 0, 1, 0][..], &[0; 3][..])
+    );
+    let mut packed = [7; 17];
+    assert_eq!(pack(&run, &tally, &network, &mut packed), 9);
+    assert_eq!(pack(&run, &tally, &wide, &mut packed[..15]), 6);
+    assert_eq!(packed, [7; 17]);
+    assert_eq!(pack(&run, &tally, &wide, &mut packed), 0);
+    assert_eq!(packed[..], network);
+    let apply = |run: &mut [u64], tally: &mut [u64], network: &mut [u64]| {
+        apply_in(Wide, run, [5, 0, 12, 0], tally, network)
+    };
+    assert_eq!(apply(&mut run, &mut tally, &mut wide), 18);
+    assert_eq!(run[TIME], 11);
+    assert_eq!(
+        open_in(Wide, &setup(), &mut run, &mut tally, &mut wide[..31]),
+        6
+    );
 }

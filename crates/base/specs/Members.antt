@@ -1,5 +1,5 @@
 -- Members of a list, and what holds of every one. Assumes nothing.
-use mathlib.Core.Path.{_≡_}
+use mathlib.Core.Path.{_≡_, refl}
 use mathlib.Core.Logic.{_⊎_, inl, inr, ⊎-elim}
 use mathlib.Core.List.{List, [], _∷_, _++_}
 
@@ -37,6 +37,10 @@ module _ {A : Type 0} (P : A → Type 0) where
   pub every-append : (a b : List A) → Every P a → Every P b → Every P (a ++ b)
   every-append [] b h k = k
   every-append (x ∷ a) b h k = (h .0, every-append a b (h .1) k)
+
+  pub every-of : (a : List A) → ((m : A) → Elem m a → P m) → Every P a
+  every-of [] h = tt
+  every-of (x ∷ a) h = (h x (inl refl), every-of a (λ m i. h m (inr i)))
 
   pub every-first : (a b : List A) → Every P (a ++ b) → Every P a
   every-first [] b h = tt

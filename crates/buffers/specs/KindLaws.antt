@@ -9,6 +9,7 @@ use borrow.Author.Tests.{lt-ltb, le-ltb}
 use Rattle.base.specs.Choice.{or-second, or-neither}
 use Rattle.base.specs.Tests.{by-cond}
 use Rattle.types.specs.declared.Message.{Message}
+use Rattle.types.specs.declared.Form.{Form}
 use Rattle.types.specs.declared.Message.the-variants.{View, Vote, Vc, Qc}
 use Rattle.types.specs.Messages.{kindLeast, kindMost, IsKind}
 use Rattle.model.specs.State.{Held, heldAs, heldAt, capacity}
@@ -51,12 +52,12 @@ unknown (Holds m) = false
 unknown Unknown = true
 
 -- the words are those of the message
-pub stored-holds : (ws : List ℕ) (i : ℕ) (m : Message) → stored ws i ≡ Holds m → heldAt ws i ≡ heldAs (heldAt ws i .sent) m
-stored-holds ws i m e =
-    let h : Held = heldAt ws i in
-    by-cond (λ (s : Stored). s ≡ Holds m → Says h (Holds m)) (ltb i (capacity ws)) (storedAs (h .kind) (h .view) (h .processor)) Unknown
+pub stored-holds : (form : Form) (ws : List ℕ) (i : ℕ) (m : Message) → stored form ws i ≡ Holds m → heldAt form ws i ≡ heldAs (heldAt form ws i .sent) m
+stored-holds form ws i m e =
+    let h : Held = heldAt form ws i in
+    by-cond (λ (s : Stored). s ≡ Holds m → Says h (Holds m)) (ltb i (capacity form ws)) (storedAs (h .kind) (h .view) (h .processor)) Unknown
     (λ t q. subst (Says h) q (says h)) (λ t q. absurd (subst (λ (s : Stored). T (unknown s)) q tt)) e
 
 -- the kind is out of range
-pub stored-unknown : (ws : List ℕ) (i : ℕ) → i < capacity ws → stored ws i ≡ Unknown → kindOutside (heldAt ws i .kind) ≡ true
-stored-unknown ws i l e = subst (Says (heldAt ws i)) (rw (lt-ltb i (capacity ws) l) at e) (says (heldAt ws i))
+pub stored-unknown : (form : Form) (ws : List ℕ) (i : ℕ) → i < capacity form ws → stored form ws i ≡ Unknown → kindOutside (heldAt form ws i .kind) ≡ true
+stored-unknown form ws i l e = subst (Says (heldAt form ws i)) (rw (lt-ltb i (capacity form ws) l) at e) (says (heldAt form ws i))

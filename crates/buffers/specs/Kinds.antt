@@ -3,6 +3,7 @@ use mathlib.Core.Bool.{cond}
 use mathlib.Core.List.{List}
 use Prim.Native.Nat.{ℕ}
 use lib.Dec.{eqb, ltb}
+use Rattle.types.specs.declared.Form.{Form}
 use Rattle.types.specs.declared.Message.the-variants.{View, Vote, Vc, Qc}
 use Rattle.model.specs.State.{heldAt, capacity}
 use Rattle.buffers.specs.declared.Stored.{Stored}
@@ -16,6 +17,10 @@ storedAs kind w p =
     (cond (eqb kind 3) (Holds (Vc w p))
     (cond (eqb kind 4) (Holds (Qc w p)) Unknown)))
 
+-- by the words of message i
+abbrev pub storedHere : Form → List ℕ → ℕ → Stored
+storedHere form ws i = let h = heldAt form ws i in storedAs (h .kind) (h .view) (h .processor)
+
 -- message i, where so many fit
-abbrev pub stored : List ℕ → ℕ → Stored
-stored ws i = let h = heldAt ws i in cond (ltb i (capacity ws)) (storedAs (h .kind) (h .view) (h .processor)) Unknown
+abbrev pub stored : Form → List ℕ → ℕ → Stored
+stored form ws i = cond (ltb i (capacity form ws)) (storedHere form ws i) Unknown

@@ -1,17 +1,21 @@
-// The two lent buffers: the tally, four 64-bit words a view, and the network, four words a message.
+// The two lent buffers: the tally, four 64-bit words a view, and the network, two words a message; four in the wide form, which runs are carried over
+// from and to.
+use types::Form;
 use types::Message;
 ghost use mathlib.Core.Path.{_≡_};
+ghost use mathlib.Core.Bool.{true, cond};
 ghost use mathlib.Core.List.{[], _∷_, _++_};
-ghost use Prim.Native.Nat.{_+_, _*_, _<_, _≤_};
+ghost use Prim.Native.Nat.{_+_, _*_, _^_, _<_, _≤_};
 ghost use lib.ListN.{length, take, drop};
 ghost use Rattle.base.specs.Scan.{first};
 ghost use Rattle.base.specs.Sets.{member};
-ghost use Rattle.types.specs.Quantities.{messageWords};
-ghost use Rattle.model.specs.State.{capacity, word, added, enteredWord, heardWord, marksWord, markBit, heldAt, posted, removed};
-ghost use Rattle.model.specs.Checks.{isAt};
+ghost use Rattle.types.specs.Quantities.{width};
+ghost use Rattle.types.specs.Messages.{kindOf, viewIn, processorIn};
+ghost use Rattle.model.specs.State.{capacity, word, added, enteredWord, heardWord, marksWord, markBit, packedWord, heldAt, posted, removed};
 ghost use Rattle.buffers.specs.Tally.{place, addedWord};
-ghost use Rattle.buffers.specs.Network.{appended, found, taken, moved};
-ghost use Rattle.buffers.specs.Kinds.{storedAs, stored};
+ghost use Rattle.buffers.specs.Network.{packable, appended, found, taken, beginsWith, timePlace, moved};
+ghost use Rattle.buffers.specs.Kinds.{storedAs, storedHere, stored};
+ghost use Rattle.buffers.specs.Zeros.{zeroed};
 
 // The words of a view in the tally.
 pub const ROW_WORDS: usize = 4;
@@ -30,8 +34,31 @@ const VIEW_CERTIFICATE_FORMED: u64 = 0;
 
 const QUORUM_CERTIFICATE_FORMED: u64 = 1;
 
-// The words of a message in the network.
-pub const MESSAGE_WORDS: usize = 4;
+// A packed word: the view above nine bits, of which three are for the kind less one and six for the processor.
+const VIEW_UNIT: u64 = 512;
+
+const KIND_UNIT: u64 = 64;
+
+const KIND_PLACES: u64 = 8;
+
+const PROCESSOR_PLACES: u64 = 64;
+
+// Views from this one on have no packed word.
+const VIEWS_PACKED: u64 = 36028797018963968;
+
+// The first k words become 0; where there are fewer nothing changes.
+pub fn zero_words(words: &mut [u64], k: usize)
+    ensures { λ r. ⌜ now (words .exit) ≡ zeroed (now (words .entry)) k ⌝ }
+{
+    if words.len() < k {
+        return;
+    }
+    let mut i = 0;
+    while i < k {
+        words[i] = 0;
+        i += 1;
+    }
+}
 
 // Where word j of view w stands in a tally of `len` words, or `len` where it lies beyond the end.
 fn place_in(len: usize, w: u64, j: usize) -> usize
@@ -134,58 +161,79 @@ pub fn mark(tally: &mut [u64], stage: bool, w: u64)
 }
 
 // How many messages fit.
-pub fn capacity(network: &[u64]) -> usize
-    ensures { λ r. ⌜ r ≡ capacity (now (network .entry)) ⌝ }
+pub fn capacity(form: Form, network: &[u64]) -> usize
+    ensures { λ r. ⌜ r ≡ capacity form (now (network .entry)) ⌝ }
 {
     let words = network.len();
-    words / MESSAGE_WORDS
+    match form {
+        Form::Wide => words / Form::WIDE_WORDS,
+        Form::Packed => words / Form::PACKED_WORDS,
+    }
 }
 
-// The message behind the h that are held.
-fn put(network: &mut [u64], h: usize, m: Message, sent: u64)
-    requires { ⌜ messageWords * h + messageWords ≤ length (now network) ⌝ }
-    ensures { λ r. ⌜ now (network .exit) ≡ posted (now (network .entry)) h sent (m ∷ []) ⌝ }
+// Whether a packed word can say the message.
+fn is_packable(m: Message) -> bool
+    ensures { λ r. ⌜ r ≡ packable m ⌝ }
 {
-    let at = MESSAGE_WORDS * h;
+    if m.view() < VIEWS_PACKED {
+        return m.processor() < PROCESSOR_PLACES;
+    }
+    false
+}
+
+// The packed word of a message.
+fn pack(m: Message) -> u64
+    requires { ⌜ packable m ≡ true ⌝ }
+    ensures { λ r. ⌜ r ≡ packedWord (kindOf m) (viewIn m) (processorIn m) ⌝ }
+{
+    m.view() * VIEW_UNIT + (m.kind() - 1) * KIND_UNIT + m.processor()
+}
+
+// The message behind the h that are held, in four words.
+fn put_wide(network: &mut [u64], h: usize, m: Message, sent: u64)
+    requires { ⌜ width Form.Wide * h + width Form.Wide ≤ length (now network) ⌝ }
+    ensures { λ r. ⌜ now (network .exit) ≡ posted Form.Wide (now (network .entry)) h sent (m ∷ []) ⌝ }
+{
+    let at = Form::WIDE_WORDS * h;
     network[at] = m.kind();
     network[at + 1] = m.view();
     network[at + 2] = m.processor();
     network[at + 3] = sent;
 }
 
-// The message behind the held ones; where there is no room nothing changes.
-pub fn append(network: &mut [u64], held: usize, message: Message, sent: u64)
-    ensures { λ r. ⌜ now (network .exit) ≡ appended (now (network .entry)) held sent message ⌝ }
+// The same in two words, where they can say it.
+fn put_packed(network: &mut [u64], h: usize, m: Message, sent: u64)
+    requires { ⌜ width Form.Packed * h + width Form.Packed ≤ length (now network) ⌝ }
+    ensures { λ r. ⌜ now (network .exit) ≡ cond (packable m) (posted Form.Packed (now (network .entry)) h sent (m ∷ [])) (now (network .entry)) ⌝ }
 {
-    if network.len() / MESSAGE_WORDS <= held {
+    if is_packable(m) {
+        let at = Form::PACKED_WORDS * h;
+        network[at] = pack(m);
+        network[at + 1] = sent;
+    }
+}
+
+// The message behind the held ones; where there is no room, or where the form's words cannot say it, nothing changes.
+pub fn append(form: Form, network: &mut [u64], held: usize, message: Message, sent: u64)
+    ensures { λ r. ⌜ now (network .exit) ≡ appended form (now (network .entry)) held sent message ⌝ }
+{
+    if capacity(form, network) <= held {
         return;
     }
-    put(network, held, message, sent);
-}
-
-// Whether message i is m.
-fn is_at(network: &[u64], m: Message, i: usize) -> bool
-    requires { ⌜ messageWords * i + messageWords ≤ length (now network) ⌝ }
-    ensures { λ r. ⌜ r ≡ isAt (now (network .entry)) m i ⌝ }
-{
-    let at = MESSAGE_WORDS * i;
-    if network[at] == m.kind() {
-        if network[at + 1] == m.view() {
-            return network[at + 2] == m.processor();
-        }
-        return false;
+    match form {
+        Form::Wide => put_wide(network, held, message, sent),
+        Form::Packed => put_packed(network, held, message, sent),
     }
-    false
 }
 
-// The first of h messages that is m, or h.
-fn scan(network: &[u64], h: usize, m: Message) -> usize
-    requires { ⌜ messageWords * h ≤ length (now network) ⌝ }
-    ensures { λ r. ⌜ r ≡ first (isAt (now (network .entry)) m) h ⌝ }
+// The first of h messages whose first word is x, or h.
+fn scan(network: &[u64], h: usize, x: u64) -> usize
+    requires { ⌜ width Form.Packed * h ≤ length (now network) ⌝ }
+    ensures { λ r. ⌜ r ≡ first (beginsWith (now (network .entry)) x) h ⌝ }
 {
     let mut i = 0;
     while i < h {
-        if is_at(network, m, i) {
+        if network[Form::PACKED_WORDS * i] == x {
             return i;
         }
         i += 1;
@@ -193,66 +241,66 @@ fn scan(network: &[u64], h: usize, m: Message) -> usize
     h
 }
 
-// The first of equal ones; `held` where there is none, and where so many do not fit.
+// The first of equal ones; `held` where there is none, where so many do not fit, and where no packed word says the message.
 pub fn find(network: &[u64], held: usize, message: Message) -> usize
     ensures { λ r. ⌜ r ≡ found (now (network .entry)) held message ⌝ }
 {
-    if network.len() / MESSAGE_WORDS < held {
+    if capacity(Form::Packed, network) < held {
         return held;
     }
-    scan(network, held, message)
+    if is_packable(message) {
+        return scan(network, held, pack(message));
+    }
+    held
 }
 
 // The n words behind message place a move down over it.
 fn close_up(network: &mut [u64], a: usize, n: usize)
-    requires { ⌜ a + n + messageWords ≤ length (now network) ⌝ }
+    requires { ⌜ a + n + width Form.Packed ≤ length (now network) ⌝ }
     ensures { λ r. ⌜ now (network .exit) ≡ moved (now (network .entry)) a n ⌝ }
 {
     let mut k = 0;
     while k < n {
-        let x = network[a + k + MESSAGE_WORDS];
+        let x = network[a + k + Form::PACKED_WORDS];
         network[a + k] = x;
         k += 1;
     }
 }
 
-// The four words from place a on become 0.
+// The two words from place a on become 0.
 fn clear(network: &mut [u64], a: usize)
-    requires { ⌜ a + messageWords ≤ length (now network) ⌝ }
-    ensures { λ r. ⌜ now (network .exit) ≡ take a (now (network .entry)) ++ (0 ∷ 0 ∷ 0 ∷ 0 ∷ []) ++ drop (a + messageWords) (now (network .entry)) ⌝ }
+    requires { ⌜ a + width Form.Packed ≤ length (now network) ⌝ }
+    ensures { λ r. ⌜ now (network .exit) ≡ take a (now (network .entry)) ++ (0 ∷ 0 ∷ []) ++ drop (a + width Form.Packed) (now (network .entry)) ⌝ }
 {
     network[a] = 0;
     network[a + 1] = 0;
-    network[a + 2] = 0;
-    network[a + 3] = 0;
 }
 
 // Of h messages the one at i goes.
 fn take_out(network: &mut [u64], h: usize, i: usize)
-    requires { ⌜ (i < h) × (messageWords * h ≤ length (now network)) ⌝ }
-    ensures { λ r. ⌜ now (network .exit) ≡ removed (now (network .entry)) h i ⌝ }
+    requires { ⌜ (i < h) × (width Form.Packed * h ≤ length (now network)) ⌝ }
+    ensures { λ r. ⌜ now (network .exit) ≡ removed Form.Packed (now (network .entry)) h i ⌝ }
 {
-    let a = MESSAGE_WORDS * i;
-    let n = MESSAGE_WORDS * (h - i - 1);
+    let a = Form::PACKED_WORDS * i;
+    let n = Form::PACKED_WORDS * (h - i - 1);
     close_up(network, a, n);
     clear(network, a + n);
 }
 
 // Message i goes, the rest close up, and the place that falls free is 0; where there is no such message nothing changes.
 pub fn remove(network: &mut [u64], held: usize, i: usize)
-    ensures { λ r. ⌜ now (network .exit) ≡ taken (now (network .entry)) held i ⌝ }
+    ensures { λ r. ⌜ now (network .exit) ≡ taken Form.Packed (now (network .entry)) held i ⌝ }
 {
     if held <= i {
         return;
     }
-    let room = network.len() / MESSAGE_WORDS;
-    if room < held {
+    if capacity(Form::Packed, network) < held {
         return;
     }
     take_out(network, held, i);
 }
 
-// What four words of the network say: a message, or none, where the kind is no message's or so many do not fit.
+// What the words of the network say at a place: a message, or none, where the kind is no message's or so many do not fit.
 pub enum Stored {
     Holds(Message),
     Unknown,
@@ -271,25 +319,58 @@ pub fn stored_as(kind: u64, w: u64, p: u64) -> Stored
     }
 }
 
-// Message i of the network.
-pub fn decode(network: &[u64], i: usize) -> Stored
-    ensures { λ r. ⌜ r ≡ stored (now (network .entry)) i ⌝ }
+// Message i of a network of four words a message.
+fn decode_wide(network: &[u64], i: usize) -> Stored
+    requires { ⌜ width Form.Wide * i + width Form.Wide ≤ length (now network) ⌝ }
+    ensures { λ r. ⌜ r ≡ storedHere Form.Wide (now (network .entry)) i ⌝ }
 {
-    if network.len() / MESSAGE_WORDS <= i {
-        return Stored::Unknown;
-    }
-    let at = MESSAGE_WORDS * i;
+    let at = Form::WIDE_WORDS * i;
     stored_as(network[at], network[at + 1], network[at + 2])
 }
 
-// When message i was sent; 0 beyond the end.
-pub fn sent(network: &[u64], i: usize) -> u64
-    ensures { λ r. ⌜ r ≡ heldAt (now (network .entry)) i .sent ⌝ }
+// Message i of a network of two.
+fn decode_packed(network: &[u64], i: usize) -> Stored
+    requires { ⌜ width Form.Packed * i + width Form.Packed ≤ length (now network) ⌝ }
+    ensures { λ r. ⌜ r ≡ storedHere Form.Packed (now (network .entry)) i ⌝ }
 {
-    let room = network.len() / MESSAGE_WORDS;
-    if room <= i {
+    let x = network[Form::PACKED_WORDS * i];
+    stored_as(
+        x / KIND_UNIT % KIND_PLACES + 1,
+        x / VIEW_UNIT,
+        x % PROCESSOR_PLACES,
+    )
+}
+
+// Message i of the network.
+pub fn decode(form: Form, network: &[u64], i: usize) -> Stored
+    ensures { λ r. ⌜ r ≡ stored form (now (network .entry)) i ⌝ }
+{
+    if capacity(form, network) <= i {
+        return Stored::Unknown;
+    }
+    match form {
+        Form::Wide => decode_wide(network, i),
+        Form::Packed => decode_packed(network, i),
+    }
+}
+
+// Where the sending time of message i stands.
+fn time_place(form: Form, i: usize) -> usize
+    requires { ⌜ width form * i + width form < 2 ^ 64 ⌝ }
+    ensures { λ r. ⌜ r ≡ timePlace form i ⌝ }
+{
+    match form {
+        Form::Wide => Form::WIDE_WORDS * i + 3,
+        Form::Packed => Form::PACKED_WORDS * i + 1,
+    }
+}
+
+// When message i was sent; 0 beyond the end.
+pub fn sent(form: Form, network: &[u64], i: usize) -> u64
+    ensures { λ r. ⌜ r ≡ heldAt form (now (network .entry)) i .sent ⌝ }
+{
+    if capacity(form, network) <= i {
         return 0;
     }
-    let at = MESSAGE_WORDS * i + 3;
-    network[at]
+    network[time_place(form, i)]
 }

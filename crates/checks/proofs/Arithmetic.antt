@@ -1,14 +1,14 @@
--- What of checks 5 and 8 follows by arithmetic. Assumes nothing.
-use mathlib.Core.Path.{_≡_, sym, _∙_}
-use mathlib.Core.Logic.{⊎-elim}
+-- What of checks 5, 6 and 8 follows by arithmetic. Assumes nothing.
+use mathlib.Core.Path.{_≡_, sym, _∙_, subst}
+use mathlib.Core.Logic.{_⊎_, inl, inr, ⊎-elim}
 use mathlib.Core.Bool.{Bool, true, false, not, _||_}
 use Prim.Native.Nat.{ℕ, _+_, _-_, _*_, _/_, _^_, _≤_, _<_}
 use native.Mathlib.Omega.{arith}
-use native.Mathlib.Nat.{div-eq-of-lt, le-div-iff-mul-le}
-use lib.Dec.{eqb, leb, ltb}
+use native.Mathlib.Nat.{div-eq-of-lt, le-div-iff-mul-le, mul-comm}
+use lib.Dec.{T, eqb, leb, ltb, ltb→lt, lt→ltb}
 use lib.Pow.{pow-mono, pow-pos}
 use borrow.Author.Tests.{le-leb, lt-leb, eq-eqb, ne-eqb}
-use Rattle.base.specs.Tests.{le?}
+use Rattle.base.specs.Tests.{le?, T-iff}
 use Rattle.base.specs.Choice.{not-yes, not-no}
 
 -- a set has no number at 64 or above
@@ -41,3 +41,15 @@ ltb-as a b x y e q = rw (e, q)
 -- a first test that is known to fail
 pub or-skip : (a b : Bool) → a ≡ false → (a || b) ≡ b
 or-skip a b e = rw e
+
+-- so many words for each of n processors, or as many processors as the words are enough for
+pub serves : (each words n : ℕ) → 0 < each → ltb (words / each) n ≡ ltb words (each * n)
+serves each words n some' = T-iff (ltb (words / each) n) (ltb words (each * n)) (λ t. fewer (ltb→lt _ _ t) (le? (each * n) words)) (λ t. more (ltb→lt _ _ t) (le? n (words / each)))
+  where
+    fewer : words / each < n → (each * n ≤ words) ⊎ (words < each * n) → T (ltb words (each * n))
+    fewer l (inl g) = absurd (omega (arith, le-div-iff-mul-le {k = each} {x = n} {y = words} some' .1 (subst (λ (z : ℕ). z ≤ words) (mul-comm each n) g)))
+    fewer l (inr g) = lt→ltb _ _ g
+
+    more : words < each * n → (n ≤ words / each) ⊎ (words / each < n) → T (ltb (words / each) n)
+    more l (inl g) = absurd (omega (arith, le-div-iff-mul-le {k = each} {x = n} {y = words} some' .0 g, mul-comm each n))
+    more l (inr g) = lt→ltb _ _ g

@@ -9,6 +9,7 @@ use borrow.Author.Tests.{eq-eqb, ne-eqb, eqb-true}
 use Rattle.base.specs.Tests.{T-left, T-right}
 use Rattle.base.specs.Choice.{cond-no}
 use Rattle.types.specs.declared.Plan.{Plan}
+use Rattle.types.specs.declared.Form.the-variants.{Packed}
 use Rattle.types.specs.declared.Setup.{Setup}
 use Rattle.model.specs.State.{State, After, refused}
 use Rattle.model.specs.Checks.{Check, judged, nOutside, delaysOutside, viewsOutside, planOutside, faultyOutside, lengthsOutside, startTooHigh, tooFarAhead}
@@ -84,7 +85,7 @@ none false f l s a n h e = absurd (omega (arith, h refl))
 pub record Passed (u : Setup) (tally network : ℕ) : Type 0 where
   pub plan : planOutside (u .plan) ≡ false
   pub faulty : faultyOutside (u .plan) (u .faulty) ≡ false
-  pub lengths : lengthsOutside (u .plan) tally network ≡ false
+  pub lengths : lengthsOutside Packed (u .plan) tally network ≡ false
   pub start : startTooHigh (u .plan) (u .faulty) (u .clocks) ≡ false
   pub ahead : tooFarAhead (u .plan) (u .faulty) (u .clocks) ≡ false
 
@@ -96,7 +97,7 @@ module _ (u : Setup) (tally network : ℕ) where
   faulty = faultyOutside plan (u .faulty)
 
   abbrev short : Bool
-  short = lengthsOutside plan tally network
+  short = lengthsOutside Packed plan tally network
 
   abbrev high : Bool
   high = startTooHigh plan (u .faulty) (u .clocks)
@@ -108,32 +109,32 @@ module _ (u : Setup) (tally network : ℕ) where
   refusal = planCheck plan
 
   -- checks 2 to 4 together, then 5 to 8
-  steps : setupCheck u tally network ≡ turns (eqb refusal 0) faulty short high ahead refusal
+  steps : setupCheck Packed u tally network ≡ turns (eqb refusal 0) faulty short high ahead refusal
   unfolding setupCheck
   steps = (by-number (λ r. r) ((2, nOutside plan) ∷ (3, delaysOutside plan) ∷ (4, viewsOutside plan) ∷ []) _ tt)
 
   passed : refusal ≤ 0 → eqb refusal 0 ≡ true
   passed l = eq-eqb refusal 0 (omega arith)
 
-  pub by-plan : (r : ℕ) → r ≡ planCheck plan → 0 < r → r ≡ setupCheck u tally network
+  pub by-plan : (r : ℕ) → r ≡ planCheck plan → 0 < r → r ≡ setupCheck Packed u tally network
   by-plan r e l = e ∙ turn2 (eqb refusal 0) faulty short high ahead refusal (ne-eqb refusal 0 (λ z. absurd (omega arith))) ∙ sym steps
 
-  pub by-faulty : planCheck plan ≤ 0 → faulty ≡ true → 5 ≡ setupCheck u tally network
+  pub by-faulty : planCheck plan ≤ 0 → faulty ≡ true → 5 ≡ setupCheck Packed u tally network
   by-faulty l a = turn5 (eqb refusal 0) faulty short high ahead refusal (passed l) a ∙ sym steps
 
-  pub by-lengths : planCheck plan ≤ 0 → faulty ≡ false → short ≡ true → 6 ≡ setupCheck u tally network
+  pub by-lengths : planCheck plan ≤ 0 → faulty ≡ false → short ≡ true → 6 ≡ setupCheck Packed u tally network
   by-lengths l a b = turn6 (eqb refusal 0) faulty short high ahead refusal (passed l) a b ∙ sym steps
 
-  pub by-start : planCheck plan ≤ 0 → faulty ≡ false → short ≡ false → high ≡ true → 7 ≡ setupCheck u tally network
+  pub by-start : planCheck plan ≤ 0 → faulty ≡ false → short ≡ false → high ≡ true → 7 ≡ setupCheck Packed u tally network
   by-start l a b c = turn7 (eqb refusal 0) faulty short high ahead refusal (passed l) a b c ∙ sym steps
 
-  pub by-ahead : planCheck plan ≤ 0 → faulty ≡ false → short ≡ false → high ≡ false → ahead ≡ true → 8 ≡ setupCheck u tally network
+  pub by-ahead : planCheck plan ≤ 0 → faulty ≡ false → short ≡ false → high ≡ false → ahead ≡ true → 8 ≡ setupCheck Packed u tally network
   by-ahead l a b c d = turn8 (eqb refusal 0) faulty short high ahead refusal (passed l) a b c d ∙ sym steps
 
-  pub by-none : planCheck plan ≤ 0 → faulty ≡ false → short ≡ false → high ≡ false → ahead ≡ false → 0 ≡ setupCheck u tally network
+  pub by-none : planCheck plan ≤ 0 → faulty ≡ false → short ≡ false → high ≡ false → ahead ≡ false → 0 ≡ setupCheck Packed u tally network
   by-none l a b c d = turn0 (eqb refusal 0) faulty short high ahead refusal (passed l) a b c d ∙ sym steps
 
-  pub setup-passed : setupCheck u tally network ≡ 0 → Passed u tally network
+  pub setup-passed : setupCheck Packed u tally network ≡ 0 → Passed u tally network
   setup-passed e =
       let h = none (eqb refusal 0) faulty short high ahead refusal (λ z. pos refusal z) (sym steps ∙ e) in
       let l : refusal ≡ 0 = eqb-true refusal 0 (h .0) in

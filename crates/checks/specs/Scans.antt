@@ -5,13 +5,14 @@ use Prim.Native.Nat.{ℕ}
 use lib.Dec.{eqb}
 use lib.ListN.{drop}
 use Rattle.types.specs.declared.Plan.{Plan}
+use Rattle.types.specs.declared.Form.{Form}
 use Rattle.types.specs.Traffic.{noTraffic}
-use Rattle.model.specs.State.{State, stateOf, runOf}
+use Rattle.model.specs.State.{State, stateIn, runOf}
 use Rattle.model.specs.Checks.{someNonZero}
 
 -- a network, with what the soundness of its messages depends on
-abbrev pub flying : Plan → ℕ → ℕ → List ℕ → State
-flying plan faulty time network = stateOf (runOf plan faulty time false 0 0 [] [] noTraffic) [] network
+abbrev pub flying : Form → Plan → ℕ → ℕ → List ℕ → State
+flying form plan faulty time network = stateIn form (runOf plan faulty time false 0 0 [] [] noTraffic) [] network
 
 -- what is gathered so far, or one of the words from i on, is not 0
 abbrev pub nonZeroFrom : ℕ → ℕ → List ℕ → Bool

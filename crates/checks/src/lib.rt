@@ -1,5 +1,6 @@
-// Check 9 but for the time on whatever is handed in, and checks 2 to 8 of an opening.
+// Check 9, and what of it lasts, on whatever is handed in; and checks 2 to 8 of an opening.
 use buffers::Stored;
+use types::Form;
 use types::Head;
 use types::Message;
 use types::Plan;
@@ -12,16 +13,18 @@ ghost use lib.Dec.{eqb, leb, ltb};
 ghost use lib.ListN.{length, drop};
 ghost use Rattle.base.specs.Count.{bit};
 ghost use Rattle.base.specs.Scan.{some};
-ghost use Rattle.types.specs.Quantities.{nMost, correct, startLimit};
-ghost use Rattle.model.specs.State.{stateOf, runFrom, heldAs, capacity};
-ghost use Rattle.model.specs.Checks.{planOutside, faultyOutside, lengthsOutside, clockOutside, outsideAt, heldUnsound, messageUnsound, someNonZero, startTooHigh, supporting, aloneAt, tooFarAhead};
+ghost use Rattle.types.specs.Quantities.{nMost, networkLeast, correct, startLimit};
+ghost use Rattle.model.specs.State.{stateIn, runFrom, heldAs, capacity};
+ghost use Rattle.model.specs.Checks.{planOutside, faultyOutside, networkOutside, lengthsOutside, clockOutside, outsideAt, heldUnsound, messageUnsound, someNonZero, unsound, startTooHigh, supporting, aloneAt, tooFarAhead};
 ghost use Rattle.pacemaker.specs.Limits.{Within};
 ghost use Rattle.checks.specs.Scans.{flying, nonZeroFrom, turnWords};
 ghost use Rattle.checks.specs.Runs.{Judges};
 ghost use Rattle.checks.specs.Setups.{setupCheck};
 
-// The network has at least so many words for each processor.
-const WORDS_EACH: u64 = 8;
+// The network has at least so many words for each processor; and in the wide form.
+const WORDS_EACH: u64 = 4;
+
+const WIDE_WORDS_EACH: u64 = 8;
 
 // The network has at most so many words.
 const NETWORK_MOST: u64 = 524288;
@@ -49,23 +52,41 @@ fn faulty_outside(plan: Plan, faulty: u64) -> bool
     plan.tolerated() < base::size(faulty)
 }
 
-// Check 6, of a plan that checks 2 to 4 passed.
-fn lengths_outside(plan: Plan, tally: usize, network: usize) -> bool
-    requires { ⌜ Within plan ⌝ }
-    ensures { λ r. ⌜ r ≡ lengthsOutside plan tally network ⌝ }
+// For how many processors so many words of the network are enough.
+fn processors_served(form: Form, network: usize) -> u64
+    ensures { λ r. ⌜ ((plan : Plan) → ltb r (plan .n) ≡ ltb network (networkLeast form plan)) ⌝ }
 {
-    if (tally as u64) < buffers::ROW_WORDS as u64 * plan.views {
-        return true;
+    let words = network as u64;
+    match form {
+        Form::Wide => words / WIDE_WORDS_EACH,
+        Form::Packed => words / WORDS_EACH,
     }
-    if (network as u64) < WORDS_EACH * plan.n {
+}
+
+// What check 6 says of the network.
+pub fn network_outside(form: Form, plan: Plan, network: usize) -> bool
+    ensures { λ r. ⌜ r ≡ networkOutside form plan network ⌝ }
+{
+    if processors_served(form, network) < plan.n {
         return true;
     }
     NETWORK_MOST < network as u64
 }
 
+// Check 6, of a plan that checks 2 to 4 passed.
+fn lengths_outside(form: Form, plan: Plan, tally: usize, network: usize) -> bool
+    requires { ⌜ Within plan ⌝ }
+    ensures { λ r. ⌜ r ≡ lengthsOutside form plan tally network ⌝ }
+{
+    if (tally as u64) < buffers::ROW_WORDS as u64 * plan.views {
+        return true;
+    }
+    network_outside(form, plan, network)
+}
+
 // Checks 2 to 6.
-fn limits_broken(plan: Plan, faulty: u64, tally: usize, network: usize) -> bool
-    ensures { λ r. ⌜ r ≡ (planOutside plan || faultyOutside plan faulty || lengthsOutside plan tally network) ⌝ }
+fn limits_broken(form: Form, plan: Plan, faulty: u64, tally: usize, network: usize) -> bool
+    ensures { λ r. ⌜ r ≡ (planOutside plan || faultyOutside plan faulty || lengthsOutside form plan tally network) ⌝ }
 {
     if 0 < pacemaker::plan_check(plan) {
         return true;
@@ -73,7 +94,7 @@ fn limits_broken(plan: Plan, faulty: u64, tally: usize, network: usize) -> bool
     if faulty_outside(plan, faulty) {
         return true;
     }
-    lengths_outside(plan, tally, network)
+    lengths_outside(form, plan, tally, network)
 }
 
 // Whether q is correct and its clock outside its view.
@@ -129,27 +150,41 @@ fn held_unsound(plan: Plan, faulty: u64, time: u64, message: Message, sent: u64)
 }
 
 // Whether message i is unsound: of no kind, or as above.
-fn message_unsound(plan: Plan, faulty: u64, time: u64, network: &[u64], i: usize) -> bool
-    requires { ⌜ Within plan × (i < capacity (now network)) ⌝ }
-    ensures { λ r. ⌜ r ≡ messageUnsound (flying plan faulty time (now (network .entry))) i ⌝ }
+fn message_unsound(
+    form: Form,
+    plan: Plan,
+    faulty: u64,
+    time: u64,
+    network: &[u64],
+    i: usize,
+) -> bool
+    requires { ⌜ Within plan × (i < capacity form (now network)) ⌝ }
+    ensures { λ r. ⌜ r ≡ messageUnsound (flying form plan faulty time (now (network .entry))) i ⌝ }
 {
-    let stored = buffers::decode(network, i);
+    let stored = buffers::decode(form, network, i);
     match stored {
         Stored::Holds(message) => {
-            held_unsound(plan, faulty, time, message, buffers::sent(network, i))
+            held_unsound(plan, faulty, time, message, buffers::sent(form, network, i))
         }
         Stored::Unknown => true,
     }
 }
 
 // Whether some held message is unsound.
-fn messages_unsound(plan: Plan, faulty: u64, time: u64, held: usize, network: &[u64]) -> bool
-    requires { ⌜ Within plan × (held ≤ capacity (now network)) ⌝ }
-    ensures { λ r. ⌜ r ≡ some (messageUnsound (flying plan faulty time (now (network .entry)))) held ⌝ }
+fn messages_unsound(
+    form: Form,
+    plan: Plan,
+    faulty: u64,
+    time: u64,
+    held: usize,
+    network: &[u64],
+) -> bool
+    requires { ⌜ Within plan × (held ≤ capacity form (now network)) ⌝ }
+    ensures { λ r. ⌜ r ≡ some (messageUnsound (flying form plan faulty time (now (network .entry)))) held ⌝ }
 {
     let mut i = 0;
     while i < held {
-        if message_unsound(plan, faulty, time, network, i) {
+        if message_unsound(form, plan, faulty, time, network, i) {
             return true;
         }
         i += 1;
@@ -226,32 +261,50 @@ fn tail_not_zero(network: &[u64], from: usize) -> bool
     rest_not_zero(network, from + TURN_WORDS * turns, seen)
 }
 
-// Check 9 but for the time, of a run whose tables are lent beside its head.
+// Check 9 but for the time, of a run whose tables are lent beside its head, and whose network is of the form named.
 pub fn unsound_for_good(
+    form: Form,
     head: Head,
     clocks: &[u64; 64],
     views: &[u64; 64],
     tally: &[u64],
     network: &[u64],
 ) -> bool
-    ensures { λ r. ⌜ Judges (stateOf (runFrom head (now (clocks .entry)) (now (views .entry))) (now (tally .entry)) (now (network .entry))) r ⌝ }
+    ensures { λ r. ⌜ Judges (stateIn form (runFrom head (now (clocks .entry)) (now (views .entry))) (now (tally .entry)) (now (network .entry))) r ⌝ }
 {
-    if limits_broken(head.plan, head.faulty, tally.len(), network.len()) {
+    if limits_broken(form, head.plan, head.faulty, tally.len(), network.len()) {
         return true;
     }
     if clocks_unsound(head.plan, head.faulty, clocks, views) {
         return true;
     }
-    if buffers::capacity(network) < head.held {
+    if buffers::capacity(form, network) < head.held {
         return true;
     }
-    if messages_unsound(head.plan, head.faulty, head.time, head.held, network) {
+    if messages_unsound(form, head.plan, head.faulty, head.time, head.held, network) {
         return true;
     }
     if settling_unsound(head.time, head.settled == 1, head.gst) {
         return true;
     }
-    tail_not_zero(network, buffers::MESSAGE_WORDS * head.held)
+    tail_not_zero(network, form.width() * head.held)
+}
+
+// Check 9.
+pub fn unsound(
+    form: Form,
+    head: Head,
+    clocks: &[u64; 64],
+    views: &[u64; 64],
+    tally: &[u64],
+    network: &[u64],
+) -> bool
+    ensures { λ r. ⌜ r ≡ unsound (stateIn form (runFrom head (now (clocks .entry)) (now (views .entry))) (now (tally .entry)) (now (network .entry))) ⌝ }
+{
+    if unsound_for_good(form, head, clocks, views, tally, network) {
+        return true;
+    }
+    head.plan.end_time() <= head.time
 }
 
 // Whether q is correct and its start clock too high.
@@ -344,7 +397,7 @@ fn too_far_ahead(setup: Setup) -> bool
 
 // The first of checks 2 to 8 that refuses the setup with lent buffers of these lengths, or 0.
 pub fn setup_check(setup: Setup, tally: usize, network: usize) -> u64
-    ensures { λ r. ⌜ r ≡ setupCheck setup tally network ⌝ }
+    ensures { λ r. ⌜ r ≡ setupCheck Form.Packed setup tally network ⌝ }
 {
     let limit = pacemaker::plan_check(setup.plan);
     if 0 < limit {
@@ -353,7 +406,7 @@ pub fn setup_check(setup: Setup, tally: usize, network: usize) -> u64
     if faulty_outside(setup.plan, setup.faulty) {
         return 5;
     }
-    if lengths_outside(setup.plan, tally, network) {
+    if lengths_outside(Form::Packed, setup.plan, tally, network) {
         return 6;
     }
     if start_too_high(setup) {

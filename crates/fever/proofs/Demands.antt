@@ -20,6 +20,7 @@ use Rattle.model.specs.Lists.{after, sinceSettling, ticksSince}
 use Rattle.model.specs.Traffic.{historyTotals, totals}
 use Rattle.liveness.proofs.Judging.{by-judged-each, neither, not-ltb}
 use Rattle.liveness.specs.Promises.{Tabled}
+use Rattle.liveness.proofs.Staying.{opening-stays}
 use Rattle.liveness.proofs.Promises.{list-law, stays-sound, settled-since}
 use Rattle.liveness.proofs.Counted.{report-is-history}
 use Rattle.simulator.specs.Demands.{Demanded}
@@ -75,7 +76,7 @@ opening-left setup x = by-cond (λ (c : Called). c .answer ≡ 0 → Began a × 
     let b : Began a = began (setupIn setup) (lentState x) e in (
       b,
       subst (λ (y : Bool). Left (drop runLength (x .run)) (a .state) (lentOf (cond y (runOver (x .run) (a .state .run)) (x .run)) (a .state .tally) (a .state .network)))
-          (sym (T-true (accepted (a .answer)) (b .0))) (run-left (drop runLength (x .run)) (x .run) (a .state) refl (b .1)),
+          (sym (T-true (accepted (a .answer)) (b .0))) (run-left (drop runLength (x .run)) (x .run) (a .state) (opening-stays (setupIn setup) (lentState x)) refl (b .1)),
       not-ltb _ _ (neither (ltb (length setup) setupLength) (ltb (length (x .run)) runLength) f .1),
     ))
   where

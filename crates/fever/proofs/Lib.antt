@@ -4,6 +4,7 @@ pub mod Laying
 pub mod ReadBack
 pub mod Calling
 pub mod Telling
+pub mod Carrying
 pub mod Loading
 pub mod Stepping
 pub mod Writing

@@ -4,6 +4,7 @@ pub use Rattle.fever.proofs.Turns.{every-call-answered, no-event-nothin
 pub use Rattle.fever.proofs.LoadCalls.{lines-are-events, generates-after-opening, calls-after-load, refused-load-keeps, refused-more-keeps}
 pub use Rattle.fever.proofs.ReadBack.{run-back, run-words-back, setup-back, event-back, read-event-back, read-setup-back}
 pub use Rattle.fever.proofs.Writing.{bytes-told}
+pub use Rattle.fever.proofs.Carrying.{carried-words-alike, carried-goes-on, carried-words-back, refused-carry-keeps}
 use mathlib.Core.Path.{_≡_, refl, sym, ap, _∙_, subst}
 use mathlib.Core.Bool.{true, false, _||_}
 use mathlib.Core.Logic.{_⊎_, inl, inr, _≢_}

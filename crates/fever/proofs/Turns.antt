@@ -11,15 +11,18 @@ use borrow.Author.Tests.{le-ltb}
 use Rattle.base.specs.Choice.{cond-yes, or-second}
 use Rattle.base.specs.Tests.{T-true, T-false, by-cond}
 use Rattle.types.specs.declared.Event.{Event}
+use Rattle.types.specs.declared.Form.{Form}
+use Rattle.types.specs.declared.Form.the-variants.{Packed}
 use Rattle.types.specs.declared.Run.{Run}
 use Rattle.types.specs.Messages.{lacksForm}
-use Rattle.model.specs.State.{State, After, stateOf, checkOf, ticksOf, accepted}
+use Rattle.model.specs.State.{State, After, stateIn, stateOf, checkOf, ticksOf, accepted}
 use Rattle.model.specs.Checks.{unsoundForGood}
 use Rattle.model.specs.Events.{applied}
 use Rattle.model.specs.Lists.{after}
 use Rattle.liveness.specs.Promises.{Tabled}
 use Rattle.liveness.proofs.History.{event-time}
 use Rattle.liveness.proofs.Judging.{neither}
+use Rattle.liveness.proofs.Staying.{event-stays, events-stay}
 use Rattle.liveness.proofs.Promises.{refused-stays, list-law, events-last}
 use Rattle.words.specs.declared.Numbers.{Numbers}
 use Rattle.words.specs.Events.{eventWords, eventOf, eventAs, fourNumbers}
@@ -58,12 +61,13 @@ words-length r h =
     omega (arith, length-append (r .clocks) (r .views ++ sumWords (r .traffic)), length-append (r .views) (sumWords (r .traffic)), h .clocks, h .views)
 
 -- the words of a run that a call left
-pub run-left : (tail ws : List ℕ) (s : State) → drop runLength ws ≡ tail → Tabled (s .run) → Left tail s (lentOf (runOver ws (s .run)) (s .tally) (s .network))
-run-left tail ws s e h =
+pub run-left : (tail ws : List ℕ) (s : State) → s .form ≡ Packed → drop runLength ws ≡ tail → Tabled (s .run) → Left tail s (lentOf (runOver ws (s .run)) (s .tally) (s .network))
+run-left tail ws s packed e h =
     let r = s .run in
     let whole : length (runOver ws r) ≡ length (runWords r) + length (drop runLength ws) = length-append (runWords r) (drop runLength ws) in
     record {
-      state = ap (λ (z : Run). stateOf z (s .tally) (s .network)) (run-back r (drop runLength ws) (h .clocks) (h .views));
+      state = ap (λ (z : Run). stateOf z (s .tally) (s .network)) (run-back r (drop runLength ws) (h .clocks) (h .views))
+          ∙ ap (λ (form : Form). stateIn form r (s .tally) (s .network)) (sym packed);
       laid = record {
         long = omega (arith, whole, words-length r h);
         sorted = settled-sorted (r .settled);
@@ -87,7 +91,7 @@ told-left : (tail : List ℕ) (x : Lent) (e : Event) → Laid tail x → Left ta
 told-left tail x e h =
     let a = applied e (lentState x) in
     by-cond (λ (ws : List ℕ). Left tail (a .state) (lentOf ws (a .state .tally) (a .state .network))) (accepted (a .answer)) _ (x .run)
-    (λ y. run-left tail (x .run) (a .state) (h .behind) (events-last e (lentState x) (read-tabled (x .run) (h .long)) .1))
+    (λ y. run-left tail (x .run) (a .state) (event-stays e (lentState x)) (h .behind) (events-last e (lentState x) (read-tabled (x .run) (h .long)) .1))
     (λ f. subst (λ (s : State). Left tail s (lentOf (x .run) (s .tally) (s .network))) (sym (refused-stays e (lentState x) (T-false (accepted (a .answer)) f)))
     (record { state = refl; laid = h }))
 
@@ -109,7 +113,7 @@ many-left : (tail events : List ℕ) (x : Lent) → Laid tail x → let y = word
 many-left tail events x h =
     let s = after (lentState x) (map eventAs (numbersOf events)) in
     subst (λ (z : State). Left tail s (lentOf (runOver (x .run) (z .run)) (z .tally) (z .network))) (sym (words-after events (lentState x)))
-    (run-left tail (x .run) s (h .behind) (after-tabled (lentState x) (map eventAs (numbersOf events)) (read-tabled (x .run) (h .long))))
+    (run-left tail (x .run) s (events-stay (lentState x) (map eventAs (numbersOf events))) (h .behind) (after-tabled (lentState x) (map eventAs (numbersOf events)) (read-tabled (x .run) (h .long))))
 
 -- of a load: those of what its events leave
 nothing-done : (tail : List ℕ) (x : Lent) (es : List Event) → Laid tail x → es ≡ [] → Left tail (after (lentState x) es) x
@@ -131,7 +135,7 @@ more-left tail load out x h =
     (λ t. nothing-done tail x (loadEvents load out s) h (none (T-true _ (or-true (neitherSettled (x .run)) (unsoundForGood s) (h .sorted) t))))
     (λ t. subst (λ (es : List Event). Left tail (after s es) (toldLoad x load out l .lent)) (all (T-false _ (neither (ltb (length (x .run)) runLength) (ltb (length load) loadLength) f .1)))
     (subst (Left tail (after s (eventsRead (l .forms)))) (sym (load-left tail x load out l h d ∙ ap (λ (z : State). lentOf (runOver (x .run) (z .run)) (z .tally) (z .network)) (d .state)))
-    (run-left tail (x .run) (after s (eventsRead (l .forms))) (h .behind) (after-tabled s (eventsRead (l .forms)) (read-tabled (x .run) (h .long)))))))
+    (run-left tail (x .run) (after s (eventsRead (l .forms))) (events-stay s (eventsRead (l .forms))) (h .behind) (after-tabled s (eventsRead (l .forms)) (read-tabled (x .run) (h .long)))))))
   where
     s : State
     s = lentState x

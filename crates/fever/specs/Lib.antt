@@ -3,5 +3,7 @@ pub mod Layout
 pub mod Contracts
 pub mod Loads
 pub mod Traffic
+pub mod Carrying
 pub mod Promises
 pub mod Examples
+pub mod CarryingExamples

@@ -8,15 +8,18 @@ use Prim.Native.Nat.{ℕ, zero, suc, _+_, _-_, _*_, _≤_, _<_}
 use lib.Dec.{T, eqb}
 use lib.ListN.{length, getD, set, take, drop}
 use Rattle.types.specs.declared.Event.{Event}
+use Rattle.types.specs.declared.Form.{Form}
 use Rattle.types.specs.declared.Setup.{Setup}
 use Rattle.types.specs.declared.Run.{Run}
 use Rattle.types.specs.Quantities.{tableClocks}
 use Rattle.types.specs.Messages.{lacksForm}
 use Rattle.model.specs.State.{State, After, ticksOf, heldOf, accepted}
+use Rattle.model.specs.Checks.{unsound}
 use Rattle.model.specs.Opening.{opening}
 use Rattle.model.specs.Events.{applied}
 use Rattle.model.specs.Traffic.{historyTotals}
 use Rattle.model.specs.Lists.{after, Since, sinceSettling, hasSettled, ticksSince}
+use Rattle.liveness.specs.Carrying.{Line, lineAnswers, afterLines, CanHold, HeldAlike}
 use Rattle.simulator.specs.Demands.{Demanded}
 use Rattle.lines.specs.Forms.{eventForm, setupForm}
 use Rattle.lines.specs.Contracts.{Reading, eventReading, line, writtenAs, writtenCheck, Put}
@@ -25,8 +28,9 @@ use Rattle.loads.specs.Loads.{lineBytes}
 use Rattle.words.specs.declared.Numbers.{Numbers}
 use Rattle.words.specs.Events.{eventWords, eventOf, eventAs, fourNumbers, eventNumbers}
 use Rattle.fever.specs.Layout.{setupIn, setupWords, runLength, settledWord, timeWord, gstWord, heldWord, runIn, runWords, runOver, neitherSettled, readingWords}
-use Rattle.fever.specs.Contracts.{Lent, lentState, Called, called, told, openingWords, OpensWords, applyingWords, AppliesWords, calledAll, applyingAll, AppliesEvents, WritesLine}
+use Rattle.fever.specs.Contracts.{Lent, lentOf, lentState, Called, called, told, openingWords, OpensWords, applyingWords, AppliesWords, calledAll, applyingAll, AppliesEvents, WritesLine}
 use Rattle.fever.specs.Loads.{stepWord, bytesWord, calledLoad, generatingWords, GeneratesWords, generatingMore, GeneratesMore, loadEvents}
+use Rattle.fever.specs.Carrying.{lentIn, carryingWords, CarriesWords}
 use Rattle.fever.specs.Traffic.{reportLength, calledReport, toldReport, ReportsTraffic}
 
 -- ---- demand 3 of the library: calls of `fever_apply`, `fever_apply_all` and `fever_generate_more` after a `fever_open` that answered 0, each lent the
@@ -170,6 +174,32 @@ AfterLoad P =
 abbrev pub CallsAfterLoad : Type 1
 CallsAfterLoad = (P : List ℕ → Lent → Lent → List Call → Lent → Type 0) → AfterCalls P → AfterLoad P
 
+-- ---- runs carried over, by `fever_pack` and `fever_unpack` or the other way round
+
+-- the same words lent, with another network
+abbrev pub onNetwork : List ℕ → Lent → Lent
+onNetwork ws x = lentOf (x .run) (x .tally) ws
+
+-- "Held runs are carried over in order": on the words that were left the run is sound and holds the same
+abbrev pub CarriedWordsAlike : Type 0
+CarriedWordsAlike =
+    (from to : Form) (x : Lent) (target left : List ℕ) → CarriesWords from to x target 0 left
+    → (unsound (lentIn to (onNetwork left x)) ≡ false) × HeldAlike (lentIn from x) (lentIn to (onNetwork left x))
+
+-- and it goes on alike: lines that both networks could hold are answered alike, and leave the same run, tally and messages
+abbrev pub CarriedGoesOn : Type 0
+CarriedGoesOn =
+    (from to : Form) (x : Lent) (target left : List ℕ) → CarriesWords from to x target 0 left
+    → (ls : List Line) → CanHold (lentIn from x) ls → CanHold (lentIn to (onNetwork left x)) ls
+    → (lineAnswers (lentIn from x) ls ≡ lineAnswers (lentIn to (onNetwork left x)) ls)
+    × HeldAlike (afterLines (lentIn from x) ls) (afterLines (lentIn to (onNetwork left x)) ls)
+
+-- "turning them back gives the same four numbers": into a target as long as the first network it answers 0 and leaves the very words
+abbrev pub CarriedWordsBack : Type 0
+CarriedWordsBack =
+    (from to : Form) (x : Lent) (target left : List ℕ) → CarriesWords from to x target 0 left → (back : List ℕ) → length back ≡ length (x .network)
+    → (r : ℕ) (after' : List ℕ) → CarriesWords to from (onNetwork left x) back r after' → (r ≡ 0) × (after' ≡ x .network)
+
 -- ---- many events in one call are as many calls in turn
 
 -- the events' words after the calls ks in turn, which answered and left cs, x being lent to the first: of each its form, its answer, the time gained
@@ -242,6 +272,11 @@ RefusedLoadKeeps =
 abbrev pub RefusedMoreKeeps : Type 0
 RefusedMoreKeeps =
     (x : Lent) (load out : List ℕ) → generatingMore x load out .answer ≢ 0 → generatingMore x load out ≡ calledLoad (generatingMore x load out .answer) x load out
+
+-- a carrying over that answers anything but 0 has written nothing
+abbrev pub RefusedCarryKeeps : Type 0
+RefusedCarryKeeps =
+    (from to : Form) (x : Lent) (target : List ℕ) → carryingWords from to x target .check ≢ 0 → carryingWords from to x target .target ≡ target
 
 -- the ticks that an accepted event did are the time gained, and the messages held stand in their word
 pub record TicksAre (x : Lent) (a : After) : Type 0 where

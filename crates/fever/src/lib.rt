@@ -1,5 +1,5 @@
-// The library for C and Rust: the simulator, one processor's pacemaker, lines, loads out of a seed number and reports of a run's traffic, over numbers
-// and lent words and bytes. Every function takes every argument; a refused call has changed nothing that was lent.
+// The library for C and Rust: the simulator, one processor's pacemaker, lines, loads out of a seed number, reports of a run's traffic and runs carried
+// over to a network of another form, over numbers and lent words and bytes. Every function takes every argument; a refused call has changed nothing that was lent.
 mod generating;
 mod layout;
 mod reporting;
@@ -7,6 +7,7 @@ mod steps;
 
 use lines::Read;
 use lines::Written;
+use types::Form;
 use types::Plan;
 use words::Numbers;
 ghost use mathlib.Core.List.{[], _∷_};
@@ -15,6 +16,7 @@ ghost use Rattle.words.specs.Events.{eventOf};
 ghost use Rattle.fever.specs.Contracts.{lentOf, OpensWords, AppliesWords, AppliesEvents, moveOf, StepsWords, ReadsWords, StandsFor, WritesEvent, WritesSetup};
 ghost use Rattle.fever.specs.Loads.{GeneratesWords, GeneratesMore};
 ghost use Rattle.fever.specs.Traffic.{ReportsTraffic};
+ghost use Rattle.fever.specs.Carrying.{CarriesWords};
 
 // A setup is opened.
 #[no_mangle]
@@ -265,4 +267,53 @@ pub extern "C" fn fever_traffic(
     let views = layout::table_in(run, layout::VIEWS);
     let totals = sums::totals(head, &clocks, &views, tally, network);
     reporting::put_report(report, totals)
+}
+
+// A run is carried over from a network of one form to one of another.
+fn carry_words(
+    from: Form,
+    to: Form,
+    run: &[u64],
+    tally: &[u64],
+    network: &[u64],
+    target: &mut [u64],
+) -> u64
+    ensures { λ r. ⌜ CarriesWords from to (lentOf (now (run .entry)) (now (tally .entry)) (now (network .entry))) (now (target .entry)) r (now (target .exit)) ⌝ }
+{
+    if run.len() < layout::RUN_WORDS {
+        return 1;
+    }
+    let head = layout::head_in(run);
+    if 1 < run[layout::SETTLED] {
+        if carrying::target_outside(to, head, target) {
+            return 6;
+        }
+        return 9;
+    }
+    let clocks = layout::table_in(run, layout::CLOCKS);
+    let views = layout::table_in(run, layout::VIEWS);
+    carrying::carry(from, to, head, &clocks, &views, tally, network, target)
+}
+
+// A run held in four words a message is carried over to two.
+#[no_mangle]
+pub extern "C" fn fever_pack(run: &[u64], tally: &[u64], network: &[u64], target: &mut [u64]) -> u64
+    ensures { λ r. ⌜ CarriesWords Form.Wide Form.Packed (lentOf (now (run .entry)) (now (tally .entry)) (now (network .entry))) (now (target .entry)) r
+        (now (target .exit)) ⌝ }
+{
+    carry_words(Form::Wide, Form::Packed, run, tally, network, target)
+}
+
+// And back.
+#[no_mangle]
+pub extern "C" fn fever_unpack(
+    run: &[u64],
+    tally: &[u64],
+    network: &[u64],
+    target: &mut [u64],
+) -> u64
+    ensures { λ r. ⌜ CarriesWords Form.Packed Form.Wide (lentOf (now (run .entry)) (now (tally .entry)) (now (network .entry))) (now (target .entry)) r
+        (now (target .exit)) ⌝ }
+{
+    carry_words(Form::Packed, Form::Wide, run, tally, network, target)
 }

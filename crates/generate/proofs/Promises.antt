@@ -5,7 +5,7 @@ use mathlib.Core.Logic.{_≢_}
 use mathlib.Core.List.{List, [], _∷_, _++_}
 use Prim.Native.Nat.{ℕ, zero, suc, _+_, _-_, _≤_, _<_}
 use native.Mathlib.Omega.{arith}
-use lib.ListN.{length, length-append, length-replicate}
+use lib.ListN.{length, length-append}
 use Rattle.types.specs.declared.Setup.{Setup}
 use Rattle.model.specs.State.{accepted}
 use Rattle.model.specs.Opening.{opening}
@@ -14,7 +14,6 @@ use Rattle.lines.specs.Forms.{newline, setupForm}
 use Rattle.lines.specs.Splitting.{inputLines}
 use Rattle.lines.specs.Promises.{scheduleOf}
 use Rattle.reader.proofs.Lengths.{setup-length}
-use Rattle.printout.specs.Printout.{tallyLent, networkLent}
 use Rattle.loads.specs.Loads.{Point, Load, lineBytes, followed, furtherLoad, wholeLoad}
 use Rattle.loads.proofs.Turns.{by-whole}
 use Rattle.workload.specs.Promises.{AllAccepted, standingAfter, StandsAt, goneOn}
@@ -94,15 +93,13 @@ uncut u steps settle seed room least tally network r c =
     )
 
 pub written-accepted : WrittenAccepted
-written-accepted u steps settle seed r w table below x tally network =
+written-accepted u steps settle seed r w table below x long =
     let made = uncut u steps settle seed (w .room) (w .least) (w .tally) (w .network) (r .last) (w .whole .load) in
-    let t : length (x .state .tally) ≡ length (startState .tally) = tally ∙ sym (length-replicate {A = ℕ} tallyLent 0) in
-    let n : length (x .state .network) ≡ length (startState .network) = network ∙ sym (length-replicate {A = ℕ} networkLent 0) in
     record {
       accepts = subst (λ (l : Load). AllAccepted x (inputLines (scheduleOf (l .forms)))) (made .1)
-          (load-accepted u startState steps settle seed (made .0) table below x t n);
+          (load-accepted u startState steps settle seed (made .0) table below x long);
       leads = λ some'.
           subst (λ (l : Load). l .forms ≢ [] → StandsAt (l .point) (standingAfter x (inputLines (scheduleOf (l .forms))))) (made .1)
-          (load-leads u startState steps settle seed (made .0) table below x t n)
+          (load-leads u startState steps settle seed (made .0) table below x long)
           (λ z. absurd (omega (arith, ap (λ (fs : List (List ℕ)). length (scheduleOf fs)) z)));
     }

@@ -8,7 +8,8 @@ use Rattle.types.specs.declared.Setup.{Setup}
 use Rattle.types.specs.Quantities.{tableClocks}
 use Rattle.lines.specs.Forms.{setupFields, Below}
 use Rattle.lines.specs.Promises.{scheduleOf}
-use Rattle.printout.specs.Printout.{Standing, tallyLent, networkLent}
+use Rattle.liveness.specs.Unread.{AsLong}
+use Rattle.printout.specs.Printout.{Standing}
 use Rattle.loads.specs.Loads.{Load, wholeLoad}
 use Rattle.workload.specs.declared.Generated.{Generated}
 use Rattle.workload.specs.Promises.{Replayed}
@@ -42,5 +43,5 @@ writtenLines u steps settle seed r w =
 abbrev pub WrittenAccepted : Type 0
 WrittenAccepted =
     (u : Setup) (steps settle seed : ℕ) (r : WrittenLoad) (w : ProgramWrites u steps settle seed r) → length (u .clocks) ≡ tableClocks → Below (setupFields u)
-    → (x : Standing) → length (x .state .tally) ≡ tallyLent → length (x .state .network) ≡ networkLent
+    → (x : Standing) → AsLong startState (x .state)
     → Replayed (r .last) (w .tally) (w .network) (scheduleOf (writtenLines u steps settle seed r w)) x

@@ -33,7 +33,7 @@ use Rattle.leaps.proofs.Resting.{clock-inside, next-small, from-view}
 pub still-made : (s : State) → s ≡ made s (still (s .run) (s .tally))
 unfolding made countsMore
 still-made s = ap₂ (λ (h : ℕ) (ws : List ℕ). withRun (withHeld h (s .run)) (withNetwork ws s)) (sym (add-zero (s .run .held)))
-    (posted-none (s .network) (s .run .held) (s .run .time))
+    (posted-none (s .form) (s .network) (s .run .held) (s .run .time))
 
 -- ---- one quiet tick
 

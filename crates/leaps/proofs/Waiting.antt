@@ -10,6 +10,7 @@ use Rattle.base.specs.Tests.{T-true, le?}
 use Rattle.base.specs.Scan.{some}
 use Rattle.base.specs.ScanLaws.{some-start, some-on, some-here, some-by, some-gives}
 use Rattle.types.specs.declared.Run.{Run}
+use Rattle.types.specs.declared.Form.the-variants.{Packed}
 use Rattle.model.specs.State.{State, stateOf, heldAt}
 use Rattle.model.specs.Checks.{late, overdue, lateAt}
 use Rattle.leaps.specs.Leaps.{WaitsFor, WaitsForAll, Waits}
@@ -54,13 +55,13 @@ module _ (gst delta time : ℕ) (ws : List ℕ) (most : ℕ) where
   pub waits-start : WaitsForAll gst delta time ws 0 most most
   waits-start = record { few = omega arith; quiet = λ j l. some-start _; ends = λ z l. absurd (omega arith) }
 
-  pub waits-more : (k w r : ℕ) → WaitsForAll gst delta time ws k most w → WaitsFor gst delta time (heldAt ws k .sent) w r → WaitsForAll gst delta time ws (k + 1) most r
+  pub waits-more : (k w r : ℕ) → WaitsForAll gst delta time ws k most w → WaitsFor gst delta time (heldAt Packed ws k .sent) w r → WaitsForAll gst delta time ws (k + 1) most r
   waits-more k w r x y = record {
     few = omega (arith, x .few, y .few);
-    quiet = λ j l. some-on (lateAt gst delta (time + j) ws) k (x .quiet j (omega (arith, y .few))) (y .quiet j l);
+    quiet = λ j l. some-on (lateAt gst delta (time + j) Packed ws) k (x .quiet j (omega (arith, y .few))) (y .quiet j l);
     ends = λ z l. ⊎-elim
-        (λ (e : w ≤ 0). some-still (lateAt gst delta time ws) k (x .ends (omega arith) l))
-        (λ (e : 0 < w). some-here (lateAt gst delta time ws) (k + 1) k (omega arith) (y .ends z e))
+        (λ (e : w ≤ 0). some-still (lateAt gst delta time Packed ws) k (x .ends (omega arith) l))
+        (λ (e : 0 < w). some-here (lateAt gst delta time Packed ws) (k + 1) k (omega arith) (y .ends z e))
         (le? w 0);
   }
 

@@ -7,6 +7,7 @@ use lib.ListN.{length, getD, set}
 use Rattle.base.specs.Scan.{some}
 use Rattle.types.specs.declared.Plan.{Plan}
 use Rattle.types.specs.declared.Run.{Run}
+use Rattle.types.specs.declared.Form.the-variants.{Packed}
 use Rattle.types.specs.Quantities.{nMost, nextInitial, clockTime, correct}
 use Rattle.types.specs.PlanFunctions.{nextInitialWord, clockTimeWord}
 use Rattle.model.specs.State.{State, withRun, withTime, withClocks, clockOf, viewOf, isCorrect, roomIn}
@@ -64,8 +65,8 @@ pub record WaitsFor (gst delta time sent most r : ℕ) : Type 0 where
 -- the same of the first k messages
 pub record WaitsForAll (gst delta time : ℕ) (ws : List ℕ) (k most r : ℕ) : Type 0 where
   pub few : r ≤ most
-  pub quiet : (j : ℕ) → j < r → some (lateAt gst delta (time + j) ws) k ≡ false
-  pub ends : r ≡ 0 → 0 < most → some (lateAt gst delta time ws) k ≡ true
+  pub quiet : (j : ℕ) → j < r → some (lateAt gst delta (time + j) Packed ws) k ≡ false
+  pub ends : r ≡ 0 → 0 < most → some (lateAt gst delta time Packed ws) k ≡ true
 
 -- the same of a state; how many it is within this is left free: a stride may be shorter than the quiet ticks are
 pub record Waits (s : State) (most r : ℕ) : Type 0 where

@@ -1,4 +1,5 @@
 // Quiet ticks: how many of them come next, and the leap over them, whatever is handed in.
+use types::Form;
 use types::Head;
 use types::Plan;
 use types::Processor;
@@ -52,7 +53,13 @@ fn wait_for_all(gst: u64, delta: u64, time: u64, held: usize, network: &[u64], m
     let mut wait = most;
     let mut i = 0;
     while i < held {
-        wait = wait_for(gst, delta, time, buffers::sent(network, i), wait);
+        wait = wait_for(
+            gst,
+            delta,
+            time,
+            buffers::sent(Form::Packed, network, i),
+            wait,
+        );
         i += 1;
     }
     wait

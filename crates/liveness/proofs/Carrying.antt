@@ -1,170 +1,195 @@
--- What check 9 asks of a run but for clocks and time, as messages in flight and not as words: made changes and messages that leave keep it.
--- Assumes nothing.
-use mathlib.Core.Path.{_≡_, sym, ap, subst}
-use mathlib.Core.Bool.{Bool, not, _||_}
-use mathlib.Core.Logic.{⊎-elim}
-use mathlib.Core.List.{List, _++_}
-use Prim.Native.Nat.{ℕ, zero, suc, _*_, _≤_, _<_}
+-- A run carried over to a network of any form: the words are those of the same messages in flight, so the two are level, and turned back it
+-- has its own words. Assumes nothing.
+use mathlib.Core.Path.{_≡_, refl, sym, ap, ap₂, _∙_, subst}
+use mathlib.Core.Bool.{true, false}
+use mathlib.Core.Logic.{_≢_, _⊎_, inl, inr, ⊎-elim}
+use mathlib.Core.List.{List, [], _∷_, _++_, append-assoc, append-nil}
+use Prim.Native.Nat.{ℕ, zero, suc, _-_, _*_, _/_, _≤_, _<_}
 use native.Mathlib.Omega.{arith}
-use lib.Dec.{T, ltb, leb→le, ltb→lt, T-not}
-use lib.ListN.{length, drop, replicate}
-use Rattle.base.specs.Members.{Elem, elem-cases}
-use Rattle.base.specs.Tests.{not-not}
-use Rattle.types.specs.declared.Plan.{Plan}
-use Rattle.types.specs.declared.Message.{Message}
+use lib.Dec.{ltb, lt→ltb}
+use lib.ListN.{length, replicate}
+use Rattle.base.specs.Choice.{or-neither}
+use Rattle.base.specs.Tests.{or-left, or-right, T-true, T-false, fails, le?}
+use Rattle.types.specs.declared.Form.{Form}
 use Rattle.types.specs.declared.Run.{Run}
-use Rattle.types.specs.Quantities.{messageWords}
-use Rattle.types.specs.Messages.{kindLeast, kindMost, IsKind, addressee}
-use Rattle.types.proofs.MessageLaws.{kind-of-message}
-use Rattle.model.specs.State.{State, clockOf, viewOf, isCorrect, Held, heldIn, roomIn}
-use Rattle.model.specs.Moves.{Change, made}
-use Rattle.model.specs.Checks.{noProcessor, noView, planOutside, faultyOutside, buffersOutside, limitsBroken, kindOutside, heldUnsound, messageUnsound, settlingUnsound, someNonZero, placeOf, notHeld, overfull}
-use Rattle.model.specs.Events.{without}
-use Rattle.liveness.proofs.Flight.{Sent, sentAs, numbers, stamped, laid-beyond, Found, found-in, rest, rest-in}
-use Rattle.liveness.proofs.Sending.{in-stamped}
-use Rattle.liveness.proofs.Judging.{neither, nor, not-ltb, not-leb}
-use Rattle.liveness.proofs.Link.{Planned, Wire, wire-length, wire-read, wire-posted, length-posted, wire-removed, length-without, wire-found}
-use Rattle.liveness.proofs.Tracks.{limitsFor}
-use Rattle.liveness.proofs.Opens.{planned-within}
-use Rattle.liveness.proofs.Soundness.{SoundRun, InsideRun, not-outside}
-use Rattle.liveness.proofs.Laying.{seen}
-use Rattle.liveness.proofs.Addressing.{Addressed, Sends}
+use Rattle.types.specs.Quantities.{width, networkLeast, networkMost}
+use Rattle.model.specs.State.{State, withNetwork, Held, heldWords, heldAt, heldIn}
+use Rattle.model.specs.FormLaws.{words-of-room}
+use Rattle.model.specs.Checks.{Check, networkOutside, heldTooMany, unsound}
+use Rattle.model.specs.Carrying.{targetOutside, laidOut, carriedWords, CarriedOver, carriedOver, carriedTo}
+use Rattle.liveness.specs.Carrying.{HeldAlike, CarriedAlike, TurnsBack, BackFits, EverySoundCarries, NoTargetForMore, RefusedCarriesNothing}
+use Rattle.liveness.proofs.Flight.{Sent, numbers, allWords, laid, Named, laid-first, laid-on}
+use Rattle.liveness.proofs.Link.{Wire, wire-length}
+use Rattle.liveness.proofs.Judging.{Passes, by-judged, by-judged-each, neither, not-ltb}
+use Rattle.liveness.proofs.Soundness.{sound-of}
+use Rattle.liveness.proofs.Lasting.{Lasts, lasts-named}
+use Rattle.liveness.proofs.Wires.{same-words}
+use Rattle.liveness.proofs.Level.{Level, level-alike, unsound-same}
+use Rattle.liveness.proofs.SchedulesAlike.{sound-lasting, sound-long}
 
--- ---- a message that check 9 takes
+-- ---- the words
 
--- it was sent by now, too
-abbrev pub Fine : Run → Sent → Type 0
-Fine r x = Addressed (r .plan) (r .faulty) (x .message) × (x .time ≤ r .time)
+module _ (to : Form) where
+  -- those of the first k messages, whatever is read at each place
+  laidFrom : (ℕ → Held) → ℕ → List ℕ
+  laidFrom h zero = []
+  laidFrom h (suc k) = laidFrom h k ++ heldWords to (h k)
 
--- which is what it asks of the numbers held
-record Taken (r : Run) (h : Held) : Type 0 where
-  kind : IsKind (h .kind)
-  view : h .view < r .plan .views
-  processor : h .processor < r .plan .n
-  reaches : T (isCorrect r (addressee (r .plan) (h .kind) (h .view) (h .processor)))
-  past : h .sent ≤ r .time
+  laid-out : (s : State) (k : ℕ) → laidOut to s k ≡ laidFrom (heldIn s) k
+  unfolding laidFrom
+  laid-out s zero = refl
+  laid-out s (suc k) = ap (λ (l : List ℕ). l ++ heldWords to (heldIn s k)) (laid-out s k)
 
-module _ (r : Run) (h : Held) where
-  -- its tests, as far as each goes
-  abbrev to-view : Bool
-  to-view = kindOutside (h .kind) || noView (r .plan) (h .view)
+  from-first : (h : ℕ → Held) (k : ℕ) → laidFrom h (suc k) ≡ heldWords to (h 0) ++ laidFrom (λ i. h (suc i)) k
+  unfolding laidFrom
+  from-first h zero = sym (append-nil (heldWords to (h 0)))
+  from-first h (suc k) =
+      ap (λ (l : List ℕ). l ++ heldWords to (h (suc k))) (from-first h k)
+      ∙ append-assoc (heldWords to (h 0)) (laidFrom (λ i. h (suc i)) k) (heldWords to (h (suc k)))
 
-  abbrev to-processor : Bool
-  to-processor = to-view || noProcessor (r .plan) (h .processor)
+  -- of messages in flight, in the words of any form, they are the words of this one
+  in-flight : (form : Form) (xs : List Sent) (z : ℕ) → Named xs → laidFrom (heldAt form (laid form xs z)) (length xs) ≡ allWords to xs
+  unfolding laidFrom
+  in-flight form [] z named = refl
+  in-flight form (x ∷ xs) z named =
+      from-first (heldAt form (laid form (x ∷ xs) z)) (length xs)
+      ∙ (λ j. heldWords to (laid-first form x xs z (named x (inl refl)) j) ++ laidFrom (λ i. laid-on form x xs z i j) (length xs))
+      ∙ ap (λ (l : List ℕ). heldWords to (numbers x) ++ l) (in-flight form xs z (λ y i. named y (inr i)))
 
-  abbrev reached : Bool
-  reached = isCorrect r (addressee (r .plan) (h .kind) (h .view) (h .processor))
+  pub carried-wire : (s : State) {xs : List Sent} → Wire (s .form) (s .network) (s .run .held) xs → Named xs → (len : ℕ)
+      → Wire to (carriedWords to s len) (s .run .held) xs
+  carried-wire s {xs} wire named len = record {
+    spare = len - width to * s .run .held;
+    words = ap (λ (l : List ℕ). l ++ replicate (len - width to * s .run .held) 0) words;
+    number = wire .number;
+  }
+    where
+      words : laidOut to s (s .run .held) ≡ allWords to xs
+      words =
+          laid-out s (s .run .held) ∙ ap₂ (λ (ws : List ℕ) (k : ℕ). laidFrom (heldAt (s .form) ws) k) (wire .words) (wire .number)
+          ∙ in-flight (s .form) xs (wire .spare) named
 
-  abbrev to-reach : Bool
-  to-reach = to-processor || not reached
+  carried-length : (s : State) {xs : List Sent} → Wire (s .form) (s .network) (s .run .held) xs → Named xs → (len : ℕ) → width to * s .run .held ≤ len
+      → length (carriedWords to s len) ≡ len
+  unfolding carried-wire
+  carried-length s wire named len room = wire-length (carried-wire s wire named len) ∙ omega arith
 
-  of-taken : Taken r h → T (heldUnsound (r .plan) (r .faulty) (r .time) h) → ⊥
-  of-taken x =
-      nor to-reach (ltb (r .time) (h .sent)) (nor to-processor (not reached) (nor to-view (noProcessor (r .plan) (h .processor))
-      (nor (kindOutside (h .kind)) (noView (r .plan) (h .view)) (nor (ltb (h .kind) kindLeast) (ltb kindMost (h .kind))
-      (λ t. let g : h .kind < kindLeast = ltb→lt _ _ t in omega (arith, x .kind .0))
-      (λ t. let g : kindMost < h .kind = ltb→lt _ _ t in omega (arith, x .kind .1)))
-      (λ t. let g : r .plan .views ≤ h .view = leb→le _ _ t in omega (arith, x .view)))
-      (λ t. let g : r .plan .n ≤ h .processor = leb→le _ _ t in omega (arith, x .processor)))
-      (λ t. T-not reached t (x .reaches)))
-      (λ t. let g : r .time < h .sent = ltb→lt _ _ t in omega (arith, x .past))
+-- ---- carried over
 
-  taken-of : (T (heldUnsound (r .plan) (r .faulty) (r .time) h) → ⊥) → Taken r h
-  taken-of sound =
-      let a = neither to-reach (ltb (r .time) (h .sent)) sound in
-      let b = neither to-processor (not reached) (a .0) in
-      let c = neither to-view (noProcessor (r .plan) (h .processor)) (b .0) in
-      let d = neither (kindOutside (h .kind)) (noView (r .plan) (h .view)) (c .0) in
-      let k = neither (ltb (h .kind) kindLeast) (ltb kindMost (h .kind)) (d .0) in
+abbrev tests : Form → State → List ℕ → List Check
+tests to s target = (6, targetOutside to (s .run .plan) (s .run .held) (length target)) ∷ (9, unsound s) ∷ []
+
+-- what holds where they pass
+record Fits (to : Form) (s : State) (target : List ℕ) : Type 0 where
+  sound : unsound s ≡ false
+  long : networkOutside to (s .run .plan) (length target) ≡ false
+  room : width to * s .run .held ≤ length target
+
+module _ (to : Form) (s : State) (target : List ℕ) where
+  fits : Passes (tests to s target) → Fits to s target
+  fits c =
+      let six = neither (networkOutside to (s .run .plan) (length target)) (ltb (length target / width to) (s .run .held)) (c .0) in
       record {
-        kind = (not-ltb _ _ (k .0), not-ltb _ _ (k .1));
-        view = not-leb _ _ (d .1);
-        processor = not-leb _ _ (c .1);
-        reaches = not-not reached (b .1);
-        past = not-ltb _ _ (a .1);
+        sound = T-false (unsound s) (c .1 .0);
+        long = T-false (networkOutside to (s .run .plan) (length target)) (six .0);
+        room = words-of-room to (s .run .held) (length target) (not-ltb _ _ (six .1));
       }
 
-fine-taken : (r : Run) (x : Sent) → Fine r x → Taken r (numbers x)
-fine-taken r x f =
-    record { kind = kind-of-message (x .message); view = f .0 .view-low; processor = f .0 .processor-low; reaches = f .0 .to-correct; past = f .1 }
+  -- and then the words are these
+  goes : carriedOver to s target .check ≡ 0 → Fits to s target × (carriedOver to s target .target ≡ carriedWords to s (length target))
+  unfolding carriedOver
+  goes = by-judged-each (λ (c : CarriedOver). c .check ≡ 0 → Fits to s target × (c .target ≡ carriedWords to s (length target)))
+      (λ r. record { check = r; target = target }) (tests to s target) _ (λ t e. absurd (omega arith), (λ t e. absurd (omega arith), tt)) (λ c e. (fits c, refl))
 
-taken-fine : (r : Run) (x : Sent) → Taken r (numbers x) → Fine r x
-taken-fine r x t = (record { view-low = t .view; processor-low = t .processor; to-correct = t .reaches }, t .past)
+  module _ (g : Fits to s target) where
+    lasting : Lasts s
+    lasting = sound-lasting s (g .sound)
 
--- ---- all that it asks but for clocks and time
+    wire : Wire to (carriedWords to s (length target)) (s .run .held) (lasting .messages)
+    wire = carried-wire to s (lasting .wire) (lasts-named s lasting) (length target)
 
-pub record Carried (s : State) : Type 0 where
-  pub limits : T (limitsBroken s) → ⊥
-  pub messages : List Sent
-  pub wire : Wire (s .network) (s .run .held) messages
-  pub fine : (x : Sent) → Elem x messages → Fine (s .run) x
-  pub settling : T (settlingUnsound s) → ⊥
+    as-long : length (carriedWords to s (length target)) ≡ length target
+    as-long = carried-length to s (lasting .wire) (lasts-named s lasting) (length target) (g .room)
 
-pub carried-of : (s : State) → SoundRun s → Carried s
-unfolding messageUnsound
-carried-of s x =
-    let room : s .run .held ≤ roomIn s = not-ltb _ _ (x .room) in
-    let y = seen (Fine (s .run)) (s .run .held) (s .network) (omega arith) (λ i l. taken-of (s .run) (heldIn s i) (x .messages i l) .kind)
-    (λ i z l e. taken-fine (s .run) z (subst (Taken (s .run)) e (taken-of (s .run) (heldIn s i) (x .messages i l)))) (x .tail) in
-    record { limits = x .limits; messages = y .messages; wire = y .wire; fine = y .each; settling = x .settling }
+  -- the two are level
+  level : (e : carriedOver to s target .check ≡ 0) → Level s to (carriedOver to s target .target)
+  level e =
+      let g = goes e in
+      record {
+        messages = lasting (g .0) .messages;
+        here = lasting (g .0) .wire;
+        there = rw (g .1) (wire (g .0));
+        named = lasts-named s (lasting (g .0));
+        long-here = sound-long s (g .0 .sound);
+        long-there = ap (λ (ws : List ℕ). networkOutside to (s .run .plan) (length ws)) (g .1)
+            ∙ ap (networkOutside to (s .run .plan)) (as-long (g .0)) ∙ g .0 .long;
+      }
 
-zeros-sound : (z : ℕ) → T (someNonZero (replicate z 0)) → ⊥
-zeros-sound zero t = t
-zeros-sound (suc z) t = zeros-sound z t
+pub carried-alike : CarriedAlike
+carried-alike to s target e =
+    let l = level to s target e in
+    (sym (unsound-same l) ∙ goes to s target e .0 .sound, level-alike l)
 
--- with the clocks it is check 9 but for the time
-pub sound-carried : (s : State) → Carried s → InsideRun (s .run) → SoundRun s
-unfolding messageUnsound
-sound-carried s x inside = record {
-  limits = x .limits;
-  clocks = λ p c. not-outside (s .run .plan) (clockOf (s .run) p) (viewOf (s .run) p) (inside p c);
-  room = λ t. let g : roomIn s < s .run .held = ltb→lt _ _ t in omega (arith, wire-length (x .wire));
-  messages = λ i l.
-      let a = wire-read (x .wire) i l in
-      of-taken (s .run) (heldIn s i) (subst (Taken (s .run)) (sym (a .is)) (fine-taken (s .run) (a .sent) (x .fine (a .sent) (a .within))));
-  settling = x .settling;
-  tail = λ t. zeros-sound (x .wire .spare) (subst (λ (l : List ℕ). T (someNonZero l)) beyond t);
+-- ---- and back
+
+alike-both : {a b c : State} → HeldAlike a b → HeldAlike b c → HeldAlike a c
+alike-both {a} {b} {c} x y = record {
+  run = x .run ∙ y .run;
+  tally = x .tally ∙ y .tally;
+  held = λ i l. x .held i l ∙ y .held i (subst (λ (r : Run). i < r .held) (x .run) l);
 }
+
+pub turns-back : TurnsBack
+turns-back to s target back e e' =
+    let there = carriedTo to s target in
+    let h = goes (s .form) there back e' in
+    let l = level to s target e in (
+      alike-both (level-alike l) (level-alike (level (s .form) there back e')),
+      λ same.
+          let again : Wire (s .form) (carriedWords (s .form) there (length back)) (s .run .held) (l .messages) =
+          carried-wire (s .form) there (l .there) (l .named) (length back) in
+          let words : carriedOver (s .form) there back .target ≡ s .network =
+          h .1 ∙ same-words again (l .here) (carried-length (s .form) there (l .there) (l .named) (length back) (h .0 .room) ∙ same) in
+          (λ i. withNetwork (words i) s),
+    )
+
+-- ---- which are carried
+
+sound-carries : (to : Form) (s : State) (target : List ℕ) → unsound s ≡ false → targetOutside to (s .run .plan) (s .run .held) (length target) ≡ false
+    → carriedOver to s target .check ≡ 0
+unfolding carriedOver
+sound-carries to s target sound inside = rw (inside, sound) refl
+
+pub every-sound-carries : EverySoundCarries
+every-sound-carries to s target sound inside =
+    let e = sound-carries to s target sound inside in
+    let x = carried-alike to s target e in
+    (e, x .0, x .1)
+
+-- above 524,288 words it is outside, and up to there too short
+pub no-target-for-more : NoTargetForMore
+no-target-for-more to plan held words more = ⊎-elim short long (le? words networkMost)
   where
-    beyond : drop (messageWords * s .run .held) (s .network) ≡ replicate (x .wire .spare) 0
-    beyond = rw (x .wire .number, x .wire .words) (laid-beyond (x .messages) (x .wire .spare))
+    short : words ≤ networkMost → targetOutside to plan held words ≡ true
+    short l = T-true _ (or-right (networkOutside to plan words) _ (lt→ltb (words / width to) held (few-words (le? held (words / width to)))))
+      where
+        few-words : (held ≤ words / width to) ⊎ (words / width to < held) → words / width to < held
+        few-words (inl h) = absurd (omega (arith, words-of-room to held words h))
+        few-words (inr h) = h
 
-pub carried-planned : (s : State) → Carried s → Planned (s .run .plan) (s .run .faulty)
-carried-planned s x =
-    let plan : Plan = s .run .plan in
-    let l = neither (planOutside plan || faultyOutside plan (s .run .faulty)) (buffersOutside s) (x .limits) in
-    let f = neither (planOutside plan) (faultyOutside plan (s .run .faulty)) (l .0) in
-    planned-within plan (s .run .faulty) (f .0) (f .1)
+    long : networkMost < words → targetOutside to plan held words ≡ true
+    long l = T-true _ (or-left (networkOutside to plan words) _ (or-right (ltb words (networkLeast to plan)) _ (lt→ltb networkMost words l)))
 
--- ---- a change that is made
+pub refused-carries-nothing : RefusedCarriesNothing
+unfolding carriedOver
+refused-carries-nothing to s target = by-judged (λ (c : CarriedOver). c .check ≢ 0 → c .target ≡ target)
+    (λ r. record { check = r; target = target }) (tests to s target) _ (λ r ne. refl) (λ c ne. absurd (ne refl))
 
-pub made-carried : (s : State) (c : Change) → Carried s → Sends (s .run) (s .tally) c → (T (overfull s c) → ⊥) → Carried (made s c)
-unfolding made
-made-carried s c x y fits = record {
-  limits = λ t. x .limits (subst T (λ i. limitsFor (s .run .plan) (s .run .faulty) (y .tally i) (length-posted (x .wire) (s .run .time) (c .sent) fits i)) t);
-  messages = x .messages ++ stamped (s .run .time) (c .sent);
-  wire = wire-posted (x .wire) (s .run .time) (c .sent) fits;
-  fine = λ z i. ⊎-elim (λ j. x .fine z j)
-      (λ j. let n = in-stamped (z .message) (z .time) (s .run .time) (c .sent) j in (y .addressed (z .message) (n .1), omega (arith, n .0)))
-      (elem-cases z (x .messages) (stamped (s .run .time) (c .sent)) i);
-  settling = x .settling;
-}
-
--- ---- a message that leaves
-
-module _ (s : State) (x : Carried s) (m : Message) (is-held : T (notHeld s m) → ⊥) where
-  found : Found (x .messages) m (placeOf s m)
-  found = wire-found s (x .wire) m is-held
-
-  pub held-addressed : Addressed (s .run .plan) (s .run .faulty) m
-  held-addressed = x .fine (sentAs m (found .time)) (found-in found) .0
-
-  pub without-carried : Carried (without s m)
-  unfolding without
-  without-carried = record {
-    limits = λ t. x .limits (subst T (ap (limitsFor (s .run .plan) (s .run .faulty) (length (s .tally))) (length-without (x .wire) found)) t);
-    messages = rest found;
-    wire = wire-removed (x .wire) found;
-    fine = λ z i. x .fine z (rest-in found z i);
-    settling = x .settling;
-  }
+pub back-fits : BackFits
+back-fits to s target back e same =
+    let sound = goes to s target e .0 .sound in
+    let long : networkOutside (s .form) (s .run .plan) (length back) ≡ false = ap (networkOutside (s .form) (s .run .plan)) same ∙ sound-long s sound in
+    let room : ltb (length back / width (s .form)) (s .run .held) ≡ false =
+    ap (λ (n : ℕ). ltb (n / width (s .form)) (s .run .held)) same ∙ T-false (heldTooMany s) (sound-of s (fails (unsound s) sound) .room) in
+    sound-carries (s .form) (carriedTo to s target) back (carried-alike to s target e .0)
+    (or-neither (networkOutside (s .form) (s .run .plan) (length back)) (ltb (length back / width (s .form)) (s .run .held)) long room)

@@ -32,6 +32,7 @@ use Rattle.liveness.proofs.Link.{Planned, params, flight, Wire, wire-re
 use Rattle.liveness.proofs.Enters.{entered}
 use Rattle.liveness.proofs.Hears.{needed-enough}
 use Rattle.liveness.proofs.Tracks.{Tracked, Leads, stays, leads-on}
+use Rattle.liveness.proofs.Naming.{tracked-named}
 use Rattle.liveness.proofs.Reaches.{hear-leads, still-leads, view-certificate-leads, quorum-certificate-leads}
 use Rattle.liveness.proofs.Ticks.{tick-leads}
 use Rattle.liveness.proofs.Judging.{Passed, by-judged, by-applied, named-within}
@@ -56,7 +57,7 @@ module _ (s : State) (ok : Planned (s .run .plan) (s .run .faulty)) (x : Tracked
 
   module _ (m : Message) (is-held : T (notHeld s m) → ⊥) where
     found : Found (x .messages) m (placeOf s m)
-    found = wire-found s (x .wire) m is-held
+    found = wire-found s (x .wire) (tracked-named plan faulty ok s x) m is-held
 
     abbrev left : List Sent
     left = rest found
@@ -79,9 +80,9 @@ module _ (s : State) (ok : Planned (s .run .plan) (s .run .faulty)) (x : Tracked
     traffic-after = trafficDelivered (s .run .traffic) m (waitOf s m)
 
     abbrev network-after : List ℕ
-    network-after = removed (s .network) (s .run .held) (placeOf s m)
+    network-after = removed (s .form) (s .network) (s .run .held) (placeOf s m)
 
-    wire-after : Wire network-after after-it left
+    wire-after : Wire (s .form) network-after after-it left
     wire-after = wire-removed (x .wire) found
 
     length-after : length network-after ≡ length (s .network)

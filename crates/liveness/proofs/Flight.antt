@@ -5,41 +5,21 @@ use mathlib.Core.Logic.{_⊎_, inl, inr}
 use mathlib.Core.List.{List, [], _∷_, _++_, append-assoc}
 use Prim.Native.Nat.{ℕ, zero, suc, _+_, _*_, _≤_, _<_}
 use native.Mathlib.Omega.{arith}
+use native.Mathlib.Nat.{mul-le-mul-left}
 use lib.Dec.{T, eqb, eqb-refl, eqb→eq}
 use lib.ListN.{length, take, drop, replicate, length-append, length-replicate, length-drop}
 use lib.Seq.{slice, take-at, drop-at, drop-drop, length-take-le, length-slice}
 use Rattle.base.specs.Members.{Elem, elem-right, elem-without, elem-with}
 use Rattle.base.specs.Tests.{T-left, T-right, T-and}
 use Rattle.types.specs.declared.Message.{Message}
-use Rattle.types.specs.Quantities.{messageWords}
+use Rattle.types.specs.declared.Form.{Form}
+use Rattle.types.specs.Quantities.{nMost, width}
 use Rattle.types.specs.Messages.{kindOf, viewIn, processorIn}
-use Rattle.types.proofs.MessageLaws.{same-message}
+use Rattle.types.proofs.MessageLaws.{kind-of-message, same-message}
 use Rattle.model.specs.State.{Held, heldAs, heldWords, heldAt, wordsOf, posted, removed}
+use Rattle.model.specs.FormLaws.{held-length}
 use Rattle.model.specs.Checks.{heldIs, isAt}
-
--- ---- what the proofs know of the words of a held message: so many are they, and they are read back, one message behind the other
-
-pub held-length : (h : Held) → length (heldWords h) ≡ messageWords
-held-length h = refl
-
-pub read-back : (h : Held) (ws : List ℕ) → heldAt (heldWords h ++ ws) 0 ≡ h
-read-back h ws = refl
-
-pub read-on : (h : Held) (ws : List ℕ) (i : ℕ) → heldAt (heldWords h ++ ws) (suc i) ≡ heldAt ws i
-read-on h ws i =
-    let e0 : messageWords * suc i ≡ suc (suc (suc (suc (messageWords * i)))) = omega arith in
-    let e1 : messageWords * suc i + 1 ≡ suc (suc (suc (suc (messageWords * i + 1)))) = omega arith in
-    let e2 : messageWords * suc i + 2 ≡ suc (suc (suc (suc (messageWords * i + 2)))) = omega arith in
-    let e3 : messageWords * suc i + 3 ≡ suc (suc (suc (suc (messageWords * i + 3)))) = omega arith in
-    rw (e1, e2, e3, e0)
-
--- what is read is what was laid down
-pub laid-back : (ws : List ℕ) → messageWords ≤ length ws → ws ≡ heldWords (heldAt ws 0) ++ drop messageWords ws
-laid-back [] l = absurd (omega arith)
-laid-back (k ∷ []) l = absurd (omega arith)
-laid-back (k ∷ w ∷ []) l = absurd (omega arith)
-laid-back (k ∷ w ∷ p ∷ []) l = absurd (omega arith)
-laid-back (k ∷ w ∷ p ∷ t ∷ ws) l = refl
+use Rattle.liveness.proofs.Forms.{Holdable, read-back, time-back, read-on}
 
 -- ---- messages in flight
 
@@ -55,38 +35,40 @@ abbrev pub numbers : Sent → Held
 numbers x = heldAs (x .time) (x .message)
 
 -- the words of a list of them
-abbrev pub allWords : List Sent → List ℕ
-allWords [] = []
-allWords (x ∷ xs) = heldWords (numbers x) ++ allWords xs
+abbrev pub allWords : Form → List Sent → List ℕ
+allWords form [] = []
+allWords form (x ∷ xs) = heldWords form (numbers x) ++ allWords form xs
 
 -- the words of the messages, with z words of 0 beyond them
-abbrev pub laid : List Sent → ℕ → List ℕ
-laid xs z = allWords xs ++ replicate z 0
+abbrev pub laid : Form → List Sent → ℕ → List ℕ
+laid form xs z = allWords form xs ++ replicate z 0
 
 -- messages that are sent now
 abbrev pub stamped : ℕ → List Message → List Sent
 stamped now [] = []
 stamped now (m ∷ ms) = sentAs m now ∷ stamped now ms
 
-pub length-words : (xs : List Sent) → length (allWords xs) ≡ messageWords * length xs
-length-words [] = refl
-length-words (x ∷ xs) = length-append (heldWords (numbers x)) (allWords xs) ∙ omega (arith, held-length (numbers x), length-words xs)
+pub length-words : (form : Form) (xs : List Sent) → length (allWords form xs) ≡ width form * length xs
+length-words form [] = omega arith
+length-words form (x ∷ xs) =
+    length-append (heldWords form (numbers x)) (allWords form xs) ∙ omega (arith, held-length form (numbers x), length-words form xs)
 
-pub length-laid : (xs : List Sent) (z : ℕ) → length (laid xs z) ≡ messageWords * length xs + z
-length-laid xs z = length-append (allWords xs) (replicate z 0) ∙ omega (arith, length-words xs, length-replicate {A = ℕ} z 0)
+pub length-laid : (form : Form) (xs : List Sent) (z : ℕ) → length (laid form xs z) ≡ width form * length xs + z
+length-laid form xs z = length-append (allWords form xs) (replicate z 0) ∙ omega (arith, length-words form xs, length-replicate {A = ℕ} z 0)
 
 pub length-stamped : (now : ℕ) (ms : List Message) → length (stamped now ms) ≡ length ms
 length-stamped now [] = refl
 length-stamped now (m ∷ ms) = ap suc (length-stamped now ms)
 
-words-append : (a b : List Sent) → allWords (a ++ b) ≡ allWords a ++ allWords b
-words-append [] b = refl
-words-append (x ∷ a) b =
-    ap (λ (l : List ℕ). heldWords (numbers x) ++ l) (words-append a b) ∙ sym (append-assoc (heldWords (numbers x)) (allWords a) (allWords b))
+words-append : (form : Form) (a b : List Sent) → allWords form (a ++ b) ≡ allWords form a ++ allWords form b
+words-append form [] b = refl
+words-append form (x ∷ a) b =
+    ap (λ (l : List ℕ). heldWords form (numbers x) ++ l) (words-append form a b)
+    ∙ sym (append-assoc (heldWords form (numbers x)) (allWords form a) (allWords form b))
 
-words-stamped : (now : ℕ) (ms : List Message) → wordsOf now ms ≡ allWords (stamped now ms)
-words-stamped now [] = refl
-words-stamped now (m ∷ ms) = ap (λ (l : List ℕ). heldWords (heldAs now m) ++ l) (words-stamped now ms)
+words-stamped : (form : Form) (now : ℕ) (ms : List Message) → wordsOf form now ms ≡ allWords form (stamped now ms)
+words-stamped form now [] = refl
+words-stamped form now (m ∷ ms) = ap (λ (l : List ℕ). heldWords form (heldAs now m) ++ l) (words-stamped form now ms)
 
 zeros-off : (k z : ℕ) → drop k (replicate {A = ℕ} (k + z) 0) ≡ replicate z 0
 zeros-off zero z = let e : 0 + z ≡ z = omega arith in rw e
@@ -97,43 +79,45 @@ zeros-on zero z = let e : 0 + z ≡ z = omega arith in rw e
 zeros-on (suc k) z = let e : suc k + z ≡ suc (k + z) = omega arith in rw e (ap (λ (l : List ℕ). 0 ∷ l) (zeros-on k z))
 
 -- the words beyond the last message
-pub laid-beyond : (xs : List Sent) (z : ℕ) → drop (messageWords * length xs) (laid xs z) ≡ replicate z 0
-laid-beyond xs z = drop-at (allWords xs) (replicate z 0) (messageWords * length xs) (length-words xs)
+pub laid-beyond : (form : Form) (xs : List Sent) (z : ℕ) → drop (width form * length xs) (laid form xs z) ≡ replicate z 0
+laid-beyond form xs z = drop-at (allWords form xs) (replicate z 0) (width form * length xs) (length-words form xs)
 
 -- posting adds at the end
-pub posted-laid : (xs : List Sent) (z now : ℕ) (ms : List Message)
-    → posted (laid xs (messageWords * length ms + z)) (length xs) now ms ≡ laid (xs ++ stamped now ms) z
+pub posted-laid : (form : Form) (xs : List Sent) (z now : ℕ) (ms : List Message)
+    → posted form (laid form xs (width form * length ms + z)) (length xs) now ms ≡ laid form (xs ++ stamped now ms) z
 unfolding posted
-posted-laid xs z now ms =
-    let n : length (allWords xs) ≡ messageWords * length xs = length-words xs in
-    let w : List ℕ = laid xs (messageWords * length ms + z) in
-    let a : take (messageWords * length xs) w ≡ allWords xs = take-at (allWords xs) (replicate (messageWords * length ms + z) 0) (messageWords * length xs) n in
-    let e : messageWords * (length xs + length ms) ≡ messageWords * length xs + messageWords * length ms = omega arith in
-    let b : drop (messageWords * (length xs + length ms)) w ≡ replicate z 0 =
-    rw e (sym (drop-drop (messageWords * length ms) (messageWords * length xs) w)
-    ∙ ap (drop (messageWords * length ms)) (laid-beyond xs (messageWords * length ms + z)) ∙ zeros-off (messageWords * length ms) z) in
+posted-laid form xs z now ms =
+    let n : length (allWords form xs) ≡ width form * length xs = length-words form xs in
+    let w : List ℕ = laid form xs (width form * length ms + z) in
+    let a : take (width form * length xs) w ≡ allWords form xs =
+    take-at (allWords form xs) (replicate (width form * length ms + z) 0) (width form * length xs) n in
+    let e : width form * (length xs + length ms) ≡ width form * length xs + width form * length ms = omega arith in
+    let b : drop (width form * (length xs + length ms)) w ≡ replicate z 0 =
+    rw e (sym (drop-drop (width form * length ms) (width form * length xs) w)
+    ∙ ap (drop (width form * length ms)) (laid-beyond form xs (width form * length ms + z)) ∙ zeros-off (width form * length ms) z) in
     rw (a, b, words-append, words-stamped)
 
 -- one in the middle goes, and the rest close up
-pub removed-laid : (a b : List Sent) (x : Sent) (z : ℕ) → removed (laid (a ++ x ∷ b) z) (length (a ++ x ∷ b)) (length a) ≡ laid (a ++ b) (messageWords + z)
+pub removed-laid : (form : Form) (a b : List Sent) (x : Sent) (z : ℕ)
+    → removed form (laid form (a ++ x ∷ b) z) (length (a ++ x ∷ b)) (length a) ≡ laid form (a ++ b) (width form + z)
 unfolding removed
-removed-laid a b x z =
-    let w : List ℕ = allWords a in
-    let t : List ℕ = heldWords (numbers x) ++ allWords b in
-    let all : List ℕ = allWords (a ++ x ∷ b) in
+removed-laid form a b x z =
+    let w : List ℕ = allWords form a in
+    let t : List ℕ = heldWords form (numbers x) ++ allWords form b in
+    let all : List ℕ = allWords form (a ++ x ∷ b) in
     let h : ℕ = length (a ++ x ∷ b) in
-    let n : length w ≡ messageWords * length a = length-words a in
-    let k : length all ≡ messageWords * h = length-words (a ++ x ∷ b) in
-    let e : all ≡ w ++ t = words-append a (x ∷ b) in
-    let before : take (messageWords * length a) (all ++ replicate z 0) ≡ w =
-    rw (e, append-assoc) (take-at w (t ++ replicate z 0) (messageWords * length a) n) in
-    let up-to : take (messageWords * h) (all ++ replicate z 0) ≡ w ++ t = take-at all (replicate z 0) (messageWords * h) k ∙ e in
-    let i : messageWords * (length a + 1) ≡ messageWords * length a + messageWords = omega arith in
-    let behind : drop (messageWords * (length a + 1)) (w ++ t) ≡ allWords b =
-    rw i (sym (drop-drop messageWords (messageWords * length a) (w ++ t)) ∙ ap (drop messageWords) (drop-at w t (messageWords * length a) n)
-    ∙ drop-at (heldWords (numbers x)) (allWords b) messageWords (held-length (numbers x))) in
-    let rest : drop (messageWords * h) (all ++ replicate z 0) ≡ replicate z 0 = drop-at all (replicate z 0) (messageWords * h) k in
-    rw (before, up-to, behind, rest, append-assoc (w ++ allWords b) (replicate messageWords 0) (replicate z 0), words-append, zeros-on)
+    let n : length w ≡ width form * length a = length-words form a in
+    let k : length all ≡ width form * h = length-words form (a ++ x ∷ b) in
+    let e : all ≡ w ++ t = words-append form a (x ∷ b) in
+    let before : take (width form * length a) (all ++ replicate z 0) ≡ w =
+    rw (e, append-assoc) (take-at w (t ++ replicate z 0) (width form * length a) n) in
+    let up-to : take (width form * h) (all ++ replicate z 0) ≡ w ++ t = take-at all (replicate z 0) (width form * h) k ∙ e in
+    let i : width form * (length a + 1) ≡ width form * length a + width form = omega arith in
+    let behind : drop (width form * (length a + 1)) (w ++ t) ≡ allWords form b =
+    rw i (sym (drop-drop (width form) (width form * length a) (w ++ t)) ∙ ap (drop (width form)) (drop-at w t (width form * length a) n)
+    ∙ drop-at (heldWords form (numbers x)) (allWords form b) (width form) (held-length form (numbers x))) in
+    let rest : drop (width form * h) (all ++ replicate z 0) ≡ replicate z 0 = drop-at all (replicate z 0) (width form * h) k in
+    rw (before, up-to, behind, rest, append-assoc (w ++ allWords form b) (replicate (width form) 0) (replicate z 0), words-append, zeros-on)
 
 -- ---- membership
 
@@ -141,34 +125,47 @@ removed-laid a b x z =
 abbrev pub In : Message → ℕ → List Sent → Type 0
 In m s xs = Elem (sentAs m s) xs
 
-module _ (x : Sent) (xs : List Sent) (z : ℕ) where
-  pub laid-front : laid (x ∷ xs) z ≡ heldWords (numbers x) ++ laid xs z
-  laid-front = append-assoc (heldWords (numbers x)) (allWords xs) (replicate z 0)
+-- each of them names a processor that every form can hold
+abbrev pub Named : List Sent → Type 0
+Named xs = (x : Sent) → Elem x xs → processorIn (x .message) < nMost
 
-  pub laid-first : heldAt (laid (x ∷ xs) z) 0 ≡ numbers x
-  laid-first = ap (λ (ws : List ℕ). heldAt ws 0) laid-front ∙ read-back (numbers x) (laid xs z)
+named-first : (x : Sent) → processorIn (x .message) < nMost → Holdable (numbers x)
+named-first x low = record { kind = kind-of-message (x .message); processor = low }
 
-  pub laid-on : (i : ℕ) → heldAt (laid (x ∷ xs) z) (suc i) ≡ heldAt (laid xs z) i
-  laid-on i = ap (λ (ws : List ℕ). heldAt ws (suc i)) laid-front ∙ read-on (numbers x) (laid xs z) i
+module _ (form : Form) (x : Sent) (xs : List Sent) (z : ℕ) where
+  pub laid-front : laid form (x ∷ xs) z ≡ heldWords form (numbers x) ++ laid form xs z
+  laid-front = append-assoc (heldWords form (numbers x)) (allWords form xs) (replicate z 0)
+
+  pub laid-first : processorIn (x .message) < nMost → heldAt form (laid form (x ∷ xs) z) 0 ≡ numbers x
+  laid-first low = ap (λ (ws : List ℕ). heldAt form ws 0) laid-front ∙ read-back form (numbers x) (laid form xs z) (named-first x low)
+
+  time-first : heldAt form (laid form (x ∷ xs) z) 0 .sent ≡ x .time
+  time-first = ap (λ (ws : List ℕ). heldAt form ws 0 .sent) laid-front ∙ time-back form (numbers x) (laid form xs z)
+
+  pub laid-on : (i : ℕ) → heldAt form (laid form (x ∷ xs) z) (suc i) ≡ heldAt form (laid form xs z) i
+  laid-on i = ap (λ (ws : List ℕ). heldAt form ws (suc i)) laid-front ∙ read-on form (numbers x) (laid form xs z) i
 
 -- what is read at a place is a message in flight
-pub record Read (ws : List ℕ) (i : ℕ) (xs : List Sent) : Type 0 where
+pub record Read (form : Form) (ws : List ℕ) (i : ℕ) (xs : List Sent) : Type 0 where
   pub sent : Sent
   pub within : Elem sent xs
-  pub is : heldAt ws i ≡ numbers sent
+  pub is : heldAt form ws i ≡ numbers sent
 
-pub read-at : (xs : List Sent) (z i : ℕ) → i < length xs → Read (laid xs z) i xs
-read-at [] z i l = absurd (omega arith)
-read-at (x ∷ xs) z zero l = record { sent = x; within = inl refl; is = laid-first x xs z }
-read-at (x ∷ xs) z (suc i) l =
-    let r = read-at xs z i (omega arith) in
-    record { sent = r .sent; within = inr (r .within); is = laid-on x xs z i ∙ r .is }
+pub read-at : (form : Form) (xs : List Sent) (z i : ℕ) → Named xs → i < length xs → Read form (laid form xs z) i xs
+read-at form [] z i named l = absurd (omega arith)
+read-at form (x ∷ xs) z zero named l = record { sent = x; within = inl refl; is = laid-first form x xs z (named x (inl refl)) }
+read-at form (x ∷ xs) z (suc i) named l =
+    let r = read-at form xs z i (λ y j. named y (inr j)) (omega arith) in
+    record { sent = r .sent; within = inr (r .within); is = laid-on form x xs z i ∙ r .is }
 
--- a message in flight is read at some place
-pub stands-at : (x : Sent) (xs : List Sent) (z : ℕ) → Elem x xs → (i : ℕ) × (i < length xs) × (heldAt (laid xs z) i ≡ numbers x)
-stands-at x [] z i = absurd i
-stands-at x (y ∷ xs) z (inl e) = (0, omega arith, laid-first y xs z ∙ sym (ap numbers e))
-stands-at x (y ∷ xs) z (inr i) = let r = stands-at x xs z i in (suc (r .0), omega (arith, r .1), laid-on y xs z (r .0) ∙ r .2)
+-- the time of a message in flight is read at some place
+pub stands-at : (form : Form) (x : Sent) (xs : List Sent) (z : ℕ) → Elem x xs
+    → (i : ℕ) × (i < length xs) × (heldAt form (laid form xs z) i .sent ≡ x .time)
+stands-at form x [] z i = absurd i
+stands-at form x (y ∷ xs) z (inl e) = (0, omega arith, time-first form y xs z ∙ sym (ap (λ (u : Sent). u .time) e))
+stands-at form x (y ∷ xs) z (inr i) =
+    let r = stands-at form x xs z i in
+    (suc (r .0), omega (arith, r .1), ap (λ (h : Held). h .sent) (laid-on form y xs z (r .0)) ∙ r .2)
 
 -- ---- the message that a delivery finds
 
@@ -191,14 +188,15 @@ pub record Found (xs : List Sent) (m : Message) (i : ℕ) : Type 0 where
   pub split : xs ≡ ahead ++ sentAs m time ∷ behind
   pub place : length ahead ≡ i
 
-pub found-at : (xs : List Sent) (z : ℕ) (m : Message) (i : ℕ) → i < length xs → T (isAt (laid xs z) m i) → Found xs m i
-found-at [] z m i l t = absurd (omega arith)
-found-at (x ∷ xs) z m zero l t = record { ahead = []; behind = xs; time = x .time; split = λ j. sentAs (e j) (x .time) ∷ xs; place = refl }
+pub found-at : (form : Form) (xs : List Sent) (z : ℕ) (m : Message) (i : ℕ) → Named xs → i < length xs
+    → T (isAt form (laid form xs z) m i) → Found xs m i
+found-at form [] z m i named l t = absurd (omega arith)
+found-at form (x ∷ xs) z m zero named l t = record { ahead = []; behind = xs; time = x .time; split = λ j. sentAs (e j) (x .time) ∷ xs; place = refl }
   where
     e : x .message ≡ m
-    e = held-alone (x .time) (x .message) m (subst (λ (h : Held). T (heldIs m h)) (laid-first x xs z) t)
-found-at (x ∷ xs) z m (suc i) l t =
-    go (found-at xs z m i (omega arith) (subst (λ (h : Held). T (heldIs m h)) (laid-on x xs z i) t))
+    e = held-alone (x .time) (x .message) m (subst (λ (h : Held). T (heldIs m h)) (laid-first form x xs z (named x (inl refl))) t)
+found-at form (x ∷ xs) z m (suc i) named l t =
+    go (found-at form xs z m i (λ y j. named y (inr j)) (omega arith) (subst (λ (h : Held). T (heldIs m h)) (laid-on form x xs z i) t))
   where
     go : Found xs m i → Found (x ∷ xs) m (suc i)
     go f = record { ahead = x ∷ f .ahead; behind = f .behind; time = f .time; split = ap (λ (l : List Sent). x ∷ l) (f .split); place = ap suc (f .place) }
@@ -220,18 +218,20 @@ module _ {xs : List Sent} {m : Message} {i : ℕ} (found : Found xs m i) where
 
 -- ---- of any words
 
-pub length-removed : (ws : List ℕ) (h i : ℕ) → i < h → messageWords * h ≤ length ws → length (removed ws h i) ≡ length ws
+pub length-removed : (form : Form) (ws : List ℕ) (h i : ℕ) → i < h → width form * h ≤ length ws → length (removed form ws h i) ≡ length ws
 unfolding removed
-length-removed ws h i l k =
-    let a : List ℕ = take (messageWords * i) ws in
-    let b : List ℕ = slice (messageWords * (i + 1)) (messageWords * h) ws in
-    let z : List ℕ = replicate messageWords 0 in
-    let d : List ℕ = drop (messageWords * h) ws in
+length-removed form ws h i l k =
+    let at : width form * (i + 1) ≤ width form * h = mul-le-mul-left (width form) (omega arith) in
+    let a : List ℕ = take (width form * i) ws in
+    let b : List ℕ = slice (width form * (i + 1)) (width form * h) ws in
+    let z : List ℕ = replicate (width form) 0 in
+    let d : List ℕ = drop (width form * h) ws in
     length-append (a ++ b ++ z) d ∙ omega (
       arith,
+      length-replicate {A = ℕ} (width form) 0,
       length-append (a ++ b) z,
       length-append a b,
-      length-take-le (messageWords * i) ws (omega arith),
-      length-slice (messageWords * (i + 1)) (messageWords * h) ws k,
-      length-drop (messageWords * h) ws,
+      length-take-le (width form * i) ws (omega arith),
+      length-slice (width form * (i + 1)) (width form * h) ws k,
+      length-drop (width form * h) ws,
     )

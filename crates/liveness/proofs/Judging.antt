@@ -3,18 +3,20 @@ use mathlib.Core.Path.{_≡_, refl, ap}
 use mathlib.Core.Bool.{Bool, true, false, _||_, cond}
 use mathlib.Core.Logic.{⊎-elim}
 use mathlib.Core.List.{List, [], _∷_, _++_}
-use Prim.Native.Nat.{ℕ, _≤_, _<_}
+use Prim.Native.Nat.{ℕ, _*_, _≤_, _<_}
 use native.Mathlib.Omega.{arith}
 use lib.Dec.{T, leb, ltb, le→leb, lt→ltb}
 use Rattle.base.specs.ScanLaws.{first-le}
-use Rattle.base.specs.Tests.{eq?, eq→eqb, or-left, or-right, or-cases, le?, by-cond}
+use Rattle.base.specs.Tests.{T-false, eq?, eq→eqb, or-left, or-right, or-cases, le?, by-cond}
 use Rattle.types.specs.declared.Plan.{Plan}
 use Rattle.types.specs.declared.Message.{Message}
 use Rattle.types.specs.declared.Event.{Event}
 use Rattle.types.specs.declared.Event.the-variants.{Deliver, Sign, Show, Settle, Tick}
+use Rattle.types.specs.declared.Form.{Form}
+use Rattle.types.specs.Quantities.{rowWords, networkLeast, networkMost}
 use Rattle.types.specs.Messages.{lacksForm}
 use Rattle.model.specs.State.{State, After, refused}
-use Rattle.model.specs.Checks.{Check, judged, unsound, namedOutside, isAt, placeOf, notHeld}
+use Rattle.model.specs.Checks.{Check, judged, networkOutside, lengthsOutside, unsound, namedOutside, isAt, placeOf, notHeld}
 use Rattle.model.specs.Events.{inputChecks, changeChecks, checks, effect, applied}
 
 -- none of the checks refuses
@@ -107,22 +109,6 @@ by-applied-each Q e s one nine later g = by-judged-each Q (refused s) (checks e 
     others Settle = (λ t. later 15 (omega arith), tt)
     others (Tick m) = tt
 
--- ---- single checks
-
--- check 10 passed
-pub named-within : (plan : Plan) (p w : ℕ) → (T (namedOutside plan p w) → ⊥) → (p < plan .n) × (w < plan .views)
-named-within plan p w no' = (
-  ⊎-elim (λ (l : plan .n ≤ p). absurd (no' (or-left (leb (plan .n) p) (leb (plan .views) w) (le→leb _ _ l)))) (λ l. l) (le? (plan .n) p),
-  ⊎-elim (λ (l : plan .views ≤ w). absurd (no' (or-right (leb (plan .n) p) (leb (plan .views) w) (le→leb _ _ l)))) (λ l. l) (le? (plan .views) w),
-)
-
--- check 13 passed
-pub place-inside : (s : State) (m : Message) → (T (notHeld s m) → ⊥) → placeOf s m < s .run .held
-place-inside s m is-held = ⊎-elim
-    (λ (e : placeOf s m ≡ s .run .held). absurd (is-held (eq→eqb _ _ e)))
-    (λ ne. omega (arith, first-le (isAt (s .network) m) (s .run .held)))
-    (eq? (placeOf s m) (s .run .held))
-
 -- ---- tests that do not pass
 
 pub neither : (a b : Bool) → (T (a || b) → ⊥) → (T a → ⊥) × (T b → ⊥)
@@ -141,3 +127,34 @@ not-ltb a b no' = ⊎-elim (λ (l : b ≤ a). l) (λ (l : a < b). absurd (no' (l
 
 pub not-leb : (a b : ℕ) → (T (leb a b) → ⊥) → b < a
 not-leb a b no' = ⊎-elim (λ (l : a ≤ b). absurd (no' (le→leb a b l))) (λ (l : b < a). l) (le? a b)
+
+-- ---- single checks
+
+-- check 10 passed
+pub named-within : (plan : Plan) (p w : ℕ) → (T (namedOutside plan p w) → ⊥) → (p < plan .n) × (w < plan .views)
+named-within plan p w no' = (
+  ⊎-elim (λ (l : plan .n ≤ p). absurd (no' (or-left (leb (plan .n) p) (leb (plan .views) w) (le→leb _ _ l)))) (λ l. l) (le? (plan .n) p),
+  ⊎-elim (λ (l : plan .views ≤ w). absurd (no' (or-right (leb (plan .n) p) (leb (plan .views) w) (le→leb _ _ l)))) (λ l. l) (le? (plan .views) w),
+)
+
+-- check 6 passed
+pub record Lengths (form : Form) (plan : Plan) (tally network : ℕ) : Type 0 where
+  pub rows : rowWords * plan .views ≤ tally
+  pub least : networkLeast form plan ≤ network
+  pub most : network ≤ networkMost
+
+pub lengths-within : (form : Form) (plan : Plan) (t n : ℕ) → (T (lengthsOutside form plan t n) → ⊥) → Lengths form plan t n
+lengths-within form plan t n no' =
+    let a = neither (ltb t (rowWords * plan .views)) (networkOutside form plan n) no' in
+    let b = neither (ltb n (networkLeast form plan)) (ltb networkMost n) (a .1) in
+    record { rows = not-ltb _ _ (a .0); least = not-ltb _ _ (b .0); most = not-ltb _ _ (b .1) }
+
+pub network-within : (form : Form) (plan : Plan) (t n : ℕ) → (T (lengthsOutside form plan t n) → ⊥) → networkOutside form plan n ≡ false
+network-within form plan t n no' = T-false (networkOutside form plan n) (neither (ltb t (rowWords * plan .views)) (networkOutside form plan n) no' .1)
+
+-- check 13 passed
+pub place-inside : (s : State) (m : Message) → (T (notHeld s m) → ⊥) → placeOf s m < s .run .held
+place-inside s m is-held = ⊎-elim
+    (λ (e : placeOf s m ≡ s .run .held). absurd (is-held (eq→eqb _ _ e)))
+    (λ ne. omega (arith, first-le (isAt (s .form) (s .network) m) (s .run .held)))
+    (eq? (placeOf s m) (s .run .held))

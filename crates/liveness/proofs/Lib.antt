@@ -1,9 +1,11 @@
 -- Why the definitions keep what is promised, in the order in which it is shown.
 pub mod Judging
 pub mod TallyLaws
+pub mod Forms
 pub mod Flight
 pub mod Sending
 pub mod Link
+pub mod Wires
 pub mod Soundness
 pub mod Enters
 pub mod Hears
@@ -18,16 +20,22 @@ pub mod Events
 pub mod FirstEntries
 pub mod Opens
 pub mod Laying
-pub mod Carrying
+pub mod Lasting
+pub mod Changes
 pub mod Sound
 pub mod Keeping
 pub mod History
 pub mod Answers
 pub mod Alike
+pub mod Level
+pub mod EventsAlike
+pub mod SchedulesAlike
+pub mod Carrying
 pub mod Settling
 pub mod Marks
 pub mod Bits
 pub mod Cutting
+pub mod Staying
 pub mod Unread
 pub mod Counting
 pub mod Flows

@@ -18,13 +18,15 @@ use Rattle.protocol.specs.Params.{Params}
 use Rattle.protocol.specs.State.{Processors, Tally, Flight, Starts}
 use Rattle.types.specs.declared.Plan.{Plan}
 use Rattle.types.specs.declared.Message.{Message}
+use Rattle.types.specs.declared.Form.{Form}
 use Rattle.types.specs.declared.Run.{Run}
-use Rattle.types.specs.Quantities.{deltaLeast, gammaMost, nLeast, nMost, viewsLeast, viewsMost, rowWords, messageWords, tolerated, perLeader, turnStart, lead, initial, nextInitial, clockTime, endTime, correct}
+use Rattle.types.specs.Quantities.{deltaLeast, gammaMost, nLeast, nMost, viewsLeast, viewsMost, rowWords, width, tolerated, perLeader, turnStart, lead, initial, nextInitial, clockTime, endTime, correct}
 use Rattle.types.proofs.PlanLaws.{per-leader-positive}
 use Rattle.model.specs.State.{State, isCorrect, enteredWord, heardWord, marksWord, markBit, word, posted, removed, capacity}
+use Rattle.model.specs.FormLaws.{words-of-room}
 use Rattle.model.specs.Moves.{Change, certificate}
 use Rattle.model.specs.Checks.{isAt, placeOf, notHeld, reachesEnd}
-use Rattle.liveness.proofs.Flight.{sentAs, Sent, In, laid, stamped, length-laid, length-stamped, posted-laid, removed-laid, Read, read-at, Found, found-at, rest, length-removed}
+use Rattle.liveness.proofs.Flight.{sentAs, Sent, In, Named, laid, stamped, length-laid, length-stamped, posted-laid, removed-laid, Read, read-at, Found, found-at, rest, length-removed}
 use Rattle.liveness.proofs.Sending.{signature, At}
 use Rattle.liveness.proofs.Judging.{place-inside}
 
@@ -112,51 +114,52 @@ abbrev pub flight : List Sent → Flight
 flight xs = record { signature = λ q w p s. In (signature q w p) s xs; certificate = λ q w p s. In (certificate q w p) s xs }
 
 -- the words are those of the messages in flight, with zeros beyond
-pub record Wire (ws : List ℕ) (held : ℕ) (xs : List Sent) : Type 0 where
+pub record Wire (form : Form) (ws : List ℕ) (held : ℕ) (xs : List Sent) : Type 0 where
   pub spare : ℕ
-  pub words : ws ≡ laid xs spare
+  pub words : ws ≡ laid form xs spare
   pub number : held ≡ length xs
 
-module _ {ws : List ℕ} {held : ℕ} {xs : List Sent} (wire : Wire ws held xs) where
-  pub wire-length : length ws ≡ messageWords * held + wire .spare
-  wire-length = ap length (wire .words) ∙ length-laid xs (wire .spare) ∙ omega (arith, wire .number)
+module _ {form : Form} {ws : List ℕ} {held : ℕ} {xs : List Sent} (wire : Wire form ws held xs) where
+  pub wire-length : length ws ≡ width form * held + wire .spare
+  wire-length = ap length (wire .words) ∙ length-laid form xs (wire .spare) ∙ omega (arith, ap (λ (x : ℕ). width form * x) (wire .number))
 
   -- what is read at a place within the messages held is one in flight
-  pub wire-read : (i : ℕ) → i < held → Read ws i xs
-  wire-read i l = subst (λ (u : List ℕ). Read u i xs) (sym (wire .words)) (read-at xs (wire .spare) i (omega (arith, wire .number)))
+  pub wire-read : Named xs → (i : ℕ) → i < held → Read form ws i xs
+  wire-read named i l = subst (λ (u : List ℕ). Read form u i xs) (sym (wire .words)) (read-at form xs (wire .spare) i named (omega (arith, wire .number)))
 
   -- and is found there, if it is m
-  pub wire-found-at : (m : Message) (i : ℕ) → i < held → T (isAt ws m i) → Found xs m i
-  wire-found-at m i l t = found-at xs (wire .spare) m i (omega (arith, wire .number)) (subst (λ (u : List ℕ). T (isAt u m i)) (wire .words) t)
+  pub wire-found-at : Named xs → (m : Message) (i : ℕ) → i < held → T (isAt form ws m i) → Found xs m i
+  wire-found-at named m i l t = found-at form xs (wire .spare) m i named (omega (arith, wire .number))
+      (subst (λ (u : List ℕ). T (isAt form u m i)) (wire .words) t)
 
-  module _ (now : ℕ) (ms : List Message) (fits : T (ltb (capacity ws) (held + length ms)) → ⊥) where
-    wire-room : messageWords * length ms ≤ wire .spare
-    wire-room = ⊎-elim (λ (l : held + length ms ≤ capacity ws). omega (arith, wire-length))
-        (λ (l : capacity ws < held + length ms). absurd (fits (lt→ltb _ _ l))) (le? (held + length ms) (capacity ws))
+  module _ (now : ℕ) (ms : List Message) (fits : T (ltb (capacity form ws) (held + length ms)) → ⊥) where
+    wire-room : width form * length ms ≤ wire .spare
+    wire-room = ⊎-elim (λ (l : held + length ms ≤ capacity form ws). omega (arith, wire-length, words-of-room form (held + length ms) (length ws) l))
+        (λ (l : capacity form ws < held + length ms). absurd (fits (lt→ltb _ _ l))) (le? (held + length ms) (capacity form ws))
 
-    pub wire-posted : Wire (posted ws held now ms) (held + length ms) (xs ++ stamped now ms)
+    pub wire-posted : Wire form (posted form ws held now ms) (held + length ms) (xs ++ stamped now ms)
     wire-posted = record {
-      spare = wire .spare - messageWords * length ms;
+      spare = wire .spare - width form * length ms;
       words =
-          let e : wire .spare ≡ messageWords * length ms + (wire .spare - messageWords * length ms) = omega (arith, wire-room) in
-          rw (wire .words, wire .number) (ap (λ (z : ℕ). posted (laid xs z) (length xs) now ms) e
-          ∙ posted-laid xs (wire .spare - messageWords * length ms) now ms);
+          let e : wire .spare ≡ width form * length ms + (wire .spare - width form * length ms) = omega (arith, wire-room) in
+          rw (wire .words, wire .number) (ap (λ (z : ℕ). posted form (laid form xs z) (length xs) now ms) e
+          ∙ posted-laid form xs (wire .spare - width form * length ms) now ms);
       number = omega (arith, wire .number, length-append xs (stamped now ms), length-stamped now ms);
     }
 
-    pub length-posted : length (posted ws held now ms) ≡ length ws
+    pub length-posted : length (posted form ws held now ms) ≡ length ws
     unfolding wire-posted
     length-posted =
-        ap length (wire-posted .words) ∙ length-laid (xs ++ stamped now ms) (wire-posted .spare)
-        ∙ omega (arith, length-append xs (stamped now ms), length-stamped now ms, wire-length, wire .number, wire-room)
+        ap length (wire-posted .words) ∙ length-laid form (xs ++ stamped now ms) (wire-posted .spare)
+        ∙ omega (arith, ap (λ (x : ℕ). width form * x) (sym (wire-posted .number)), wire-length, wire-room)
 
   module _ {m : Message} {i : ℕ} (found : Found xs m i) where
-    pub wire-removed : Wire (removed ws held i) (held - 1) (rest found)
+    pub wire-removed : Wire form (removed form ws held i) (held - 1) (rest found)
     wire-removed = record {
-      spare = messageWords + wire .spare;
+      spare = width form + wire .spare;
       words =
           rw (wire .words, wire .number, found .split, ← found .place)
-          (removed-laid (found .ahead) (found .behind) (sentAs m (found .time)) (wire .spare));
+          (removed-laid form (found .ahead) (found .behind) (sentAs m (found .time)) (wire .spare));
       number = omega (
         arith,
         wire .number,
@@ -167,16 +170,17 @@ module _ {ws : List ℕ} {held : ℕ} {xs : List Sent} (wire : Wire ws held xs) 
       );
     }
 
-    pub length-without : length (removed ws held i) ≡ length ws
-    length-without = length-removed ws held i
+    pub length-without : length (removed form ws held i) ≡ length ws
+    length-without = length-removed form ws held i
         (omega (arith, wire .number, found .place, ap length (found .split), length-append (found .ahead) (sentAs m (found .time) ∷ found .behind)))
         (omega (arith, wire-length))
 
 -- a held message is found in flight
-pub wire-found : (s : State) {xs : List Sent} → Wire (s .network) (s .run .held) xs → (m : Message) → (T (notHeld s m) → ⊥) → Found xs m (placeOf s m)
-wire-found s wire m is-held =
+pub wire-found : (s : State) {xs : List Sent} → Wire (s .form) (s .network) (s .run .held) xs → Named xs → (m : Message) → (T (notHeld s m) → ⊥)
+    → Found xs m (placeOf s m)
+wire-found s wire named m is-held =
     let inside : placeOf s m < s .run .held = place-inside s m is-held in
-    wire-found-at wire m (placeOf s m) inside (first-at (isAt (s .network) m) (s .run .held) inside)
+    wire-found-at wire named m (placeOf s m) inside (first-at (isAt (s .form) (s .network) m) (s .run .held) inside)
 
 -- ---- clocks, views and tally
 

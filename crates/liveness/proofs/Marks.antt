@@ -25,7 +25,7 @@ use Rattle.model.specs.Lists.{after, formsQuorum, formedIn, formedDuring}
 use Rattle.liveness.specs.Promises.{quorumMark, MarksAreFormed}
 use Rattle.liveness.proofs.TallyLaws.{heard-low, length-added, added-same, added-only}
 use Rattle.liveness.proofs.Soundness.{sound-of, rows-long}
-use Rattle.liveness.proofs.Carrying.{carried-of, held-addressed}
+use Rattle.liveness.proofs.Lasting.{lasts-of, held-addressed}
 use Rattle.liveness.proofs.Judging.{named-within, Passed, by-judged, by-applied}
 
 -- the mark of w's quorum certificate
@@ -79,7 +79,7 @@ ticks-mark (suc m) s w x = go (checkOf (tickOnce s .answer)) (λ y. once-mark s 
 
 pub addressed : (s : State) (m : Message) → (T (unsound s) → ⊥) → (T (notHeld s m) → ⊥)
     → T (isCorrect (s .run) (addressee (s .run .plan) (kindOf m) (viewIn m) (processorIn m)))
-addressed s m sound is-held = held-addressed s (carried-of s (sound-of s sound)) m is-held .to-correct
+addressed s m sound is-held = held-addressed s (lasts-of s (sound-of s sound)) m is-held .to-correct
 
 -- ---- each event
 

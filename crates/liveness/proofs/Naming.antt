@@ -14,7 +14,7 @@ use Rattle.types.specs.declared.Message.the-variants.{View, Vote, Vc, Qc}
 use Rattle.types.specs.Quantities.{lead, correct}
 use Rattle.model.specs.State.{State}
 use Rattle.model.specs.Moves.{certificate}
-use Rattle.liveness.proofs.Flight.{In}
+use Rattle.liveness.proofs.Flight.{In, Named}
 use Rattle.liveness.proofs.Sending.{signature}
 use Rattle.liveness.proofs.Link.{Planned, correct-below}
 use Rattle.liveness.proofs.Addressing.{Addressed}
@@ -46,6 +46,9 @@ module _ (plan : Plan) (faulty : ℕ) (ok : Planned plan faulty) (s : State) (x 
   in-flight-addressed (Vote w p) t i = let f = signature-names true w p t i in record { view-low = f .0; processor-low = f .1; to-correct = f .2 }
   in-flight-addressed (Vc w p) t i = let f = certificate-names false w p t i in record { view-low = f .0; processor-low = f .1; to-correct = f .2 }
   in-flight-addressed (Qc w p) t i = let f = certificate-names true w p t i in record { view-low = f .0; processor-low = f .1; to-correct = f .2 }
+
+  pub tracked-named : Named (x .messages)
+  tracked-named y i = omega (arith, ok .n-most, in-flight-addressed (y .message) (y .time) i .processor-low)
 
   pub in-flight-past : (m : Message) (t : ℕ) → In m t (x .messages) → t ≤ s .run .time
   in-flight-past (View w p) t i = x .holds .times .signature-past false w p t i

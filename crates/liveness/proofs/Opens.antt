@@ -2,7 +2,7 @@
 use mathlib.Core.Path.{_≡_, refl, sym, ap, _∙_, subst}
 use mathlib.Core.Bool.{Bool, false, not, _&&_, _||_, cond}
 use mathlib.Core.List.{[]}
-use Prim.Native.Nat.{ℕ, _+_, _*_, _^_, _≤_, _<_}
+use Prim.Native.Nat.{ℕ, _+_, _*_, _/_, _^_, _≤_, _<_}
 use native.Mathlib.Omega.{arith}
 use native.Mathlib.Nat.{mul-le-mul-right}
 use lib.Dec.{T, eqb, leb, ltb, eqb→eq, leb→le, le→leb, ltb→lt}
@@ -18,19 +18,21 @@ use Rattle.protocol.specs.Opening.{Open, open-holds}
 use Rattle.types.specs.declared.Plan.{Plan}
 use Rattle.types.specs.declared.Run.{Run}
 use Rattle.types.specs.declared.Setup.{Setup}
-use Rattle.types.specs.Quantities.{nLeast, nMost, deltaLeast, deltaMost, gammaLeast, gammaMost, viewsLeast, viewsMost, networkLeast, networkMost, tableClocks, rowWords, perLeader, tolerated, lead, turnStart, startLimit, correct}
+use Rattle.types.specs.Quantities.{nLeast, nMost, deltaLeast, deltaMost, gammaLeast, gammaMost, viewsLeast, viewsMost, width, tableClocks, rowWords, perLeader, tolerated, lead, turnStart, startLimit, correct}
 use Rattle.types.proofs.PlanLaws.{gamma-twice, next-least, next-of-zero}
-use Rattle.model.specs.State.{State, capacity, enteredWord, heardWord, marksWord, markBit, word}
+use Rattle.model.specs.State.{State, After, capacity, accepted, refused, done, enteredWord, heardWord, marksWord, markBit, word}
+use Rattle.model.specs.FormLaws.{room-of-words}
 use Rattle.model.specs.Moves.{Change, entries, certificate, made}
-use Rattle.model.specs.Checks.{supporting, startTooHigh, tooFarAhead, nOutside, delaysOutside, viewsOutside, faultyOutside, planOutside}
-use Rattle.model.specs.Opening.{blankRun, blank, firstEntry, opened, openingChecks}
+use Rattle.model.specs.Checks.{supporting, startTooHigh, tooFarAhead, nOutside, delaysOutside, viewsOutside, faultyOutside, planOutside, lengthsOutside}
+use Rattle.model.specs.Opening.{blankRun, blank, firstEntry, opened, openingChecks, opening}
 use Rattle.liveness.proofs.TallyLaws.{heard-low}
+use Rattle.liveness.proofs.Forms.{least-twice}
 use Rattle.liveness.proofs.Flight.{stamped}
 use Rattle.liveness.proofs.Sending.{signature, signature-is, apart, in-stamped, stamped-in}
 use Rattle.liveness.proofs.Link.{Planned, params, correct-below, flight, Wire, wire-posted, length-posted, Books}
 use Rattle.liveness.proofs.FirstEntries.{zeros, blank-tally, views-positive, Mid, mid-all}
 use Rattle.liveness.proofs.Tracks.{Tracked}
-use Rattle.liveness.proofs.Judging.{Passes, neither, nor, not-ltb, not-leb}
+use Rattle.liveness.proofs.Judging.{Passes, by-judged, neither, nor, not-ltb, not-leb, Lengths, lengths-within}
 
 -- what is within the limits of checks 2 to 5
 pub planned-within : (p : Plan) (faulty : ℕ) → (T (planOutside p) → ⊥) → (T (faultyOutside p faulty) → ⊥) → Planned p faulty
@@ -78,11 +80,11 @@ module _ (u : Setup) (s : State) (c : Passes (openingChecks u s)) where
   abbrev r : Run
   r = blankRun u
 
+  lengths : Lengths (s .form) plan (length (s .tally)) (length (s .network))
+  lengths = lengths-within (s .form) plan (length (s .tally)) (length (s .network)) (c .1 .1 .1 .1 .0)
+
   pub tally-long : rowWords * plan .views ≤ length (s .tally)
-  tally-long =
-      let a = neither (ltb (length (s .tally)) (rowWords * plan .views) || ltb (length (s .network)) (networkLeast plan)) (ltb networkMost (length (s .network)))
-      (c .1 .1 .1 .1 .0) in
-      not-ltb _ _ (neither (ltb (length (s .tally)) (rowWords * plan .views)) (ltb (length (s .network)) (networkLeast plan)) (a .0) .0)
+  tally-long = lengths .rows
 
   -- ---- all have entered
 
@@ -166,16 +168,14 @@ module _ (u : Setup) (s : State) (c : Passes (openingChecks u s)) where
   }
 
   -- the network holds them: two messages at most of each processor
-  pub room : T (ltb (capacity (replicate (length (s .network)) 0)) (0 + length (all .sent))) → ⊥
+  pub room : T (ltb (capacity (s .form) (replicate (length (s .network)) 0)) (0 + length (all .sent))) → ⊥
   room t =
-      let a = neither (ltb (length (s .tally)) (rowWords * plan .views) || ltb (length (s .network)) (networkLeast plan)) (ltb networkMost (length (s .network)))
-      (c .1 .1 .1 .1 .0) in
-      let l : networkLeast plan ≤ length (s .network) = not-ltb _ _
-      (neither (ltb (length (s .tally)) (rowWords * plan .views)) (ltb (length (s .network)) (networkLeast plan)) (a .0) .1) in
-      let g : capacity (replicate (length (s .network)) 0) < 0 + length (all .sent) = ltb→lt _ _ t in
-      omega (arith, m .sent-few, length-replicate {A = ℕ} (length (s .network)) 0)
+      let g : capacity (s .form) (replicate (length (s .network)) 0) < 0 + length (all .sent) = ltb→lt _ _ t in
+      let l : 2 * plan .n ≤ length (replicate {A = ℕ} (length (s .network)) 0) / width (s .form) = room-of-words (s .form) (2 * plan .n) _
+      (omega (arith, least-twice (s .form) plan, lengths .least, length-replicate {A = ℕ} (length (s .network)) 0)) in
+      omega (arith, m .sent-few)
 
-  pub first-wire : Wire (replicate (length (s .network)) 0) 0 []
+  pub first-wire : Wire (s .form) (replicate (length (s .network)) 0) 0 []
   first-wire = record { spare = length (s .network); words = refl; number = refl }
 
   pub opened-lengths : (length (opened u s .tally) ≡ length (s .tally)) × (length (opened u s .network) ≡ length (s .network))
@@ -201,10 +201,7 @@ module _ (u : Setup) (s : State) (c : Passes (openingChecks u s)) where
         (nor (nOutside plan || delaysOutside plan || viewsOutside plan) (faultyOutside plan faulty)
         (nor (nOutside plan || delaysOutside plan) (viewsOutside plan) (nor (nOutside plan) (delaysOutside plan) (c .0) (c .1 .0)) (c .1 .1 .0))
         (c .1 .1 .1 .0))
-        (subst (λ (x : ℕ). T (ltb x (rowWords * plan .views) || ltb (length (opened u s .network)) (networkLeast plan) || ltb 524288
-        (length (opened u s .network))) → ⊥) (sym (opened-lengths .0))
-        (subst (λ (x : ℕ). T (ltb (length (s .tally)) (rowWords * plan .views) || ltb x (networkLeast plan) || ltb 524288 x) → ⊥)
-        (sym (opened-lengths .1)) (c .1 .1 .1 .1 .0))));
+        (λ t. c .1 .1 .1 .1 .0 (subst T (λ i. lengthsOutside (s .form) plan (opened-lengths .0 i) (opened-lengths .1 i)) t)));
   }
     where
       limit-reached : perLeader plan ≤ plan .views
@@ -213,3 +210,9 @@ module _ (u : Setup) (s : State) (c : Passes (openingChecks u s)) where
         next-least plan 0 (plan .views) (T-true (turnStart plan (plan .views)) (ok .views-multiple)) (views-positive u (s .tally) ok tally-long),
         next-of-zero plan,
       )
+
+-- an accepted opening has passed its checks and done this
+pub opening-done : (u : Setup) (s : State) → T (accepted (opening u s .answer)) → Passes (openingChecks u s) × (opening u s ≡ done (opened u s))
+unfolding opening
+opening-done u s = by-judged (λ (a : After). T (accepted (a .answer)) → Passes (openingChecks u s) × (a ≡ done (opened u s)))
+    (refused s) (openingChecks u s) (done (opened u s)) (λ r t. absurd t) (λ c t. (c, refl))

@@ -1,4 +1,5 @@
--- The promises of specs/Promises.antt and specs/Unread.antt, proved: those of any run are passed on from the files that show them. Assumes nothing.
+-- The promises of specs/Promises.antt, specs/Unread.antt and specs/Carrying.antt, proved: those of any run are passed on from the files that
+-- show them. Assumes nothing.
 pub use Rattle.liveness.proofs.History.{list-law, ticks-are-time, ticks-add}
 pub use Rattle.liveness.proofs.Answers.{ticks-answered, refused-as-overdue, answers-told, refused-stays, refused-opening-stays}
 pub use Rattle.liveness.proofs.Alike.{opens-alike}
@@ -7,6 +8,8 @@ pub use Rattle.liveness.proofs.Soundness.{unsound-parts}
 pub use Rattle.liveness.proofs.Keeping.{events-last}
 pub use Rattle.liveness.proofs.Marks.{marks-are-formed}
 pub use Rattle.liveness.proofs.Unread.{opens-within, beyond-unread}
+pub use Rattle.liveness.proofs.SchedulesAlike.{answered-alike, alike-from-opening}
+pub use Rattle.liveness.proofs.Carrying.{carried-alike, turns-back, back-fits, every-sound-carries, no-target-for-more, refused-carries-nothing}
 use mathlib.Core.Path.{_≡_, refl, sym, ap, _∙_, subst}
 use mathlib.Core.Bool.{Bool, true, false, _&&_, cond}
 use mathlib.Core.Logic.{_⊎_, inl, inr, _≢_}
@@ -32,7 +35,7 @@ use Rattle.types.specs.declared.Event.{Event}
 use Rattle.types.specs.declared.Event.the-variants.{Deliver, Sign, Show, Settle, Tick}
 use Rattle.types.specs.declared.Setup.{Setup}
 use Rattle.types.specs.Quantities.{perLeader, tolerated, lead, correct}
-use Rattle.model.specs.State.{State, After, clockOf, viewOf, checkOf, accepted, refused, done}
+use Rattle.model.specs.State.{State, After, clockOf, viewOf, checkOf, accepted}
 use Rattle.model.specs.Checks.{supporting, tooFarAhead, unsound}
 use Rattle.model.specs.Opening.{opened, openingChecks, opening}
 use Rattle.model.specs.Events.{nowSettled, ticks, tickRun, effect, applied}
@@ -44,10 +47,11 @@ use Rattle.liveness.proofs.Link.{Planned, params, correct-count, third}
 use Rattle.liveness.proofs.Tracks.{Tracked, Leads, stays, leads-on}
 use Rattle.liveness.proofs.Judging.{Passes, by-judged, by-applied, by-applied-each}
 use Rattle.liveness.proofs.Events.{at-own-plan, event-leads}
-use Rattle.liveness.proofs.Opens.{planned, opened-tracked, opened-lengths}
+use Rattle.liveness.proofs.Opens.{planned, opened-tracked, opened-lengths, opening-done}
 use Rattle.liveness.proofs.Sound.{tracked-sound}
 use Rattle.liveness.proofs.History.{ticks-not-nine, answered-check}
 use Rattle.liveness.proofs.Settling.{settle-cases}
+use Rattle.liveness.proofs.Staying.{opening-stays, events-stay}
 use Rattle.liveness.proofs.Marks.{Marked, marked-during}
 
 -- ---- the clock condition
@@ -246,10 +250,7 @@ module _ (u : Setup) (ok : Planned (u .plan) (u .faulty)) where
 -- what an accepted opening leaves
 pub opened-so : (u : Setup) (before : State) → T (accepted (opening u before .answer)) → Passes (openingChecks u before)
     × (opening u before .state ≡ opened u before)
-unfolding opening
-opened-so u before = by-judged (λ (a : After). T (accepted (a .answer)) → Passes (openingChecks u before) × (a .state ≡ opened u before))
-    (refused before) (openingChecks u before) (done (opened u before))
-    (λ r t. absurd t) (λ c t. (c, refl))
+opened-so u before t = let o = opening-done u before t in (o .0, ap (λ (a : After). a .state) (o .1))
 
 module _ (u : Setup) (before : State) (t : T (accepted (opening u before .answer))) where
   pub c₀ : Passes (openingChecks u before)
@@ -281,7 +282,13 @@ pub stays-same : StaysSame
 stays-same u before t es =
     let f = follows (u .plan) (u .faulty) (planned u before (c₀ u before t)) es (opening u before .state) (tracked₀ u before t) in
     let l = lengths in
-    record { plan = f .tracked .plan-is; faulty = f .tracked .faulty-is; tally = f .tally-length ∙ l .0; network = f .network-length ∙ l .1 }
+    record {
+      plan = f .tracked .plan-is;
+      faulty = f .tracked .faulty-is;
+      tally = f .tally-length ∙ l .0;
+      network = f .network-length ∙ l .1;
+      form = events-stay (opening u before .state) es ∙ opening-stays u before;
+    }
   where
     lengths : (length (opening u before .state .tally) ≡ length (before .tally)) × (length (opening u before .state .network) ≡ length (before .network))
     lengths = subst (λ (s : State). (length (s .tally) ≡ length (before .tally)) × (length (s .network) ≡ length (before .network)))

@@ -45,7 +45,7 @@ module _ (s : State) (ok : Planned (s .run .plan) (s .run .faulty)) (x : Tracked
   To s' = Leads plan faulty ok s x s'
 
   -- a network with the messages ys, of which none is new
-  module _ (h : ℕ) (traffic : Traffic) (ws : List ℕ) (ys : List Sent) (wire : Wire ws h ys) (same-length : length ws ≡ length (s .network))
+  module _ (h : ℕ) (traffic : Traffic) (ws : List ℕ) (ys : List Sent) (wire : Wire (s .form) ws h ys) (same-length : length ws ≡ length (s .network))
       (kept : (m : Message) (t : ℕ) → In m t ys → In m t (x .messages)) where
     abbrev s₁ : State
     s₁ = withRun (withTraffic traffic (withHeld h (s .run))) (withNetwork ws s)
@@ -56,7 +56,7 @@ module _ (s : State) (ok : Planned (s .run .plan) (s .run .faulty)) (x : Tracked
         → (T (overfull s₁ (hearing q (s₁ .run) (s .tally) w p)) → ⊥) → To (made s₁ (hearing q (s₁ .run) (s .tally) w p))
     unfolding made hearing
     hear-leads q w p w-low p-low gone from led fits =
-        arrives plan faulty ok x (made s₁ (hearing q (s₁ .run) (s .tally) w p)) refl refl
+        arrives plan faulty ok x (made s₁ (hearing q (s₁ .run) (s .tally) w p)) refl refl refl
         (ys ++ stamped (s .run .time) (sent-of q (s₁ .run) (s .tally) ok (x .books) w p w-low p-low (s .run .time) (x .messages) ys kept gone from
         led)) (x .processors)
         (hearers q (s₁ .run) (s .tally) ok (x .books) w p w-low p-low)
@@ -72,7 +72,7 @@ module _ (s : State) (ok : Planned (s .run .plan) (s .run .faulty)) (x : Tracked
         → (T (overfull s₁ (still (s₁ .run) (s .tally))) → ⊥) → To (made s₁ (still (s₁ .run) (s .tally)))
     unfolding made
     still-leads gone fits =
-        arrives plan faulty ok x (made s₁ (still (s₁ .run) (s .tally))) refl refl (ys ++ []) (x .processors) (x .tally)
+        arrives plan faulty ok x (made s₁ (still (s₁ .run) (s .tally))) refl refl refl (ys ++ []) (x .processors) (x .tally)
         (wire-posted wire (s .run .time) [] fits) (x .books)
         (more none (passes (record {
           signature-old = λ d u r t i. ⊎-elim (λ y. elem-left (sentAs (signature d u r) t) ys [] y) (λ y. absurd (apart d (y .0) u (y .1) r (y .2) (y .3)))
@@ -101,7 +101,7 @@ module _ (s : State) (ok : Planned (s .run .plan) (s .run .faulty)) (x : Tracked
       enter-leads : viewOf (s .run) p < onward q w → Safely (into (onward q w))
       unfolding taking made entering
       enter-leads above not-end fits =
-          arrives plan faulty ok x (made s₁ (taken (into u))) refl refl
+          arrives plan faulty ok x (made s₁ (taken (into u))) refl refl refl
           (ys ++ stamped (s .run .time) (sent-to (s₁ .run) (s .tally) ok (x .books) p u c low (s .run .time) (x .messages) ys kept lost why))
           (entrants (s₁ .run) (s .tally) ok (x .books) p u c low) (x .tally)
           (wire-posted wire (s .run .time) _ fits)

@@ -17,7 +17,7 @@ use Rattle.liveness.proofs.Tracks.{Tracked, tracked-inside}
 use Rattle.liveness.proofs.Naming.{in-flight-addressed, in-flight-past}
 use Rattle.liveness.proofs.Judging.{nor}
 use Rattle.liveness.proofs.Soundness.{of-sound}
-use Rattle.liveness.proofs.Carrying.{Carried, sound-carried}
+use Rattle.liveness.proofs.Lasting.{Lasts, sound-lasts}
 use Rattle.liveness.proofs.Events.{at-own-plan}
 
 module _ (s : State) (ok : Planned (s .run .plan) (s .run .faulty)) (x : Tracked (s .run .plan) (s .run .faulty) ok s) where
@@ -40,8 +40,8 @@ module _ (s : State) (ok : Planned (s .run .plan) (s .run .faulty)) (x : Tracked
   settling-sound : s .run .gst ≤ s .run .time
   settling-sound = ⊎-elim (λ b. x .holds .times .settled b) (λ b. omega (arith, x .unsettled (not-T (s .run .settled) b))) (passes? (s .run .settled))
 
-  carried : Carried s
-  carried = record {
+  lasts : Lasts s
+  lasts = record {
     limits = λ t. subst T (x .limits) t;
     messages = x .messages;
     wire = x .wire;
@@ -53,7 +53,7 @@ module _ (s : State) (ok : Planned (s .run .plan) (s .run .faulty)) (x : Tracked
   }
 
   sound : unsound s ≡ false
-  sound = of-sound s (sound-carried s carried (tracked-inside plan faulty ok s x)) time-sound
+  sound = of-sound s (sound-lasts s lasts (tracked-inside plan faulty ok s x)) time-sound
 
 pub tracked-sound : (plan : Plan) (faulty : ℕ) (ok : Planned plan faulty) (s : State) → Tracked plan faulty ok s → unsound s ≡ false
 tracked-sound = at-own-plan (λ plan' faulty' ok' s' x'. unsound s' ≡ false) sound

@@ -12,12 +12,12 @@ use Rattle.base.specs.Scan.{some}
 use Rattle.base.specs.ScanLaws.{some-by, some-gives}
 use Rattle.types.specs.declared.Plan.{Plan}
 use Rattle.types.specs.declared.Run.{Run}
-use Rattle.types.specs.Quantities.{rowWords, networkLeast, networkMost, nextInitial, clockTime, endTime, correct}
+use Rattle.types.specs.Quantities.{rowWords, nextInitial, clockTime, endTime, correct}
 use Rattle.model.specs.State.{State, clockOf, viewOf, isCorrect}
 use Rattle.model.specs.Checks.{planOutside, faultyOutside, buffersOutside, limitsBroken, atEnd, clockOutside, clocksUnsound, timeUnsound, heldTooMany, messageUnsound, settlingUnsound, tailNotZero, unsound, unsoundForGood}
 use Rattle.liveness.specs.Promises.{UnsoundParts}
 use Rattle.liveness.proofs.Link.{correct-below}
-use Rattle.liveness.proofs.Judging.{neither, nor, or-none, not-ltb, not-leb}
+use Rattle.liveness.proofs.Judging.{neither, nor, or-none, not-ltb, not-leb, lengths-within}
 
 -- ---- check 9 but for the time
 
@@ -142,7 +142,5 @@ inside-of s x p c = in-view (s .run .plan) (clockOf (s .run) p) (viewOf (s .run)
 pub rows-long : (s : State) → (T (limitsBroken s) → ⊥) → rowWords * s .run .plan .views ≤ length (s .tally)
 rows-long s no' =
     let p : Plan = s .run .plan in
-    let b = neither (planOutside p || faultyOutside p (s .run .faulty)) (buffersOutside s) no' .1 in
-    let b' = neither (ltb (length (s .tally)) (rowWords * p .views) || ltb (length (s .network)) (networkLeast p))
-    (ltb networkMost (length (s .network))) b .0 in
-    not-ltb _ _ (neither (ltb (length (s .tally)) (rowWords * p .views)) (ltb (length (s .network)) (networkLeast p)) b' .0)
+    lengths-within (s .form) p (length (s .tally)) (length (s .network))
+    (neither (planOutside p || faultyOutside p (s .run .faulty)) (buffersOutside s) no' .1) .rows

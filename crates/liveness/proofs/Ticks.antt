@@ -18,7 +18,7 @@ use Rattle.types.specs.declared.Plan.{Plan}
 use Rattle.types.specs.declared.Message.{Message}
 use Rattle.types.specs.declared.Run.{Run}
 use Rattle.types.specs.Quantities.{initial, clockTime}
-use Rattle.model.specs.State.{State, clockOf, viewOf, isCorrect, Held, heldAt}
+use Rattle.model.specs.State.{State, clockOf, viewOf, isCorrect, heldAt, heldIn}
 use Rattle.model.specs.Moves.{Change, changed, still, also, Entry, stay, into, byClock, entering, taking, entries, advanced, arrival, arrivals, made}
 use Rattle.model.specs.Checks.{overdueAt, overdue, reachesEnd, overfull}
 use Rattle.liveness.proofs.Flight.{sentAs, Sent, In, stamped, stands-at}
@@ -34,16 +34,16 @@ stamped-append now [] b = refl
 stamped-append now (m ∷ a) b = ap (λ (l : List Sent). sentAs m now ∷ l) (stamped-append now a b)
 
 -- nothing in flight is overdue
-pub timely : (s : State) (xs : List Sent) → Wire (s .network) (s .run .held) xs → (T (overdue s) → ⊥) → T (s .run .settled)
+pub timely : (s : State) (xs : List Sent) → Wire (s .form) (s .network) (s .run .held) xs → (T (overdue s) → ⊥) → T (s .run .settled)
     → (m : Message) (t : ℕ) → In m t xs → s .run .time < max t (s .run .gst) + s .run .plan .delta
 unfolding overdue
 timely s xs wire no' z m t i =
-    let r = stands-at (sentAs m t) xs (wire .spare) i in
-    let e : heldAt (s .network) (r .0) .sent ≡ t = ap (λ (l : List ℕ). heldAt l (r .0) .sent) (wire .words) ∙ ap (λ (h : Held). h .sent) (r .2) in
+    let r = stands-at (s .form) (sentAs m t) xs (wire .spare) i in
+    let e : heldIn s (r .0) .sent ≡ t = ap (λ (l : List ℕ). heldAt (s .form) l (r .0) .sent) (wire .words) ∙ r .2 in
     ⊎-elim
     (λ (l : max t (s .run .gst) + s .run .plan .delta ≤ s .run .time).
     absurd (no' (T-and (s .run .settled) _ z (some-by (overdueAt s) (s .run .held) (r .0) (omega (arith, r .1, wire .number))
-    (let g : max (heldAt (s .network) (r .0) .sent) (s .run .gst) + s .run .plan .delta ≤ s .run .time = rw e l in le→leb _ _ g)))))
+    (let g : max (heldIn s (r .0) .sent) (s .run .gst) + s .run .plan .delta ≤ s .run .time = rw e l in le→leb _ _ g)))))
     (λ l. l)
     (le? (max t (s .run .gst) + s .run .plan .delta) (s .run .time))
 
@@ -178,7 +178,7 @@ module _ (s : State) (ok : Planned (s .run .plan) (s .run .faulty)) (x : Tracked
   tick-leads fits =
       let m = mid-all (plan .n) in
       let c = arrivals (advanced s) in
-      arrives plan faulty ok x (made (advanced s) c) refl refl (x .messages ++ stamped now (c .sent)) (m .P) (x .tally)
+      arrives plan faulty ok x (made (advanced s) c) refl refl refl (x .messages ++ stamped now (c .sent)) (m .P) (x .tally)
       (wire-posted (x .wire) now (c .sent) fits) (m .books)
       (subst (λ (l : List Sent). Steps π (state-of plan faulty ok s x) (st (m .P) (x .tally) (flight l) now (s .run .gst) (s .run .settled)))
       (m .messages-are) (m .way))

@@ -12,6 +12,7 @@ use Rattle.protocol.specs.Base.{Base}
 use Rattle.protocol.specs.Runs.{St, st, Steps, none, steps-trans, steps-kept, steps-flag, steps-clock-up}
 use Rattle.protocol.specs.RunKeeps.{steps-holds}
 use Rattle.types.specs.declared.Plan.{Plan}
+use Rattle.types.specs.declared.Form.{Form}
 use Rattle.types.specs.Quantities.{correct}
 use Rattle.model.specs.State.{State, clockOf}
 use Rattle.model.specs.Checks.{planOutside, faultyOutside, lengthsOutside, limitsBroken}
@@ -20,8 +21,8 @@ use Rattle.liveness.proofs.Link.{Planned, params, flight, Wire, Books, 
 use Rattle.liveness.proofs.Soundness.{Inside}
 
 -- the limits of a run, by the lengths of what is lent
-abbrev pub limitsFor : Plan → ℕ → ℕ → ℕ → Bool
-limitsFor p faulty a b = planOutside p || faultyOutside p faulty || lengthsOutside p a b
+abbrev pub limitsFor : Form → Plan → ℕ → ℕ → ℕ → Bool
+limitsFor form p faulty a b = planOutside p || faultyOutside p faulty || lengthsOutside form p a b
 
 module _ (plan : Plan) (faulty : ℕ) (ok : Planned plan faulty) where
   abbrev π : Params
@@ -34,7 +35,7 @@ module _ (plan : Plan) (faulty : ℕ) (ok : Planned plan faulty) where
     pub messages : List Sent
     pub processors : Processors
     pub tally : Tally
-    pub wire : Wire (s .network) (s .run .held) messages
+    pub wire : Wire (s .form) (s .network) (s .run .held) messages
     pub books : Books plan (s .run .clocks) (s .run .views) (s .tally) processors tally
     pub holds : Base π processors tally (flight messages) (s .run .time) (s .run .gst) (s .run .settled)
     pub ready : Ready plan faulty (s .run .clocks) (s .run .views)
@@ -75,8 +76,9 @@ module _ (plan : Plan) (faulty : ℕ) (ok : Planned plan faulty) where
   }
 
   -- what has to be shown of an event: the rest follows from the run of the protocol
-  module _ {s : State} (x : Tracked s) (s' : State) (plan-to : s' .run .plan ≡ s .run .plan) (faulty-to : s' .run .faulty ≡ s .run .faulty)
-      (messages-to : List Sent) (P : Processors) (L : Tally) (wire-to : Wire (s' .network) (s' .run .held) messages-to)
+  module _ {s : State} (x : Tracked s) (s' : State) (form-to : s' .form ≡ s .form)
+      (plan-to : s' .run .plan ≡ s .run .plan) (faulty-to : s' .run .faulty ≡ s .run .faulty)
+      (messages-to : List Sent) (P : Processors) (L : Tally) (wire-to : Wire (s' .form) (s' .network) (s' .run .held) messages-to)
       (books-to : Books plan (s' .run .clocks) (s' .run .views) (s' .tally) P L)
       (way-to : Steps π (state-of s x) (st P L (flight messages-to) (s' .run .time) (s' .run .gst) (s' .run .settled)))
       (ready-to : Ready plan faulty (s' .run .clocks) (s' .run .views)) (below-to : Below plan faulty (s' .run .clocks))
@@ -100,7 +102,7 @@ module _ (plan : Plan) (faulty : ℕ) (ok : Planned plan faulty) where
         below = below-to;
         early = still-early;
         unsettled = λ t. steps-kept π way-to .1 ∙ x .unsettled (subst (λ (b : Bool). T (not b)) (steps-flag π way-to) t);
-        limits = (λ i. limitsFor (plan-to i) (faulty-to i) (tally-to i) (network-to i)) ∙ x .limits;
+        limits = (λ i. limitsFor (form-to i) (plan-to i) (faulty-to i) (tally-to i) (network-to i)) ∙ x .limits;
       };
       way = way-to;
       tally-length = tally-to;

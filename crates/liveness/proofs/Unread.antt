@@ -1,4 +1,4 @@
--- Tally words beyond the views are never read, and an opening reads nothing of what is at hand but lengths. Assumes nothing.
+-- Tally words beyond the views are never read, and an opening reads nothing of what is at hand but lengths and the form. Assumes nothing.
 use mathlib.Core.Path.{_≡_, refl, sym, ap, _∙_, subst}
 use mathlib.Core.Bool.{Bool, true, false, not, cond}
 use mathlib.Core.List.{List, [], _∷_, _++_}
@@ -37,7 +37,7 @@ cutState s = withTally (take (rowWords * s .run .plan .views) (s .tally)) s
 cut-same : (s s' : State) → SameWithin s s' → cutState s ≡ cutState s'
 cut-same s s' h =
     let t : cutState s .tally ≡ cutState s' .tally = h .tally ∙ ap (λ (r : Run). take (rowWords * r .plan .views) (s' .tally)) (h .run) in
-    λ i. withRun (h .run i) (withTally (t i) (withNetwork (h .network i) s))
+    λ i. record { run = h .run i; tally = t i; network = h .network i; form = h .form i }
 
 same-cut : (s s' : State) → cutState s ≡ cutState s' → length (s .tally) ≡ length (s' .tally) → SameWithin s s'
 same-cut s s' e l =
@@ -45,6 +45,7 @@ same-cut s s' e l =
     record {
       run = r;
       network = ap (λ (a : State). a .network) e;
+      form = ap (λ (a : State). a .form) e;
       tally = ap (λ (a : State). a .tally) e ∙ sym (ap (λ (x : Run). take (rowWords * x .plan .views) (s' .tally)) r);
       lengths = l;
     }
@@ -65,18 +66,18 @@ module _ (u : Setup) where
       let k = rowWords * u .plan .views in
       ap (λ (l : List ℕ). withTally l (blank u s)) (take-at (replicate k 0) (drop k (s .tally)) k (length-replicate {A = ℕ} k 0))
 
-  opened-cut : (s s' : State) → length (s .network) ≡ length (s' .network) → cutState (opened u s) ≡ cutState (opened u s')
+  opened-cut : (s s' : State) → s .form ≡ s' .form → length (s .network) ≡ length (s' .network) → cutState (opened u s) ≡ cutState (opened u s')
   unfolding opened
-  opened-cut s s' l =
+  opened-cut s s' f l =
       sym (entered-cut (blank u s) (firstEntry u) (u .plan .n))
       ∙ ap (λ (b : State). made b (entries (firstEntry u) (b .run) (b .tally) (u .plan .n))) (blank-cut s
-      ∙ ap (λ (n : ℕ). withRun (blankRun u) (withTally (replicate (rowWords * u .plan .views) 0) (withNetwork (replicate n 0) s))) l ∙ sym (blank-cut s'))
+      ∙ (λ i. record { run = blankRun u; tally = replicate (rowWords * u .plan .views) 0; network = replicate (l i) 0; form = f i }) ∙ sym (blank-cut s'))
       ∙ entered-cut (blank u s') (firstEntry u) (u .plan .n)
 
 pub opens-within : OpensWithin
 unfolding opening
-opens-within u s s' lt ln =
-    let e : openingChecks u s ≡ openingChecks u s' = λ i. setupChecks u (lt i) (ln i) in
+opens-within u s s' long =
+    let e : openingChecks u s ≡ openingChecks u s' = λ i. setupChecks (long .form i) u (long .tally i) (long .network i) in
     subst (λ (cs : List Check). Alike (opening u s) (judged (refused s') cs (done (opened u s')))) e
     (by-judged-two Alike (refused s) (refused s') (openingChecks u s) (done (opened u s)) (done (opened u s'))
     (λ r. (refl, λ t. no-yes (sym t)))
@@ -86,7 +87,7 @@ opens-within u s s' lt ln =
     Alike a b = (a .answer ≡ b .answer) × (accepted (a .answer) ≡ true → SameWithin (a .state) (b .state))
 
     within : Passes (openingChecks u s) → Passes (openingChecks u s') → SameWithin (opened u s) (opened u s')
-    within c c' = same-cut (opened u s) (opened u s') (opened-cut u s s' ln) (opened-lengths u s c .0 ∙ lt ∙ sym (opened-lengths u s' c' .0))
+    within c c' = same-cut (opened u s) (opened u s') (opened-cut u s s' (long .form) (long .network)) (opened-lengths u s c .0 ∙ long .tally ∙ sym (opened-lengths u s' c' .0))
 
 -- ---- events
 

@@ -14,7 +14,7 @@ use Rattle.model.specs.Events.{applied}
 use Rattle.model.specs.Traffic.{deliveredBy, deliveredIn, waitBy, waitIn, deliveredDuring, waitsDuring}
 use Rattle.liveness.proofs.Judging.{not-leb}
 use Rattle.liveness.proofs.Soundness.{sound-of, sound-time}
-use Rattle.liveness.proofs.Carrying.{carried-of, carried-planned}
+use Rattle.liveness.proofs.Lasting.{lasts-of, lasts-planned}
 use Rattle.liveness.proofs.Flows.{by-flow}
 
 -- VΓ at its largest
@@ -23,7 +23,7 @@ longest = viewsMost * gammaMost
 
 time-low : (s : State) → (T (unsound s) → ⊥) → s .run .time ≤ longest
 time-low s sound =
-    let ok = carried-planned s (carried-of s (sound-of s sound)) in
+    let ok = lasts-planned s (lasts-of s (sound-of s sound)) in
     let g : s .run .time < endTime (s .run .plan) = not-leb _ _ (sound-time s sound) in
     omega (arith, mul-le-mul (ok .views-most) (ok .gamma-most))
 

@@ -2,4 +2,6 @@
 pub mod Promises
 pub mod Traffic
 pub mod Unread
+pub mod Carrying
 pub mod Live
+pub mod Holding

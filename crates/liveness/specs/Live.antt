@@ -107,14 +107,17 @@ kept = record { view = 3; led = tt; formed = tt; later = λ p c. omega (arith, l
 unfoldable slow : Setup
 slow = setupOf (planOf 7 1 3 9) 3 []
 
+abbrev slowUnopened : State
+slowUnopened = lent 36 64
+
 abbrev slowStart : State
-slowStart = opening slow (lent 36 64) .state
+slowStart = opening slow slowUnopened .state
 
 -- all enter view 6 at time 18, and what they send may still be on its way at 19
 unfoldable slowEvents : List Event
 slowEvents = Settle ∷ Tick 19 ∷ []
 
-slow-accepted : allAccepted (opening slow (lent 36 64) .answer ∷ answers slowStart slowEvents) ≡ true
+slow-accepted : allAccepted (opening slow slowUnopened .answer ∷ answers slowStart slowEvents) ≡ true
 unfolding allAccepted slow slowEvents definitions
 slow-accepted = refl
 

@@ -75,12 +75,13 @@ EventReaches = (s : State) → Reachable s → (e : Event) → Reachable (applie
 abbrev pub ReachableSound : Type 0
 ReachableSound = (s : State) → Reachable s → unsound s ≡ false
 
--- the plan, the faulty set and the lengths of what is lent stay
+-- the plan, the faulty set, the lengths of what is lent and the form of the network stay
 pub record Same (u : Setup) (before s : State) : Type 0 where
   pub plan : s .run .plan ≡ u .plan
   pub faulty : s .run .faulty ≡ u .faulty
   pub tally : length (s .tally) ≡ length (before .tally)
   pub network : length (s .network) ≡ length (before .network)
+  pub form : s .form ≡ before .form
 
 abbrev pub StaysSame : Type 0
 StaysSame =

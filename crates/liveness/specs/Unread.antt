@@ -18,6 +18,7 @@ use Rattle.model.specs.Events.{applied}
 pub record SameWithin (s s' : State) : Type 0 where
   pub run : s .run ≡ s' .run
   pub network : s .network ≡ s' .network
+  pub form : s .form ≡ s' .form
   pub tally : take (rowWords * s .run .plan .views) (s .tally) ≡ take (rowWords * s .run .plan .views) (s' .tally)
   pub lengths : length (s .tally) ≡ length (s' .tally)
 
@@ -27,10 +28,16 @@ BeyondUnread =
     (e : Event) (s s' : State) → SameWithin s s'
     → (applied e s .answer ≡ applied e s' .answer) × SameWithin (applied e s .state) (applied e s' .state)
 
--- an opening reads nothing of the run and the buffers at hand but their lengths
+-- two states with "lent buffers as long", of one form
+pub record AsLong (s s' : State) : Type 0 where
+  pub form : s .form ≡ s' .form
+  pub tally : length (s .tally) ≡ length (s' .tally)
+  pub network : length (s .network) ≡ length (s' .network)
+
+-- an opening reads nothing of the run and the buffers at hand but that
 abbrev pub OpensWithin : Type 0
 OpensWithin =
-    (u : Setup) (s s' : State) → length (s .tally) ≡ length (s' .tally) → length (s .network) ≡ length (s' .network)
+    (u : Setup) (s s' : State) → AsLong s s'
     → (opening u s .answer ≡ opening u s' .answer)
     × (accepted (opening u s .answer) ≡ true → SameWithin (opening u s .state) (opening u s' .state))
 

@@ -17,10 +17,11 @@ use Rattle.buffers.specs.declared.Stored.the-variants.{Holds}
 use Rattle.buffers.specs.Kinds.{stored}
 use Rattle.buffers.proofs.Storing.{held-stored}
 use Rattle.liveness.proofs.Flight.{held-itself}
-use Rattle.liveness.proofs.Link.{wire-length, wire-read}
+use Rattle.liveness.proofs.Judging.{not-ltb}
+use Rattle.liveness.proofs.Link.{wire-read}
 use Rattle.liveness.proofs.Soundness.{SoundRun}
 use Rattle.liveness.proofs.Addressing.{Addressed}
-use Rattle.liveness.proofs.Carrying.{Carried, carried-of, carried-planned}
+use Rattle.liveness.proofs.Lasting.{Lasts, lasts-of, lasts-planned, lasts-named}
 use Rattle.lines.specs.Forms.{eventForm, EventLine}
 use Rattle.loads.specs.declared.Turn.{Turn}
 use Rattle.loads.specs.Draws.{nextSeed, draw}
@@ -29,25 +30,25 @@ use Rattle.loads.specs.Loads.{Point, deliveryOf, delivery, refusedOverdu
 -- ---- of a sound run
 
 module _ (s : State) (sound : SoundRun s) where
-  carried : Carried s
-  carried = carried-of s sound
+  lasts : Lasts s
+  lasts = lasts-of s sound
 
   -- what stands at a place within the messages held is a message, which names a view and a processor that there are
   pub record Holding (i : ℕ) : Type 0 where
     pub message : Message
-    pub stored-as : stored (s .network) i ≡ Holds message
-    pub shows : T (isAt (s .network) message i)
+    pub stored-as : stored (s .form) (s .network) i ≡ Holds message
+    pub shows : T (isAt (s .form) (s .network) message i)
     pub addressed : Addressed (s .run .plan) (s .run .faulty) message
 
   pub held : (i : ℕ) → i < s .run .held → Holding i
   held i l =
-      let x = carried in
-      let a = wire-read (x .wire) i l in
+      let x = lasts in
+      let a = wire-read (x .wire) (lasts-named s x) i l in
       let m : Message = a .sent .message in
-      let fits : i < roomIn s = omega (arith, wire-length (x .wire)) in
+      let fits : i < roomIn s = omega (arith, not-ltb (roomIn s) (s .run .held) (sound .room)) in
       record {
         message = m;
-        stored-as = held-stored (s .network) i m (a .sent .time) fits (a .is);
+        stored-as = held-stored (s .form) (s .network) i m (a .sent .time) fits (a .is);
         shows = subst (λ (h : Held). T (heldIs m h)) (sym (a .is)) (held-itself (a .sent .time) m);
         addressed = x .fine (a .sent) (a .within) .0;
       }
@@ -57,7 +58,7 @@ module _ (s : State) (sound : SoundRun s) where
 
   message-line : (m : Message) → Addressed (s .run .plan) (s .run .faulty) m → EventLine (eventForm (Deliver m)) (Deliver m)
   message-line m a =
-      let ok = carried-planned s carried in
+      let ok = lasts-planned s lasts in
       let v = ok .views-most in
       let n = ok .n-most in
       record { formed = refl; below = (omega (arith, a .view-low), (omega (arith, a .processor-low), tt)); bytes = refl }

@@ -32,7 +32,7 @@ draws =
 abbrev tells : Load → List (List ℕ)
 tells l = (l .point .seed ∷ l .point .step ∷ cond (l .full) 1 0 ∷ []) ∷ l .forms
 
--- from an opening into buffers of the least lengths for it
+-- from an opening into buffers that are long enough
 abbrev made : Setup → ℕ → ℕ → ℕ → ℕ → Load
 made u steps settle seed room = wholeLoad u (lent 24 64) steps settle seed room
 
@@ -88,11 +88,11 @@ further s seed room left es = (tells (furtherLoad 1 9 (pointOf s seed 0) room), 
 abbrev three : Bool → ℕ → ℕ → ℕ → State
 three settled a b c =
     handedIn standard 0 5 settled 0 3 (5 ∷ 5 ∷ 5 ∷ 5 ∷ []) zeroes []
-    (2 ∷ 0 ∷ 1 ∷ a ∷ 1 ∷ 0 ∷ 2 ∷ b ∷ 4 ∷ 0 ∷ 3 ∷ c ∷ [])
+    (65 ∷ a ∷ 2 ∷ b ∷ 195 ∷ c ∷ [])
 
 -- settled, with a message overdue, and the time at VΓ
 abbrev late : State
-late = handedIn standard 0 24 true 0 1 (5 ∷ 5 ∷ 5 ∷ 5 ∷ []) zeroes [] (2 ∷ 0 ∷ 1 ∷ 0 ∷ [])
+late = handedIn standard 0 24 true 0 1 (5 ∷ 5 ∷ 5 ∷ 5 ∷ []) zeroes [] (65 ∷ 0 ∷ [])
 
 pub furtherLoads : List Row
 furtherLoads =

@@ -38,7 +38,7 @@ deliveryOf Unknown = Tick 0
 
 -- of the message held at place i
 abbrev pub delivery : State → ℕ → Event
-delivery s i = deliveryOf (stored (s .network) i)
+delivery s i = deliveryOf (stored (s .form) (s .network) i)
 
 -- a tick that 16 refuses: before it comes 9, which refuses any event at a time of VΓ or later (`SubstitutesOverdue`)
 abbrev pub refusedOverdue : State → Bool

@@ -1,6 +1,7 @@
 // What a load out of a seed number does next: the draws, and the event that they choose.
 use buffers::Stored;
 use types::Event;
+use types::Form;
 use types::Head;
 use types::Plan;
 ghost use mathlib.Core.Path.{_≡_};
@@ -79,11 +80,11 @@ fn is_late(gst: u64, delta: u64, time: u64, sent: u64) -> bool
 
 // The first of the held messages that is late, or how many are held.
 fn first_late(gst: u64, delta: u64, time: u64, held: usize, network: &[u64]) -> usize
-    ensures { λ r. ⌜ r ≡ first (lateAt gst delta time (now (network .entry))) held ⌝ }
+    ensures { λ r. ⌜ r ≡ first (lateAt gst delta time Form.Packed (now (network .entry))) held ⌝ }
 {
     let mut i = 0;
     while i < held {
-        if is_late(gst, delta, time, buffers::sent(network, i)) {
+        if is_late(gst, delta, time, buffers::sent(Form::Packed, network, i)) {
             return i;
         }
         i += 1;
@@ -93,9 +94,9 @@ fn first_late(gst: u64, delta: u64, time: u64, held: usize, network: &[u64]) -> 
 
 // The delivery of message i.
 fn delivery(network: &[u64], i: usize) -> Event
-    ensures { λ r. ⌜ r ≡ deliveryOf (stored (now (network .entry)) i) ⌝ }
+    ensures { λ r. ⌜ r ≡ deliveryOf (stored Form.Packed (now (network .entry)) i) ⌝ }
 {
-    match buffers::decode(network, i) {
+    match buffers::decode(Form::Packed, network, i) {
         Stored::Holds(message) => Event::Deliver(message),
         Stored::Unknown => Event::Tick(0),
     }
@@ -113,7 +114,7 @@ fn is_over(plan: Plan, time: u64) -> bool
 
 // What becomes of a tick where message i is the first that is overdue.
 fn substitute(plan: Plan, time: u64, network: &[u64], i: usize) -> Event
-    ensures { λ r. ⌜ r ≡ cond (atEnd plan time) (Event.Tick 1) (deliveryOf (stored (now (network .entry)) i)) ⌝ }
+    ensures { λ r. ⌜ r ≡ cond (atEnd plan time) (Event.Tick 1) (deliveryOf (stored Form.Packed (now (network .entry)) i)) ⌝ }
 {
     if is_over(plan, time) {
         return Event::Tick(1);

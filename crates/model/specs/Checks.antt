@@ -9,8 +9,9 @@ use Rattle.base.specs.Scan.{some, first}
 use Rattle.base.specs.Sets.{member, size}
 use Rattle.types.specs.declared.Plan.{Plan}
 use Rattle.types.specs.declared.Message.{Message}
+use Rattle.types.specs.declared.Form.{Form}
 use Rattle.types.specs.declared.Run.{Run}
-use Rattle.types.specs.Quantities.{nLeast, nMost, deltaLeast, deltaMost, gammaLeast, gammaMost, viewsLeast, viewsMost, rowWords, messageWords, networkLeast, networkMost, tolerated, lead, initial, nextInitial, clockTime, endTime, startLimit, correct, turnStart}
+use Rattle.types.specs.Quantities.{nLeast, nMost, deltaLeast, deltaMost, gammaLeast, gammaMost, viewsLeast, viewsMost, rowWords, width, networkLeast, networkMost, tolerated, lead, initial, nextInitial, clockTime, endTime, startLimit, correct, turnStart}
 use Rattle.types.specs.Messages.{kindOf, viewIn, processorIn, kindLeast, kindMost, stageOf, addressee}
 use Rattle.model.specs.State.{State, isCorrect, Held, enteredWord, marksWord, markBit, word, heldAt, heldIn, roomIn}
 use Rattle.model.specs.Moves.{Change, needed}
@@ -53,12 +54,16 @@ planOutside p = nOutside p || delaysOutside p || viewsOutside p
 abbrev pub faultyOutside : Plan → ℕ → Bool
 faultyOutside p faulty = leb (2 ^ p .n) faulty || ltb (tolerated p) (size faulty)
 
+-- "or the post fewer than 8n or more than 524,288"; in the packed form, "A post needs at least 4n words"
+abbrev pub networkOutside : Form → Plan → ℕ → Bool
+networkOutside form p network = ltb network (networkLeast form p) || ltb networkMost network
+
 -- 6. "The ledger has fewer than 4V words, or the post fewer than 8n or more than 524,288."
-abbrev pub lengthsOutside : Plan → ℕ → ℕ → Bool
-lengthsOutside p tally network = ltb tally (rowWords * p .views) || ltb network (networkLeast p) || ltb networkMost network
+abbrev pub lengthsOutside : Form → Plan → ℕ → ℕ → Bool
+lengthsOutside form p tally network = ltb tally (rowWords * p .views) || networkOutside form p network
 
 abbrev pub buffersOutside : State → Bool
-buffersOutside s = lengthsOutside (s .run .plan) (length (s .tally)) (length (s .network))
+buffersOutside s = lengthsOutside (s .form) (s .run .plan) (length (s .tally)) (length (s .network))
 
 -- 7. "A correct start clock is 3Γ or more."
 abbrev pub highAt : Plan → ℕ → List ℕ → ℕ → Bool
@@ -126,7 +131,7 @@ someNonZero [] = false
 someNonZero (x ∷ xs) = not (eqb x 0) || someNonZero xs
 
 abbrev pub tailNotZero : State → Bool
-tailNotZero s = someNonZero (drop (messageWords * s .run .held) (s .network))
+tailNotZero s = someNonZero (drop (width (s .form) * s .run .held) (s .network))
 
 unfoldable pub unsound : State → Bool
 unsound s =
@@ -155,12 +160,12 @@ receiverFaulty s m = not (isCorrect (s .run) (processorIn m))
 abbrev pub heldIs : Message → Held → Bool
 heldIs m h = eqb (h .kind) (kindOf m) && eqb (h .view) (viewIn m) && eqb (h .processor) (processorIn m)
 
-abbrev pub isAt : List ℕ → Message → ℕ → Bool
-isAt ws m i = heldIs m (heldAt ws i)
+abbrev pub isAt : Form → List ℕ → Message → ℕ → Bool
+isAt form ws m i = heldIs m (heldAt form ws i)
 
 -- "the first, of equal ones"
 abbrev pub placeOf : State → Message → ℕ
-placeOf s m = first (isAt (s .network) m) (s .run .held)
+placeOf s m = first (isAt (s .form) (s .network) m) (s .run .held)
 
 -- 13. "The message is not in the post."
 abbrev pub notHeld : State → Message → Bool
@@ -185,11 +190,11 @@ settledBefore s = s .run .settled
 abbrev pub late : ℕ → ℕ → ℕ → ℕ → Bool
 late gst delta time sent = leb (max sent gst + delta) time
 
-abbrev pub lateAt : ℕ → ℕ → ℕ → List ℕ → ℕ → Bool
-lateAt gst delta time ws i = late gst delta time (heldAt ws i .sent)
+abbrev pub lateAt : ℕ → ℕ → ℕ → Form → List ℕ → ℕ → Bool
+lateAt gst delta time form ws i = late gst delta time (heldAt form ws i .sent)
 
 abbrev pub overdueAt : State → ℕ → Bool
-overdueAt s = lateAt (s .run .gst) (s .run .plan .delta) (s .run .time) (s .network)
+overdueAt s = lateAt (s .run .gst) (s .run .plan .delta) (s .run .time) (s .form) (s .network)
 
 -- 16. "A tick finds an overdue message."
 unfoldable pub overdue : State → Bool
@@ -199,6 +204,7 @@ overdue s = s .run .settled && some (overdueAt s) (s .run .held)
 unfoldable pub reachesEnd : Run → Change → Bool
 reachesEnd r c = some (λ p. isCorrect r p && atEnd (r .plan) (getD (c .clocks) p 0)) (r .plan .n)
 
--- 18. "The messages held after the event would exceed the post's words divided by 4, rounded down.", by the change c of s
+-- 18. "The messages held after the event would exceed the post's words divided by 4, rounded down.", by the change c of s; in the packed form,
+-- "check 18 divides its words by 2"
 abbrev pub overfull : State → Change → Bool
 overfull s c = ltb (roomIn s) (s .run .held + length (c .sent))

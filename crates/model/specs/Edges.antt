@@ -1,6 +1,7 @@
 -- Computed vectors at the edges: the last number that passes a limit, the order of checks that could both refuse, what an answer stands for,
 -- and what of check 9 lasts.
--- Each row, its right side taken from document 01, shuts out the wrong number or order that its comment is about. Assumes nothing.
+-- Each row, its right side taken from document 01 and, for the network's words, from document 02's "Tighter post", shuts out the wrong number or
+-- order that its comment is about. Assumes nothing.
 use mathlib.Core.Path.{_≡_, refl}
 use mathlib.Core.Bool.{true, false}
 use mathlib.Core.List.{List, [], _∷_, _++_, map}
@@ -8,6 +9,7 @@ use lib.ListN.{length, replicate}
 use Rattle.types.specs.declared.Message.the-variants.{View, Vote, Vc, Qc}
 use Rattle.types.specs.declared.Event.the-variants.{Deliver, Sign, Show, Settle, Tick}
 use Rattle.types.specs.declared.Answer.the-variants.{Done, Stopped, Refused}
+use Rattle.types.specs.declared.Form.the-variants.{Packed}
 use Rattle.types.specs.declared.Input.the-variants as input
 use Rattle.types.specs.declared.Sends.the-variants.{Nothing, Vote as VoteFor, ViewAndVote}
 use Rattle.types.specs.declared.Stepped.the-variants as step
@@ -27,12 +29,12 @@ limits =
     schedule buffers (setupOf (planOf 64 2 4 6) 0 []) [] (Refused 6 ∷ [])
     -- 6,000 views pass 4
     ∷ schedule buffers (setupOf (planOf 4 2 4 6000) 0 zeroes) [] (Refused 6 ∷ [])
-    -- seven processors want 56 network words
-    ∷ schedule (lent 24 55) (setupOf (planOf 7 2 4 6) 0 []) [] (Refused 6 ∷ [])
-    ∷ schedule (lent 24 56) (setupOf (planOf 7 2 4 6) 0 []) [] (Done 0 14 ∷ [])
+    -- seven processors want 28 network words
+    ∷ schedule (lent 24 27) (setupOf (planOf 7 2 4 6) 0 []) [] (Refused 6 ∷ [])
+    ∷ schedule (lent 24 28) (setupOf (planOf 7 2 4 6) 0 []) [] (Done 0 14 ∷ [])
     -- 524,288 network words pass 6, and one more does not
-    ∷ truth (lengthsOutside standard 24 524288) false
-    ∷ truth (lengthsOutside standard 24 524289) true
+    ∷ truth (lengthsOutside Packed standard 24 524288) false
+    ∷ truth (lengthsOutside Packed standard 24 524289) true
     -- an opened run has 64 clocks and views
     ∷ words
     (length (opening (setupOf standard 0 zeroes) buffers .state .run .clocks) ∷ length (opening (setupOf standard 0 zeroes) buffers .state .run .views) ∷ [])
@@ -57,19 +59,19 @@ orders =
     -- 9 before 15
     handedRow (handedIn standard 0 5 true 6 0 (replicate 4 5) zeroes [] []) (Settle ∷ []) (Refused 9 ∷ [])
     -- 12 before 18
-    ∷ handedRow (withNetwork (copies 8 (2 ∷ 0 ∷ 0 ∷ 0 ∷ [])) (handedIn standard 8 5 false 0 8 (replicate 4 5) zeroes (7 ∷ 1 ∷ []) []))
+    ∷ handedRow (withNetwork (copies 8 (64 ∷ 0 ∷ [])) (handedIn standard 8 5 false 0 8 (replicate 4 5) zeroes (7 ∷ 1 ∷ []) []))
     (Sign (View 0 1) ∷ []) (Refused 12 ∷ [])
     -- 13 and 14 before 17
     ∷ schedule buffers (setupOf standard 0 zeroes) (Deliver (Qc 5 0) ∷ Show (Qc 5 0) ∷ []) (Done 0 8 ∷ Refused 13 ∷ Refused 14 ∷ [])
     -- 13 before 18
-    ∷ handedRow (withNetwork (copies 8 (2 ∷ 0 ∷ 0 ∷ 0 ∷ [])) (handedIn standard 0 5 false 0 8 (replicate 4 5) zeroes (15 ∷ 1 ∷ []) []))
+    ∷ handedRow (withNetwork (copies 8 (64 ∷ 0 ∷ [])) (handedIn standard 0 5 false 0 8 (replicate 4 5) zeroes (15 ∷ 1 ∷ []) []))
     (Deliver (View 0 1) ∷ []) (Refused 13 ∷ [])
     -- 17 before 18, delivered
     ∷ handedRow
-    (withNetwork (4 ∷ 5 ∷ 0 ∷ 0 ∷ copies 7 (2 ∷ 0 ∷ 0 ∷ 0 ∷ [])) (handedIn standard 0 5 false 0 8 (replicate 4 5) zeroes (replicate 23 0 ++ (2 ∷ [])) []))
+    (withNetwork (2752 ∷ 0 ∷ copies 7 (64 ∷ 0 ∷ [])) (handedIn standard 0 5 false 0 8 (replicate 4 5) zeroes (replicate 23 0 ++ (2 ∷ [])) []))
     (Deliver (Qc 5 0) ∷ []) (Refused 17 ∷ [])
     -- and in a tick
-    ∷ schedule (lent 12 32) (setupOf (planOf 4 2 4 3) 0 (replicate 4 11)) (Tick 1 ∷ []) (Done 0 8 ∷ Refused 17 ∷ [])
+    ∷ schedule (lent 12 16) (setupOf (planOf 4 2 4 3) 0 (replicate 4 11)) (Tick 1 ∷ []) (Done 0 8 ∷ Refused 17 ∷ [])
     ∷ []
 
 -- ---- signers, marks and answers
@@ -78,7 +80,7 @@ pub meanings : List Row
 meanings =
     -- a signer after the certificate is added too
     words
-    (after (opening (setupOf standard 0 zeroes) (lent 24 64) .state) (Deliver (Vote 0 0) ∷ Deliver (Vote 0 1) ∷ Deliver (Vote 0 2) ∷ Deliver (Vote 0 3) ∷ []) .tally)
+    (after (opening (setupOf standard 0 zeroes) (lent 24 32) .state) (Deliver (Vote 0 0) ∷ Deliver (Vote 0 1) ∷ Deliver (Vote 0 2) ∷ Deliver (Vote 0 3) ∷ []) .tally)
     (15 ∷ 0 ∷ 15 ∷ 2 ∷ replicate 20 0)
     -- the marks of a faulty leader's view do not count: f and one that entered are too few
     ∷ handedRow (handedIn standard 1 5 false 0 0 (replicate 4 5) zeroes (2 ∷ 0 ∷ 0 ∷ 3 ∷ []) []) (Show (Qc 0 1) ∷ []) (Refused 14 ∷ [])
@@ -103,7 +105,7 @@ ahead = handedIn standard 0 23 false 0 0 (replicate 4 5) zeroes [] []
 
 -- a table without entries: its clocks read as 0, and none can be set; the view certificate for 3 is formed
 abbrev short : State
-short = stateOf (runOf standard 0 0 false 0 0 [] zeroes noTraffic) (replicate 15 0 ++ (1 ∷ replicate 8 0)) (replicate 64 0)
+short = stateOf (runOf standard 0 0 false 0 0 [] zeroes noTraffic) (replicate 15 0 ++ (1 ∷ replicate 8 0)) (replicate 32 0)
 
 pub lasting : List Row
 lasting =

@@ -6,6 +6,7 @@ use lib.Dec.{eqb}
 use Rattle.types.specs.declared.Plan.{Plan}
 use Rattle.types.specs.declared.Message.{Message}
 use Rattle.types.specs.declared.Event.{Event}
+use Rattle.types.specs.declared.Form.{Form}
 use Rattle.types.specs.declared.Event.the-variants.{Deliver, Sign, Show, Settle, Tick}
 use Rattle.types.specs.declared.Answer.{Answer}
 use Rattle.types.specs.declared.Answer.the-variants.{Done, Stopped, Refused}
@@ -23,16 +24,16 @@ outcomeChecks s c = (17, reachesEnd (s .run) c) ∷ (18, overfull s c) ∷ []
 -- ---- "It leaves the post (the first, of equal ones) and is handled."
 
 -- "delivery less sending time": of the message at a place, and of the one that is delivered
-abbrev pub waitSince : ℕ → List ℕ → ℕ → ℕ
-waitSince time network i = time - heldAt network i .sent
+abbrev pub waitSince : ℕ → Form → List ℕ → ℕ → ℕ
+waitSince time form network i = time - heldAt form network i .sent
 
 abbrev pub waitOf : State → Message → ℕ
-waitOf s m = waitSince (s .run .time) (s .network) (placeOf s m)
+waitOf s m = waitSince (s .run .time) (s .form) (s .network) (placeOf s m)
 
 unfoldable pub without : State → Message → State
 without s m =
     withRun (withTraffic (trafficDelivered (s .run .traffic) m (waitOf s m)) (withHeld (s .run .held - 1) (s .run)))
-    (withNetwork (removed (s .network) (s .run .held) (placeOf s m)) s)
+    (withNetwork (removed (s .form) (s .network) (s .run .held) (placeOf s m)) s)
 
 unfoldable pub delivering : State → Message → Change
 delivering s m = handling (without s m .run) (s .tally) m

@@ -166,4 +166,4 @@ arrivals a = entries (arrival (a .run)) (a .run) (a .tally) (a .run .plan .n)
 unfoldable pub made : State → Change → State
 made s c =
     withRun (withTraffic (trafficSent (s .run .traffic) (c .sent)) (withHeld (s .run .held + length (c .sent)) (changed (s .run) c)))
-    (withTally (c .tally) (withNetwork (posted (s .network) (s .run .held) (s .run .time) (c .sent)) s))
+    (withTally (c .tally) (withNetwork (posted (s .form) (s .network) (s .run .held) (s .run .time) (c .sent)) s))

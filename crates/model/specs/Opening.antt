@@ -4,6 +4,7 @@ use mathlib.Core.List.{List, [], _∷_, _++_}
 use Prim.Native.Nat.{ℕ, _*_}
 use lib.ListN.{length, getD, drop, replicate}
 use Rattle.base.specs.Scan.{listed}
+use Rattle.types.specs.declared.Form.{Form}
 use Rattle.types.specs.declared.Run.{Run}
 use Rattle.types.specs.declared.Setup.{Setup}
 use Rattle.types.specs.Traffic.{noTraffic}
@@ -35,14 +36,14 @@ unfoldable pub opened : Setup → State → State
 opened u s = let b = blank u s in made b (entries (firstEntry u) (b .run) (b .tally) (u .plan .n))
 
 -- "Checks 2 to 8 are for opening", with buffers of these lengths
-abbrev pub setupChecks : Setup → ℕ → ℕ → List Check
-setupChecks u tally network =
+abbrev pub setupChecks : Form → Setup → ℕ → ℕ → List Check
+setupChecks form u tally network =
     let p = u .plan in
-    (2, nOutside p) ∷ (3, delaysOutside p) ∷ (4, viewsOutside p) ∷ (5, faultyOutside p (u .faulty)) ∷ (6, lengthsOutside p tally network)
+    (2, nOutside p) ∷ (3, delaysOutside p) ∷ (4, viewsOutside p) ∷ (5, faultyOutside p (u .faulty)) ∷ (6, lengthsOutside form p tally network)
     ∷ (7, startTooHigh p (u .faulty) (u .clocks)) ∷ (8, tooFarAhead p (u .faulty) (u .clocks)) ∷ []
 
 abbrev pub openingChecks : Setup → State → List Check
-openingChecks u s = setupChecks u (length (s .tally)) (length (s .network))
+openingChecks u s = setupChecks (s .form) u (length (s .tally)) (length (s .network))
 
 -- a setup, with the run and the lent buffers at hand
 unfoldable pub opening : Setup → State → After

@@ -1,5 +1,5 @@
--- Computed vectors: which check refuses, and what none refuses. Each row, its right side taken from document 01, shuts out the wrong check or
--- order that its comment is about. Assumes nothing.
+-- Computed vectors: which check refuses, and what none refuses. Each row, its right side taken from document 01 and, for the network's words, from
+-- document 02's "Tighter post", shuts out the wrong check or order that its comment is about. Assumes nothing.
 use mathlib.Core.Path.{_≡_, refl}
 use mathlib.Core.Bool.{true, false}
 use mathlib.Core.List.{List, [], _∷_, _++_}
@@ -39,7 +39,7 @@ openings =
     -- above 6,000
     ∷ schedule buffers (setupOf (planOf 4 2 4 6003) 0 zeroes) [] (Refused 4 ∷ [])
     -- three views: one leader
-    ∷ schedule (lent 12 32) (setupOf (planOf 4 2 4 3) 0 zeroes) [] (Done 0 8 ∷ [])
+    ∷ schedule (lent 12 16) (setupOf (planOf 4 2 4 3) 0 zeroes) [] (Done 0 8 ∷ [])
     -- a mask bit at n; and 5 before 6
     ∷ schedule (lent 0 0) (setupOf standard 16 zeroes) [] (Refused 5 ∷ [])
     -- one at 63
@@ -55,11 +55,11 @@ openings =
     -- mask 112: three
     ∷ schedule buffers (setupOf (planOf 7 2 4 6) 112 (replicate 7 0)) [] (Refused 5 ∷ [])
     -- too few tally words; and 6 before 7
-    ∷ schedule (lent 23 32) (setupOf standard 0 (12 ∷ 0 ∷ 0 ∷ 0 ∷ [])) [] (Refused 6 ∷ [])
+    ∷ schedule (lent 23 16) (setupOf standard 0 (12 ∷ 0 ∷ 0 ∷ 0 ∷ [])) [] (Refused 6 ∷ [])
     -- too few network words
-    ∷ schedule (lent 24 31) (setupOf standard 0 zeroes) [] (Refused 6 ∷ [])
+    ∷ schedule (lent 24 15) (setupOf standard 0 zeroes) [] (Refused 6 ∷ [])
     -- just enough of both
-    ∷ schedule (lent 24 32) (setupOf standard 0 zeroes) [] (Done 0 8 ∷ [])
+    ∷ schedule (lent 24 16) (setupOf standard 0 zeroes) [] (Done 0 8 ∷ [])
     -- 7 before 8
     ∷ schedule buffers (setupOf standard 0 (12 ∷ 0 ∷ 0 ∷ 0 ∷ [])) [] (Refused 7 ∷ [])
     -- 11 passes 7
@@ -131,9 +131,9 @@ naming =
     ∷ fullSchedule buffers (setupOf standard 1 zeroes) (Show (Qc 0 1) ∷ Show (Qc 0 1) ∷ Show (Vc 0 1) ∷ []) (Done 0 0 ∷ Done 0 0 ∷ Done 0 0 ∷ Done 0 0 ∷ [])
     ((1 ∷ 1 ∷ 4 ∷ []) ∷ (2 ∷ 0 ∷ 0 ∷ []) ∷ (3 ∷ 0 ∷ 0 ∷ []) ∷ [])
     -- a quorum certificate for V−1, shown
-    ∷ refusedWhole (handedIn standard 0 5 false 0 1 (replicate 4 5) zeroes (replicate 23 0 ++ (2 ∷ [])) (4 ∷ 5 ∷ 0 ∷ 0 ∷ [])) (Show (Qc 5 1)) 17
+    ∷ refusedWhole (handedIn standard 0 5 false 0 1 (replicate 4 5) zeroes (replicate 23 0 ++ (2 ∷ [])) (2752 ∷ 0 ∷ [])) (Show (Qc 5 1)) 17
     -- or delivered
-    ∷ refusedWhole (handedIn standard 0 5 false 0 1 (replicate 4 5) zeroes (replicate 23 0 ++ (2 ∷ [])) (4 ∷ 5 ∷ 0 ∷ 0 ∷ [])) (Deliver (Qc 5 0)) 17
+    ∷ refusedWhole (handedIn standard 0 5 false 0 1 (replicate 4 5) zeroes (replicate 23 0 ++ (2 ∷ [])) (2752 ∷ 0 ∷ [])) (Deliver (Qc 5 0)) 17
     ∷ []
 
 -- ---- check 9, and 1 before it
@@ -141,81 +141,79 @@ naming =
 pub handedInRuns : List Row
 handedInRuns =
     -- no run yet: 9 to every event, but 1 to what has no form
-    handedRow (lent 24 32) (Deliver (View 0 0) ∷ Sign (View 0 0) ∷ Show (Vc 0 0) ∷ Settle ∷ Tick 1 ∷ [])
+    handedRow (lent 24 16) (Deliver (View 0 0) ∷ Sign (View 0 0) ∷ Show (Vc 0 0) ∷ Settle ∷ Tick 1 ∷ [])
     (Refused 9 ∷ Refused 9 ∷ Refused 9 ∷ Refused 9 ∷ Refused 9 ∷ [])
     -- 0 ticks, a certificate signed, a signature shown
-    ∷ handedRow (lent 24 32) (Tick 0 ∷ Sign (Vc 0 0) ∷ Sign (Qc 0 0) ∷ Show (View 0 0) ∷ Show (Vote 0 0) ∷ [])
+    ∷ handedRow (lent 24 16) (Tick 0 ∷ Sign (Vc 0 0) ∷ Sign (Qc 0 0) ∷ Show (View 0 0) ∷ Show (Vote 0 0) ∷ [])
     (Refused 1 ∷ Refused 1 ∷ Refused 1 ∷ Refused 1 ∷ Refused 1 ∷ [])
     -- sound: a message sent now
-    ∷ handedRow (handedIn standard 0 5 false 0 1 (replicate 4 5) zeroes [] (2 ∷ 0 ∷ 1 ∷ 5 ∷ [])) (Settle ∷ []) (Done 0 1 ∷ [])
+    ∷ handedRow (handedIn standard 0 5 false 0 1 (replicate 4 5) zeroes [] (65 ∷ 5 ∷ [])) (Settle ∷ []) (Done 0 1 ∷ [])
     -- sound: a faulty sender
-    ∷ handedRow (handedIn standard 2 5 false 0 1 (replicate 4 5) zeroes [] (2 ∷ 0 ∷ 1 ∷ 5 ∷ [])) (Settle ∷ []) (Done 0 1 ∷ [])
+    ∷ handedRow (handedIn standard 2 5 false 0 1 (replicate 4 5) zeroes [] (65 ∷ 5 ∷ [])) (Settle ∷ []) (Done 0 1 ∷ [])
     -- sound: a faulty processor's clock and view
-    ∷ handedRow (handedIn standard 8 5 false 0 1 (5 ∷ 5 ∷ 5 ∷ 999 ∷ []) (0 ∷ 0 ∷ 0 ∷ 50 ∷ []) [] (2 ∷ 0 ∷ 1 ∷ 5 ∷ [])) (Settle ∷ []) (Done 0 1 ∷ [])
+    ∷ handedRow (handedIn standard 8 5 false 0 1 (5 ∷ 5 ∷ 5 ∷ 999 ∷ []) (0 ∷ 0 ∷ 0 ∷ 50 ∷ []) [] (65 ∷ 5 ∷ [])) (Settle ∷ []) (Done 0 1 ∷ [])
     -- sound: a clock condition that does not hold
-    ∷ handedRow (handedIn standard 0 5 false 0 1 (11 ∷ 0 ∷ 0 ∷ 0 ∷ []) zeroes [] (2 ∷ 0 ∷ 1 ∷ 5 ∷ [])) (Settle ∷ []) (Done 0 1 ∷ [])
+    ∷ handedRow (handedIn standard 0 5 false 0 1 (11 ∷ 0 ∷ 0 ∷ 0 ∷ []) zeroes [] (65 ∷ 5 ∷ [])) (Settle ∷ []) (Done 0 1 ∷ [])
     -- sound: a settled run with settling time 0
     ∷ handedRow (handedIn standard 0 5 true 0 0 (replicate 4 5) zeroes [] []) (Tick 1 ∷ []) (Done 1 0 ∷ [])
     -- sound: a held view message for a view that is not initial; 11 refuses its delivery
-    ∷ handedRow (handedIn standard 0 5 false 0 1 (replicate 4 5) zeroes [] (1 ∷ 1 ∷ 0 ∷ 0 ∷ [])) (Settle ∷ Deliver (View 1 0) ∷ [])
+    ∷ handedRow (handedIn standard 0 5 false 0 1 (replicate 4 5) zeroes [] (512 ∷ 0 ∷ [])) (Settle ∷ Deliver (View 1 0) ∷ [])
     (Done 0 1 ∷ Refused 11 ∷ [])
-    -- unsound: kind 0
-    ∷ handedRow (handedIn standard 0 5 false 0 1 (replicate 4 5) zeroes [] (0 ∷ 0 ∷ 1 ∷ 5 ∷ [])) (Settle ∷ []) (Refused 9 ∷ [])
     -- unsound: kind 5
-    ∷ handedRow (handedIn standard 0 5 false 0 1 (replicate 4 5) zeroes [] (5 ∷ 0 ∷ 1 ∷ 5 ∷ [])) (Settle ∷ []) (Refused 9 ∷ [])
+    ∷ handedRow (handedIn standard 0 5 false 0 1 (replicate 4 5) zeroes [] (257 ∷ 5 ∷ [])) (Settle ∷ []) (Refused 9 ∷ [])
     -- unsound: a view V
-    ∷ handedRow (handedIn standard 0 5 false 0 1 (replicate 4 5) zeroes [] (2 ∷ 6 ∷ 1 ∷ 5 ∷ [])) (Settle ∷ []) (Refused 9 ∷ [])
+    ∷ handedRow (handedIn standard 0 5 false 0 1 (replicate 4 5) zeroes [] (3137 ∷ 5 ∷ [])) (Settle ∷ []) (Refused 9 ∷ [])
     -- unsound: a certificate for a view V
-    ∷ handedRow (handedIn standard 0 5 false 0 1 (replicate 4 5) zeroes [] (4 ∷ 6 ∷ 1 ∷ 5 ∷ [])) (Settle ∷ []) (Refused 9 ∷ [])
+    ∷ handedRow (handedIn standard 0 5 false 0 1 (replicate 4 5) zeroes [] (3265 ∷ 5 ∷ [])) (Settle ∷ []) (Refused 9 ∷ [])
     -- unsound: a processor n
-    ∷ handedRow (handedIn standard 0 5 false 0 1 (replicate 4 5) zeroes [] (2 ∷ 0 ∷ 4 ∷ 5 ∷ [])) (Settle ∷ []) (Refused 9 ∷ [])
+    ∷ handedRow (handedIn standard 0 5 false 0 1 (replicate 4 5) zeroes [] (68 ∷ 5 ∷ [])) (Settle ∷ []) (Refused 9 ∷ [])
     -- unsound: a message to a faulty leader
-    ∷ handedRow (handedIn standard 1 5 false 0 1 (replicate 4 5) zeroes [] (2 ∷ 0 ∷ 1 ∷ 5 ∷ [])) (Settle ∷ []) (Refused 9 ∷ [])
+    ∷ handedRow (handedIn standard 1 5 false 0 1 (replicate 4 5) zeroes [] (65 ∷ 5 ∷ [])) (Settle ∷ []) (Refused 9 ∷ [])
     -- unsound: a certificate to a faulty processor
-    ∷ handedRow (handedIn standard 2 5 false 0 1 (replicate 4 5) zeroes [] (4 ∷ 0 ∷ 1 ∷ 5 ∷ [])) (Settle ∷ []) (Refused 9 ∷ [])
+    ∷ handedRow (handedIn standard 2 5 false 0 1 (replicate 4 5) zeroes [] (193 ∷ 5 ∷ [])) (Settle ∷ []) (Refused 9 ∷ [])
     -- unsound: sent later than now
-    ∷ handedRow (handedIn standard 0 5 false 0 1 (replicate 4 5) zeroes [] (2 ∷ 0 ∷ 1 ∷ 6 ∷ [])) (Settle ∷ []) (Refused 9 ∷ [])
+    ∷ handedRow (handedIn standard 0 5 false 0 1 (replicate 4 5) zeroes [] (65 ∷ 6 ∷ [])) (Settle ∷ []) (Refused 9 ∷ [])
     -- unsound: a second message out of range
-    ∷ handedRow (handedIn standard 0 5 false 0 2 (replicate 4 5) zeroes [] (2 ∷ 0 ∷ 1 ∷ 5 ∷ 2 ∷ 0 ∷ 1 ∷ 6 ∷ [])) (Settle ∷ []) (Refused 9 ∷ [])
+    ∷ handedRow (handedIn standard 0 5 false 0 2 (replicate 4 5) zeroes [] (65 ∷ 5 ∷ 65 ∷ 6 ∷ [])) (Settle ∷ []) (Refused 9 ∷ [])
     -- unsound: a word beyond the last message
-    ∷ handedRow (handedIn standard 0 5 false 0 1 (replicate 4 5) zeroes [] (2 ∷ 0 ∷ 1 ∷ 5 ∷ 0 ∷ 0 ∷ 0 ∷ 1 ∷ [])) (Settle ∷ []) (Refused 9 ∷ [])
-    -- unsound: the last of the words that no message can use
-    ∷ handedRow (withNetwork (replicate 34 0 ++ (1 ∷ [])) (handedIn standard 0 5 false 0 0 (replicate 4 5) zeroes [] [])) (Settle ∷ []) (Refused 9 ∷ [])
+    ∷ handedRow (handedIn standard 0 5 false 0 1 (replicate 4 5) zeroes [] (65 ∷ 5 ∷ 0 ∷ 1 ∷ [])) (Settle ∷ []) (Refused 9 ∷ [])
+    -- unsound: the odd word, which no message can use
+    ∷ handedRow (withNetwork (replicate 16 0 ++ (1 ∷ [])) (handedIn standard 0 5 false 0 0 (replicate 4 5) zeroes [] [])) (Settle ∷ []) (Refused 9 ∷ [])
     -- unsound: more messages than fit
-    ∷ handedRow (withNetwork (copies 8 (2 ∷ 0 ∷ 0 ∷ 0 ∷ []) ++ (2 ∷ 0 ∷ 0 ∷ [])) (handedIn standard 0 5 false 0 9 (replicate 4 5) zeroes [] [])) (Settle ∷ [])
+    ∷ handedRow (withNetwork (copies 8 (64 ∷ 0 ∷ []) ++ (64 ∷ [])) (handedIn standard 0 5 false 0 9 (replicate 4 5) zeroes [] [])) (Settle ∷ [])
     (Refused 9 ∷ [])
     -- unsound: a number of them that would wrap round
-    ∷ handedRow (handedIn standard 0 5 false 0 4611686018427387904 (replicate 4 5) zeroes [] (2 ∷ 0 ∷ 1 ∷ 5 ∷ [])) (Settle ∷ []) (Refused 9 ∷ [])
+    ∷ handedRow (handedIn standard 0 5 false 0 9223372036854775808 (replicate 4 5) zeroes [] (65 ∷ 5 ∷ [])) (Settle ∷ []) (Refused 9 ∷ [])
     -- unsound: a settling time in an unsettled run
-    ∷ handedRow (handedIn standard 0 5 false 1 1 (replicate 4 5) zeroes [] (2 ∷ 0 ∷ 1 ∷ 5 ∷ [])) (Settle ∷ []) (Refused 9 ∷ [])
+    ∷ handedRow (handedIn standard 0 5 false 1 1 (replicate 4 5) zeroes [] (65 ∷ 5 ∷ [])) (Settle ∷ []) (Refused 9 ∷ [])
     -- unsound: one later than now
-    ∷ handedRow (handedIn standard 0 5 true 6 1 (replicate 4 5) zeroes [] (2 ∷ 0 ∷ 1 ∷ 5 ∷ [])) (Tick 1 ∷ []) (Refused 9 ∷ [])
+    ∷ handedRow (handedIn standard 0 5 true 6 1 (replicate 4 5) zeroes [] (65 ∷ 5 ∷ [])) (Tick 1 ∷ []) (Refused 9 ∷ [])
     -- unsound: a correct clock at VΓ, in a view V
-    ∷ handedRow (handedIn standard 0 5 false 0 1 (5 ∷ 5 ∷ 5 ∷ 24 ∷ []) (0 ∷ 0 ∷ 0 ∷ 6 ∷ []) [] (2 ∷ 0 ∷ 1 ∷ 5 ∷ [])) (Settle ∷ []) (Refused 9 ∷ [])
+    ∷ handedRow (handedIn standard 0 5 false 0 1 (5 ∷ 5 ∷ 5 ∷ 24 ∷ []) (0 ∷ 0 ∷ 0 ∷ 6 ∷ []) [] (65 ∷ 5 ∷ [])) (Settle ∷ []) (Refused 9 ∷ [])
     -- unsound: the time at VΓ
-    ∷ handedRow (handedIn standard 0 24 false 0 1 (replicate 4 5) zeroes [] (2 ∷ 0 ∷ 1 ∷ 5 ∷ [])) (Settle ∷ []) (Refused 9 ∷ [])
+    ∷ handedRow (handedIn standard 0 24 false 0 1 (replicate 4 5) zeroes [] (65 ∷ 5 ∷ [])) (Settle ∷ []) (Refused 9 ∷ [])
     -- sound: the time below it
-    ∷ handedRow (handedIn standard 0 23 false 0 1 (replicate 4 5) zeroes [] (2 ∷ 0 ∷ 1 ∷ 5 ∷ [])) (Settle ∷ []) (Done 0 1 ∷ [])
+    ∷ handedRow (handedIn standard 0 23 false 0 1 (replicate 4 5) zeroes [] (65 ∷ 5 ∷ [])) (Settle ∷ []) (Done 0 1 ∷ [])
     -- unsound: a clock below its view's clock time
-    ∷ handedRow (handedIn standard 0 5 false 0 1 (5 ∷ 5 ∷ 5 ∷ 7 ∷ []) (0 ∷ 0 ∷ 0 ∷ 2 ∷ []) [] (2 ∷ 0 ∷ 1 ∷ 5 ∷ [])) (Settle ∷ []) (Refused 9 ∷ [])
+    ∷ handedRow (handedIn standard 0 5 false 0 1 (5 ∷ 5 ∷ 5 ∷ 7 ∷ []) (0 ∷ 0 ∷ 0 ∷ 2 ∷ []) [] (65 ∷ 5 ∷ [])) (Settle ∷ []) (Refused 9 ∷ [])
     -- sound: a clock at it
-    ∷ handedRow (handedIn standard 0 5 false 0 1 (5 ∷ 5 ∷ 5 ∷ 8 ∷ []) (0 ∷ 0 ∷ 0 ∷ 2 ∷ []) [] (2 ∷ 0 ∷ 1 ∷ 5 ∷ [])) (Settle ∷ []) (Done 0 1 ∷ [])
+    ∷ handedRow (handedIn standard 0 5 false 0 1 (5 ∷ 5 ∷ 5 ∷ 8 ∷ []) (0 ∷ 0 ∷ 0 ∷ 2 ∷ []) [] (65 ∷ 5 ∷ [])) (Settle ∷ []) (Done 0 1 ∷ [])
     -- unsound: a clock at that of the next initial view
-    ∷ handedRow (handedIn standard 0 5 false 0 1 (5 ∷ 5 ∷ 5 ∷ 12 ∷ []) (0 ∷ 0 ∷ 0 ∷ 2 ∷ []) [] (2 ∷ 0 ∷ 1 ∷ 5 ∷ [])) (Settle ∷ []) (Refused 9 ∷ [])
+    ∷ handedRow (handedIn standard 0 5 false 0 1 (5 ∷ 5 ∷ 5 ∷ 12 ∷ []) (0 ∷ 0 ∷ 0 ∷ 2 ∷ []) [] (65 ∷ 5 ∷ [])) (Settle ∷ []) (Refused 9 ∷ [])
     -- unsound: a view whose clock time would wrap round to 0
-    ∷ handedRow (handedIn standard 0 5 false 0 1 zeroes (0 ∷ 0 ∷ 0 ∷ 4611686018427387904 ∷ []) [] (2 ∷ 0 ∷ 1 ∷ 5 ∷ [])) (Settle ∷ []) (Refused 9 ∷ [])
+    ∷ handedRow (handedIn standard 0 5 false 0 1 zeroes (0 ∷ 0 ∷ 0 ∷ 4611686018427387904 ∷ []) [] (65 ∷ 5 ∷ [])) (Settle ∷ []) (Refused 9 ∷ [])
     -- unsound: n out of range
-    ∷ handedRow (handedIn (planOf 3 2 4 6) 0 5 false 0 1 (replicate 4 5) zeroes [] (2 ∷ 0 ∷ 1 ∷ 5 ∷ [])) (Settle ∷ []) (Refused 9 ∷ [])
+    ∷ handedRow (handedIn (planOf 3 2 4 6) 0 5 false 0 1 (replicate 4 5) zeroes [] (65 ∷ 5 ∷ [])) (Settle ∷ []) (Refused 9 ∷ [])
     -- unsound: Γ below 2Δ
-    ∷ handedRow (handedIn (planOf 4 2 3 6) 0 5 false 0 1 (replicate 4 5) zeroes [] (2 ∷ 0 ∷ 1 ∷ 5 ∷ [])) (Settle ∷ []) (Refused 9 ∷ [])
+    ∷ handedRow (handedIn (planOf 4 2 3 6) 0 5 false 0 1 (replicate 4 5) zeroes [] (65 ∷ 5 ∷ [])) (Settle ∷ []) (Refused 9 ∷ [])
     -- unsound: no multiple of 3
-    ∷ handedRow (handedIn (planOf 4 2 4 5) 0 5 false 0 1 (replicate 4 5) zeroes [] (2 ∷ 0 ∷ 1 ∷ 5 ∷ [])) (Settle ∷ []) (Refused 9 ∷ [])
+    ∷ handedRow (handedIn (planOf 4 2 4 5) 0 5 false 0 1 (replicate 4 5) zeroes [] (65 ∷ 5 ∷ [])) (Settle ∷ []) (Refused 9 ∷ [])
     -- unsound: more than t faulty
-    ∷ handedRow (handedIn standard 12 5 false 0 1 (replicate 4 5) zeroes [] (2 ∷ 0 ∷ 1 ∷ 5 ∷ [])) (Settle ∷ []) (Refused 9 ∷ [])
+    ∷ handedRow (handedIn standard 12 5 false 0 1 (replicate 4 5) zeroes [] (65 ∷ 5 ∷ [])) (Settle ∷ []) (Refused 9 ∷ [])
     -- unsound: too few tally words
-    ∷ handedRow (withTally (padded 23 []) (handedIn standard 0 5 false 0 1 (replicate 4 5) zeroes [] (2 ∷ 0 ∷ 1 ∷ 5 ∷ []))) (Settle ∷ []) (Refused 9 ∷ [])
+    ∷ handedRow (withTally (padded 23 []) (handedIn standard 0 5 false 0 1 (replicate 4 5) zeroes [] (65 ∷ 5 ∷ []))) (Settle ∷ []) (Refused 9 ∷ [])
     -- unsound: too few network words
-    ∷ handedRow (withNetwork (padded 31 (2 ∷ 0 ∷ 1 ∷ 5 ∷ [])) (handedIn standard 0 5 false 0 1 (replicate 4 5) zeroes [] [])) (Settle ∷ []) (Refused 9 ∷ [])
+    ∷ handedRow (withNetwork (padded 15 (65 ∷ 5 ∷ [])) (handedIn standard 0 5 false 0 1 (replicate 4 5) zeroes [] [])) (Settle ∷ []) (Refused 9 ∷ [])
     ∷ []
 
 -- ---- one processor by itself

@@ -7,6 +7,7 @@ use lib.ListN.{length, replicate}
 use Rattle.types.specs.declared.Plan.{Plan}
 use Rattle.types.specs.declared.Message.{Message}
 use Rattle.types.specs.declared.Event.{Event}
+use Rattle.types.specs.declared.Form.the-variants.{Wide}
 use Rattle.types.specs.declared.Run.{Run}
 use Rattle.types.specs.declared.Traffic.{Traffic}
 use Rattle.types.specs.declared.Setup.{Setup}
@@ -17,7 +18,7 @@ use lib.Count.{ones, onesIn}
 use Rattle.base.specs.Count.{count}
 use Rattle.base.specs.Scan.{some, first, listed}
 use Rattle.base.specs.Sets.{member}
-use Rattle.types.specs.Quantities.{tableClocks, perLeader}
+use Rattle.types.specs.Quantities.{tableClocks, perLeader, width}
 use Rattle.types.specs.Traffic.{countNumbers, noTraffic, countsMore}
 use Rattle.types.specs.Messages.{kindOf, viewIn, processorIn}
 use Rattle.model.specs.State.{State, After, stateOf, runOf, clockOf, viewOf, isCorrect, posted, removed}
@@ -27,10 +28,11 @@ use Rattle.model.specs.Opening.{blank, opened, opening}
 use Rattle.model.specs.Events.{without, delivering, signing, nowSettled, tickOnce, ticks, tickRun, checks, effect, applied}
 use Rattle.model.specs.Processors.{Moved, stepped}
 use Rattle.model.specs.Lists.{after}
+use Rattle.model.specs.Carrying.{carriedOver}
 
 -- names all that has to unfold for a row to compute
 unfoldable pub definitions : ℕ
-unfolding countsMore stepped applied checks effect tickRun ticks tickOnce nowSettled signing delivering without after opening opened blank reachesEnd overdue exists unsound unsoundForGood messageUnsound tooFarAhead startTooHigh made arrivals clocksOn handling hearing toEach ripe entries taking entering toCorrect removed posted perLeader count some first listed member ones onesIn
+unfolding carriedOver countsMore stepped applied checks effect tickRun ticks tickOnce nowSettled signing delivering without after opening opened blank reachesEnd overdue exists unsound unsoundForGood messageUnsound tooFarAhead startTooHigh made arrivals clocksOn handling hearing toEach ripe entries taking entering toCorrect removed posted perLeader count some first listed member ones onesIn
 definitions = 0
 
 -- ---- what is put in
@@ -66,13 +68,17 @@ lent t w = stateOf (runOf (planOf 0 0 0 0) 0 0 false 0 0 (table []) (table []) n
 
 -- longer ones than most rows need: words for 15 views and 32 messages
 abbrev pub buffers : State
-buffers = lent 60 128
+buffers = lent 60 64
 
 -- a run handed in: plan, faulty set, time, whether settled and when, messages held, clocks, views; then the first words of the 24 of the tally
--- and of the 64 of the network
+-- and of the 32 of the network
 abbrev pub handedIn : Plan → ℕ → ℕ → Bool → ℕ → ℕ → List ℕ → List ℕ → List ℕ → List ℕ → State
 handedIn plan faulty time settled gst held clocks views tally network =
-    stateOf (runOf plan faulty time settled gst held (table clocks) (table views) noTraffic) (padded 24 tally) (padded 64 network)
+    stateOf (runOf plan faulty time settled gst held (table clocks) (table views) noTraffic) (padded 24 tally) (padded 32 network)
+
+-- the same words in the wide form: "four 64-bit words each"
+abbrev pub wide : State → State
+wide s = record { run = s .run; tally = s .tally; network = s .network; form = Wide }
 
 -- ---- what comes out, as numbers
 
@@ -99,12 +105,12 @@ positions s = positionsBelow (s .run) (s .run .plan .n)
 abbrev pub trafficNumbers : Traffic → List (List ℕ)
 trafficNumbers x = countNumbers (x .sent) ∷ countNumbers (x .delivered) ∷ (x .waits ∷ []) ∷ []
 
--- every number of a run and of its buffers
+-- every number of a run and of its buffers, and the words of a message
 abbrev pub everything : State → List (List ℕ)
 everything s =
     let r = s .run in
     (r .plan .n ∷ r .plan .delta ∷ r .plan .gamma ∷ r .plan .views ∷ r .faulty ∷ r .time ∷ cond (r .settled) 1 0 ∷ r .gst ∷ r .held ∷ [])
-    ∷ r .clocks ∷ r .views ∷ s .tally ∷ s .network ∷ trafficNumbers (r .traffic)
+    ∷ r .clocks ∷ r .views ∷ s .tally ∷ s .network ∷ (width (s .form) ∷ []) ∷ trafficNumbers (r .traffic)
 
 -- kind, view and processor of a message
 abbrev pub fieldsOf : Message → List ℕ

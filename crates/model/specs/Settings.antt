@@ -23,18 +23,18 @@ settings =
     ∷ number (lead standard 3) 1
     ∷ number (lead (planOf 4 2 4 15) 12) 0
     -- "Start clocks 4 0 0 0: opened."
-    ∷ schedule (lent 24 64) (setupOf standard 0 (4 ∷ 0 ∷ 0 ∷ 0 ∷ [])) [] (Done 0 8 ∷ [])
+    ∷ schedule (lent 24 32) (setupOf standard 0 (4 ∷ 0 ∷ 0 ∷ 0 ∷ [])) [] (Done 0 8 ∷ [])
     -- "5 0 0 0: check 8."
-    ∷ schedule (lent 24 64) (setupOf standard 0 (5 ∷ 0 ∷ 0 ∷ 0 ∷ [])) [] (Refused 8 ∷ [])
+    ∷ schedule (lent 24 32) (setupOf standard 0 (5 ∷ 0 ∷ 0 ∷ 0 ∷ [])) [] (Refused 8 ∷ [])
     -- "9 9 0 0: opened."
-    ∷ schedule (lent 24 64) (setupOf standard 0 (9 ∷ 9 ∷ 0 ∷ 0 ∷ [])) [] (Done 0 8 ∷ [])
+    ∷ schedule (lent 24 32) (setupOf standard 0 (9 ∷ 9 ∷ 0 ∷ 0 ∷ [])) [] (Done 0 8 ∷ [])
     -- "The same with mask 2: check 8."
-    ∷ schedule (lent 24 64) (setupOf standard 2 (9 ∷ 9 ∷ 0 ∷ 0 ∷ [])) [] (Refused 8 ∷ [])
+    ∷ schedule (lent 24 32) (setupOf standard 2 (9 ∷ 9 ∷ 0 ∷ 0 ∷ [])) [] (Refused 8 ∷ [])
     -- "Clocks 11 11 11 11 and one tick: all in view 3, 16 held."
-    ∷ fullSchedule (lent 24 64) (setupOf standard 0 (replicate 4 11)) (Tick 1 ∷ []) (Done 0 8 ∷ Done 1 16 ∷ [])
+    ∷ fullSchedule (lent 24 32) (setupOf standard 0 (replicate 4 11)) (Tick 1 ∷ []) (Done 0 8 ∷ Done 1 16 ∷ [])
     ((0 ∷ 3 ∷ 12 ∷ []) ∷ (1 ∷ 3 ∷ 12 ∷ []) ∷ (2 ∷ 3 ∷ 12 ∷ []) ∷ (3 ∷ 3 ∷ 12 ∷ []) ∷ [])
     -- "Clocks all 12: check 7."
-    ∷ schedule (lent 24 64) (setupOf standard 0 (replicate 4 12)) [] (Refused 7 ∷ [])
+    ∷ schedule (lent 24 32) (setupOf standard 0 (replicate 4 12)) [] (Refused 7 ∷ [])
     -- "View 0, clock 2, quorum certificate 2: view 3, clock 12, two messages."
     ∷ oneMove 2 0 2 (Qc 2) ((0 ∷ []) ∷ (2 ∷ 3 ∷ 12 ∷ []) ∷ (1 ∷ 3 ∷ 2 ∷ []) ∷ (2 ∷ 3 ∷ 2 ∷ []) ∷ [])
     -- "View 0, clock 6, quorum certificate 0: view 1, clock 6, one message."

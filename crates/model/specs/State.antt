@@ -2,39 +2,46 @@
 pub use Rattle.types.specs.Runs.{runFrom, headOf}
 use mathlib.Core.Bool.{Bool, true, false}
 use mathlib.Core.List.{List, [], _∷_, _++_}
-use Prim.Native.Nat.{ℕ, _+_, _*_, _/_}
+use Prim.Native.Nat.{ℕ, _+_, _-_, _*_, _/_, _%_}
 use lib.ListN.{length, getD, set, take, drop, replicate}
 use lib.Seq.{slice}
 use Rattle.base.specs.Sets.{insert}
 use Rattle.types.specs.declared.Plan.{Plan}
 use Rattle.types.specs.declared.Message.{Message}
+use Rattle.types.specs.declared.Form.{Form}
+use Rattle.types.specs.declared.Form.the-variants.{Wide, Packed}
 use Rattle.types.specs.declared.Run.{Run}
 use Rattle.types.specs.declared.Traffic.{Traffic}
 use Rattle.types.specs.declared.Answer.{Answer}
 use Rattle.types.specs.declared.Applied.{Applied}
 use Rattle.types.specs.declared.AppliedHead.{AppliedHead}
 use Rattle.types.specs.declared.Answer.the-variants.{Done, Stopped, Refused}
-use Rattle.types.specs.Quantities.{correct, rowWords, messageWords}
+use Rattle.types.specs.Quantities.{correct, rowWords, width}
 use Rattle.types.specs.Messages.{kindOf, viewIn, processorIn}
 
--- the run, and the two lent buffers: tally ("The ledger") and network ("The post")
+-- the run, and the two lent buffers: tally ("The ledger") and network ("The post"), whose words are of a form
 pub record State : Type 0 where
   pub run : Run
   pub tally : List ℕ
   pub network : List ℕ
+  pub form : Form
 
+abbrev pub stateIn : Form → Run → List ℕ → List ℕ → State
+stateIn form run tally network = record { run = run; tally = tally; network = network; form = form }
+
+-- what is lent now: "A message now takes two words"
 abbrev pub stateOf : Run → List ℕ → List ℕ → State
-stateOf run tally network = record { run = run; tally = tally; network = network }
+stateOf run tally network = stateIn Packed run tally network
 
 -- a state with another run, tally or network
 abbrev pub withRun : Run → State → State
-withRun r s = record { run = r; tally = s .tally; network = s .network }
+withRun r s = record { run = r; tally = s .tally; network = s .network; form = s .form }
 
 abbrev pub withTally : List ℕ → State → State
-withTally t s = record { run = s .run; tally = t; network = s .network }
+withTally t s = record { run = s .run; tally = t; network = s .network; form = s .form }
 
 abbrev pub withNetwork : List ℕ → State → State
-withNetwork ws s = record { run = s .run; tally = s .tally; network = ws }
+withNetwork ws s = record { run = s .run; tally = s .tally; network = ws; form = s .form }
 
 -- ---- the run
 
@@ -105,7 +112,7 @@ word t w j = getD t (slot w j) 0
 abbrev pub added : List ℕ → ℕ → ℕ → ℕ → List ℕ
 added t w j p = set t (slot w j) (insert (word t w j) p)
 
--- ---- the network: "kind (1 view, 2 vote, 3 view certificate, 4 quorum certificate), view, cabinet, sending time"
+-- ---- the network: messages in flight, each with "kind (1 view, 2 vote, 3 view certificate, 4 quorum certificate), view, cabinet, sending time"
 
 -- a held message: its four numbers
 pub record Held : Type 0 where
@@ -118,37 +125,46 @@ pub record Held : Type 0 where
 abbrev pub heldAs : ℕ → Message → Held
 heldAs now m = record { kind = kindOf m; view = viewIn m; processor = processorIn m; sent = now }
 
--- its words, and message i, read from the network's
-abbrev pub heldWords : Held → List ℕ
-heldWords h = h .kind ∷ h .view ∷ h .processor ∷ h .sent ∷ []
+-- "view × 512 + (kind − 1) × 64 + cabinet", and the three numbers again
+abbrev pub packedWord : ℕ → ℕ → ℕ → ℕ
+packedWord kind view processor = view * 512 + (kind - 1) * 64 + processor
 
-abbrev pub heldAt : List ℕ → ℕ → Held
-heldAt ws i =
-    let a = messageWords * i in record { kind = getD ws a 0; view = getD ws (a + 1) 0; processor = getD ws (a + 2) 0; sent = getD ws (a + 3) 0 }
+abbrev pub unpacked : ℕ → ℕ → Held
+unpacked x sent = record { kind = x / 64 % 8 + 1; view = x / 512; processor = x % 64; sent = sent }
 
--- how many messages fit: "the post's words divided by 4, rounded down"
-abbrev pub capacity : List ℕ → ℕ
-capacity ws = length ws / messageWords
+-- the words of a held message: its four numbers; or the packed word, "then the sending time"
+abbrev pub heldWords : Form → Held → List ℕ
+heldWords Wide h = h .kind ∷ h .view ∷ h .processor ∷ h .sent ∷ []
+heldWords Packed h = packedWord (h .kind) (h .view) (h .processor) ∷ h .sent ∷ []
+
+-- message i, read from the network's words
+abbrev pub heldAt : Form → List ℕ → ℕ → Held
+heldAt Wide ws i = record { kind = getD ws (4 * i) 0; view = getD ws (4 * i + 1) 0; processor = getD ws (4 * i + 2) 0; sent = getD ws (4 * i + 3) 0 }
+heldAt Packed ws i = unpacked (getD ws (2 * i) 0) (getD ws (2 * i + 1) 0)
+
+-- how many messages fit: "the post's words divided by 4, rounded down"; "check 18 divides its words by 2"
+abbrev pub capacity : Form → List ℕ → ℕ
+capacity form ws = length ws / width form
 
 -- of a state: held message i, and how many fit
 abbrev pub heldIn : State → ℕ → Held
-heldIn s i = heldAt (s .network) i
+heldIn s i = heldAt (s .form) (s .network) i
 
 abbrev pub roomIn : State → ℕ
-roomIn s = capacity (s .network)
+roomIn s = capacity (s .form) (s .network)
 
-abbrev pub wordsOf : ℕ → List Message → List ℕ
-wordsOf now [] = []
-wordsOf now (m ∷ ms) = heldWords (heldAs now m) ++ wordsOf now ms
+abbrev pub wordsOf : Form → ℕ → List Message → List ℕ
+wordsOf form now [] = []
+wordsOf form now (m ∷ ms) = heldWords form (heldAs now m) ++ wordsOf form now ms
 
 -- "They stand in sending order": messages sent now, behind the h that are held
-unfoldable pub posted : List ℕ → ℕ → ℕ → List Message → List ℕ
-posted ws h now ms = take (messageWords * h) ws ++ wordsOf now ms ++ drop (messageWords * (h + length ms)) ws
+unfoldable pub posted : Form → List ℕ → ℕ → ℕ → List Message → List ℕ
+posted form ws h now ms = take (width form * h) ws ++ wordsOf form now ms ++ drop (width form * (h + length ms)) ws
 
 -- "a delivered one is removed and the rest close up, so its place is used again. Words beyond the last message are 0."
-unfoldable pub removed : List ℕ → ℕ → ℕ → List ℕ
-removed ws h i =
-    take (messageWords * i) ws ++ slice (messageWords * (i + 1)) (messageWords * h) ws ++ replicate messageWords 0 ++ drop (messageWords * h) ws
+unfoldable pub removed : Form → List ℕ → ℕ → ℕ → List ℕ
+removed form ws h i =
+    take (width form * i) ws ++ slice (width form * (i + 1)) (width form * h) ws ++ replicate (width form) 0 ++ drop (width form * h) ws
 
 -- ---- the answer: document 01's numbers for each of its cases
 

@@ -17,7 +17,7 @@ use Rattle.model.specs.Opening.{opening}
 use Rattle.model.specs.Events.{applied}
 use Rattle.model.specs.Lists.{after}
 use Rattle.model.specs.Traffic.{ticksPosted, posting, postedDuring, deliveredDuring, waitsDuring, everPosted, ofView, withSums, historyTotals, totals}
-use Rattle.model.specs.Rows.{definitions, standard, zeroes, setupOf, lent, buffers, handedIn, trafficNumbers, Row, agreeing, number}
+use Rattle.model.specs.Rows.{definitions, standard, zeroes, setupOf, lent, buffers, handedIn, wide, trafficNumbers, Row, agreeing, number}
 
 -- ---- what is told
 
@@ -55,7 +55,7 @@ largest = 2 ^ 64 - 1
 -- the largest sums, beside a view message and a vote that were sent at time 2, now being 5
 abbrev pub brimful : State
 brimful = withSums (trafficOf (countsOf largest largest largest largest) (countsOf largest largest largest largest) largest)
-    (handedIn standard 0 5 false 0 2 (replicate 4 5) zeroes (15 ∷ 1 ∷ []) (1 ∷ 0 ∷ 1 ∷ 2 ∷ 2 ∷ 0 ∷ 3 ∷ 2 ∷ []))
+    (handedIn standard 0 5 false 0 2 (replicate 4 5) zeroes (15 ∷ 1 ∷ []) (1 ∷ 2 ∷ 67 ∷ 2 ∷ []))
 
 pub sums : List Row
 sums =
@@ -75,7 +75,7 @@ sums =
     -- refused events count nothing: not held, no such view, 0 ticks
     ∷ bothTell buffers plain (Tick 1 ∷ Deliver (Qc 0 0) ∷ Deliver (Vote 6 0) ∷ Tick 0 ∷ []) (4 ∷ 4 ∷ 0 ∷ 0 ∷ []) none 0 (4 ∷ 4 ∷ 0 ∷ 0 ∷ [])
     -- nor does a delivery whose certificate has no room: eight messages fit
-    ∷ bothTell (lent 24 32) plain (Deliver (View 0 0) ∷ Deliver (View 0 1) ∷ []) (4 ∷ 4 ∷ 0 ∷ 0 ∷ []) (1 ∷ 0 ∷ 0 ∷ 0 ∷ []) 0 (3 ∷ 4 ∷ 0 ∷ 0 ∷ [])
+    ∷ bothTell (lent 24 16) plain (Deliver (View 0 0) ∷ Deliver (View 0 1) ∷ []) (4 ∷ 4 ∷ 0 ∷ 0 ∷ []) (1 ∷ 0 ∷ 0 ∷ 0 ∷ []) 0 (3 ∷ 4 ∷ 0 ∷ 0 ∷ [])
     -- ticks that are stopped count what those before posted: all enter view 3 in the first; the refused tick, which would enter view 6, counts nothing
     ∷ bothTell buffers (setupOf standard 0 (replicate 4 11)) (Settle ∷ Tick 9 ∷ []) (8 ∷ 8 ∷ 0 ∷ 0 ∷ []) none 0 (8 ∷ 8 ∷ 0 ∷ 0 ∷ [])
     ∷ bothTell buffers plain (Tick 30 ∷ []) (8 ∷ 8 ∷ 0 ∷ 0 ∷ []) none 0 (8 ∷ 8 ∷ 0 ∷ 0 ∷ [])
@@ -84,7 +84,10 @@ sums =
     ∷ reportTells (opening (setupOf standard 0 (5 ∷ 0 ∷ 0 ∷ 0 ∷ [])) (after (opening plain buffers .state) printedEvents) .state)
     (4 ∷ 4 ∷ 4 ∷ 0 ∷ []) (2 ∷ 0 ∷ 0 ∷ 0 ∷ []) 0 (2 ∷ 4 ∷ 4 ∷ 0 ∷ [])
     -- of equal messages the first is delivered, so its wait counts: sent at 1 and at 4, now being 5
-    ∷ reportTells (applied (Deliver (Vote 0 3)) (handedIn standard 0 5 false 0 2 (replicate 4 5) zeroes (15 ∷ []) (2 ∷ 0 ∷ 3 ∷ 1 ∷ 2 ∷ 0 ∷ 3 ∷ 4 ∷ [])) .state)
+    ∷ reportTells (applied (Deliver (Vote 0 3)) (handedIn standard 0 5 false 0 2 (replicate 4 5) zeroes (15 ∷ []) (67 ∷ 1 ∷ 67 ∷ 4 ∷ [])) .state)
+    none (0 ∷ 1 ∷ 0 ∷ 0 ∷ []) 4 (0 ∷ 1 ∷ 0 ∷ 0 ∷ [])
+    -- and so in the wide form
+    ∷ reportTells (applied (Deliver (Vote 0 3)) (wide (handedIn standard 0 5 false 0 2 (replicate 4 5) zeroes (15 ∷ []) (2 ∷ 0 ∷ 3 ∷ 1 ∷ 2 ∷ 0 ∷ 3 ∷ 4 ∷ []))) .state)
     none (0 ∷ 1 ∷ 0 ∷ 0 ∷ []) 4 (0 ∷ 1 ∷ 0 ∷ 0 ∷ [])
     -- sums handed in go unchecked, and held is what the network holds
     ∷ reportTells brimful (replicate 4 largest) (replicate 4 largest) largest (1 ∷ 1 ∷ 0 ∷ 0 ∷ [])
@@ -93,7 +96,7 @@ sums =
     (largest ∷ largest ∷ 3 ∷ largest ∷ []) (0 ∷ largest ∷ largest ∷ largest ∷ []) 2 (0 ∷ 1 ∷ 4 ∷ 0 ∷ [])
     -- "(unsound: 9)": a message sent later than now, or the time alone; a refused report tells nothing
     ∷ (
-      totalsNumbers (totals (withSums (brimful .run .traffic) (handedIn standard 0 1 false 0 2 zeroes zeroes [] (1 ∷ 0 ∷ 1 ∷ 2 ∷ 2 ∷ 0 ∷ 3 ∷ 2 ∷ [])))),
+      totalsNumbers (totals (withSums (brimful .run .traffic) (handedIn standard 0 1 false 0 2 zeroes zeroes [] (1 ∷ 2 ∷ 67 ∷ 2 ∷ [])))),
       (9 ∷ []) ∷ none ∷ none ∷ (0 ∷ []) ∷ none ∷ [],
     )
     ∷ (

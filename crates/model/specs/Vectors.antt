@@ -1,5 +1,5 @@
--- Computed vectors: rules, words, ticks and room. Each row, its right side taken from document 01, shuts out the wrong rule or word that its
--- comment is about. Assumes nothing.
+-- Computed vectors: rules, words, ticks and room. Each row, its right side taken from document 01 and, for the network's words, from document 02's
+-- "Tighter post", shuts out the wrong rule or word that its comment is about. Assumes nothing.
 use mathlib.Core.Path.{_≡_, refl}
 use mathlib.Core.Bool.{true, false, cond}
 use mathlib.Core.List.{List, [], _∷_, _++_}
@@ -16,9 +16,9 @@ use Rattle.model.specs.Events.{tickOnce}
 use Rattle.model.specs.Lists.{after, sinceSettling, ticksDone, ticksSince, formedIn, formedDuring, formedSince}
 use Rattle.model.specs.Rows.{definitions, planOf, standard, table, zeroes, copies, setupOf, lent, buffers, handedIn, Row, agreeing, truth, words, schedule, fullSchedule, handedRow, unchanged, refusedWhole, refusedOpening}
 
--- buffers that held other things before: two tally words more than six views need, and two network words more than eight messages need
+-- buffers that held other things before: two tally words more than six views need, and a network word more than eight messages need
 used : State
-used = withTally (replicate 26 9) (withNetwork (replicate 34 9) (lent 0 0))
+used = withTally (replicate 26 9) (withNetwork (replicate 17 9) (lent 0 0))
 
 votesThenSettle : List Event
 votesThenSettle = Deliver (Vote 0 0) ∷ Deliver (Vote 0 1) ∷ Deliver (Vote 0 2) ∷ Settle ∷ []
@@ -44,7 +44,7 @@ moves =
     ∷ schedule buffers (setupOf standard 0 (replicate 4 11)) (Tick 1 ∷ Deliver (Vote 0 0) ∷ Deliver (Vote 0 1) ∷ Deliver (Vote 0 2) ∷ [])
     (Done 0 8 ∷ Done 1 16 ∷ Done 0 15 ∷ Done 0 14 ∷ Done 0 17 ∷ [])
     -- "its own view" is the leader's: processor 1 has left view 3, in which the signer, processor 0, still is
-    ∷ handedRow (handedIn standard 0 5 false 0 1 (12 ∷ 16 ∷ 12 ∷ 12 ∷ []) (3 ∷ 4 ∷ 3 ∷ 3 ∷ []) (replicate 12 0 ++ (15 ∷ 4 ∷ [])) (1 ∷ 3 ∷ 0 ∷ 0 ∷ []))
+    ∷ handedRow (handedIn standard 0 5 false 0 1 (12 ∷ 16 ∷ 12 ∷ 12 ∷ []) (3 ∷ 4 ∷ 3 ∷ 3 ∷ []) (replicate 12 0 ++ (15 ∷ 4 ∷ [])) (1536 ∷ 0 ∷ []))
     (Deliver (View 3 0) ∷ []) (Done 0 0 ∷ [])
     -- a clock above the entered view's clock time is not set back
     ∷ fullSchedule buffers (setupOf standard 0 (replicate 4 6)) (Deliver (Vote 0 0) ∷ Deliver (Vote 0 1) ∷ Deliver (Vote 0 2) ∷ Deliver (Qc 0 0) ∷ [])
@@ -108,13 +108,13 @@ moves =
     -- mask 2: those for view 3
     ∷ schedule buffers (setupOf standard 2 (11 ∷ 0 ∷ 11 ∷ 11 ∷ [])) (Tick 1 ∷ []) (Done 0 6 ∷ Done 1 6 ∷ [])
     -- a set handed in with t+2 signers and no mark: the next one heard forms the certificate
-    ∷ handedRow (handedIn standard 0 5 false 0 2 (replicate 4 5) zeroes (15 ∷ 14 ∷ 14 ∷ []) (1 ∷ 0 ∷ 0 ∷ 0 ∷ 2 ∷ 0 ∷ 0 ∷ 0 ∷ []))
+    ∷ handedRow (handedIn standard 0 5 false 0 2 (replicate 4 5) zeroes (15 ∷ 14 ∷ 14 ∷ []) (0 ∷ 0 ∷ 64 ∷ 0 ∷ []))
     (Deliver (View 0 0) ∷ Deliver (Vote 0 0) ∷ []) (Done 0 5 ∷ Done 0 8 ∷ [])
     -- also one heard before
-    ∷ handedRow (handedIn standard 0 5 false 0 2 (replicate 4 5) zeroes (15 ∷ 14 ∷ 14 ∷ []) (1 ∷ 0 ∷ 1 ∷ 0 ∷ 2 ∷ 0 ∷ 1 ∷ 0 ∷ []))
+    ∷ handedRow (handedIn standard 0 5 false 0 2 (replicate 4 5) zeroes (15 ∷ 14 ∷ 14 ∷ []) (1 ∷ 0 ∷ 65 ∷ 0 ∷ []))
     (Deliver (View 0 1) ∷ Deliver (Vote 0 1) ∷ []) (Done 0 5 ∷ Done 0 8 ∷ [])
     -- bits at n and above count in a set handed in
-    ∷ handedRow (handedIn standard 0 5 false 0 2 (replicate 4 5) zeroes (15 ∷ 32 ∷ 96 ∷ []) (1 ∷ 0 ∷ 0 ∷ 0 ∷ 2 ∷ 0 ∷ 0 ∷ 0 ∷ []))
+    ∷ handedRow (handedIn standard 0 5 false 0 2 (replicate 4 5) zeroes (15 ∷ 32 ∷ 96 ∷ []) (0 ∷ 0 ∷ 64 ∷ 0 ∷ []))
     (Deliver (View 0 0) ∷ Deliver (Vote 0 0) ∷ []) (Done 0 5 ∷ Done 0 8 ∷ [])
     -- and in an entered set
     ∷ handedRow (handedIn standard 1 5 false 0 0 (replicate 4 5) zeroes (96 ∷ []) []) (Show (Qc 0 1) ∷ []) (Done 0 0 ∷ [])
@@ -125,46 +125,45 @@ moves =
 pub contents : List Row
 contents =
     -- the opening posts by rising number, the view message before the vote
-    words (opening (setupOf standard 0 zeroes) (lent 24 32) .state .network)
-    (1 ∷ 0 ∷ 0 ∷ 0 ∷ 2 ∷ 0 ∷ 0 ∷ 0 ∷ 1 ∷ 0 ∷ 1 ∷ 0 ∷ 2 ∷ 0 ∷ 1 ∷ 0 ∷ 1 ∷ 0 ∷ 2 ∷ 0 ∷ 2 ∷ 0 ∷ 2 ∷ 0 ∷ 1 ∷ 0 ∷ 3 ∷ 0 ∷ 2 ∷ 0 ∷ 3 ∷ 0 ∷ [])
+    words (opening (setupOf standard 0 zeroes) (lent 24 16) .state .network)
+    (0 ∷ 0 ∷ 64 ∷ 0 ∷ 1 ∷ 0 ∷ 65 ∷ 0 ∷ 2 ∷ 0 ∷ 66 ∷ 0 ∷ 3 ∷ 0 ∷ 67 ∷ 0 ∷ [])
     -- the delivered leave, the rest close up, certificates follow by rising receiver, the leader included; 0 beyond
-    ∷ words (after (opening (setupOf standard 0 zeroes) (lent 24 64) .state) (Deliver (View 0 0) ∷ Deliver (View 0 1) ∷ []) .network)
-    (2 ∷ 0 ∷ 0 ∷ 0 ∷ 2 ∷ 0 ∷ 1 ∷ 0 ∷ 1 ∷ 0 ∷ 2 ∷ 0 ∷ 2 ∷ 0 ∷ 2 ∷ 0 ∷ 1 ∷ 0 ∷ 3 ∷ 0 ∷ 2 ∷ 0 ∷ 3 ∷ 0 ∷ 3 ∷ 0 ∷ 0 ∷ 0 ∷ 3 ∷ 0 ∷ 1 ∷ 0 ∷ 3 ∷ 0 ∷ 2 ∷ 0 ∷ 3
-    ∷ 0 ∷ 3 ∷ replicate 25 0)
+    ∷ words (after (opening (setupOf standard 0 zeroes) (lent 24 32) .state) (Deliver (View 0 0) ∷ Deliver (View 0 1) ∷ []) .network)
+    (64 ∷ 0 ∷ 65 ∷ 0 ∷ 2 ∷ 0 ∷ 66 ∷ 0 ∷ 3 ∷ 0 ∷ 67 ∷ 0 ∷ 128 ∷ 0 ∷ 129 ∷ 0 ∷ 130 ∷ 0 ∷ 131 ∷ 0 ∷ replicate 12 0)
     -- and the tally: entered, view messages heard, votes heard, marks
-    ∷ words (after (opening (setupOf standard 0 zeroes) (lent 24 64) .state) (Deliver (View 0 0) ∷ Deliver (View 0 1) ∷ []) .tally)
+    ∷ words (after (opening (setupOf standard 0 zeroes) (lent 24 32) .state) (Deliver (View 0 0) ∷ Deliver (View 0 1) ∷ []) .tally)
     (15 ∷ 3 ∷ 0 ∷ 1 ∷ replicate 20 0)
     -- a quorum certificate completed by a faulty signature; none for the faulty processor
-    ∷ words (after (opening (setupOf standard 8 zeroes) (lent 24 32) .state) (Deliver (Vote 0 1) ∷ Deliver (Vote 0 0) ∷ Sign (Vote 0 3) ∷ []) .network)
-    (1 ∷ 0 ∷ 0 ∷ 0 ∷ 1 ∷ 0 ∷ 1 ∷ 0 ∷ 1 ∷ 0 ∷ 2 ∷ 0 ∷ 2 ∷ 0 ∷ 2 ∷ 0 ∷ 4 ∷ 0 ∷ 0 ∷ 0 ∷ 4 ∷ 0 ∷ 1 ∷ 0 ∷ 4 ∷ 0 ∷ 2 ∷ replicate 5 0)
+    ∷ words (after (opening (setupOf standard 8 zeroes) (lent 24 16) .state) (Deliver (Vote 0 1) ∷ Deliver (Vote 0 0) ∷ Sign (Vote 0 3) ∷ []) .network)
+    (0 ∷ 0 ∷ 1 ∷ 0 ∷ 2 ∷ 0 ∷ 66 ∷ 0 ∷ 192 ∷ 0 ∷ 193 ∷ 0 ∷ 194 ∷ 0 ∷ replicate 2 0)
     -- the faulty signer stands in the tally
-    ∷ words (after (opening (setupOf standard 8 zeroes) (lent 24 32) .state) (Deliver (Vote 0 1) ∷ Deliver (Vote 0 0) ∷ Sign (Vote 0 3) ∷ []) .tally)
+    ∷ words (after (opening (setupOf standard 8 zeroes) (lent 24 16) .state) (Deliver (Vote 0 1) ∷ Deliver (Vote 0 0) ∷ Sign (Vote 0 3) ∷ []) .tally)
     (7 ∷ 0 ∷ 11 ∷ 2 ∷ replicate 20 0)
     -- what a tick sends has the time after it
-    ∷ words (after (opening (setupOf standard 1 (replicate 4 11)) (lent 24 32) .state) (Tick 1 ∷ []) .network)
-    (1 ∷ 3 ∷ 1 ∷ 1 ∷ 2 ∷ 3 ∷ 1 ∷ 1 ∷ 1 ∷ 3 ∷ 2 ∷ 1 ∷ 2 ∷ 3 ∷ 2 ∷ 1 ∷ 1 ∷ 3 ∷ 3 ∷ 1 ∷ 2 ∷ 3 ∷ 3 ∷ 1 ∷ replicate 8 0)
+    ∷ words (after (opening (setupOf standard 1 (replicate 4 11)) (lent 24 16) .state) (Tick 1 ∷ []) .network)
+    (1537 ∷ 1 ∷ 1601 ∷ 1 ∷ 1538 ∷ 1 ∷ 1602 ∷ 1 ∷ 1539 ∷ 1 ∷ 1603 ∷ 1 ∷ replicate 4 0)
     -- entries by tick stand in the tally
-    ∷ words (after (opening (setupOf standard 1 (replicate 4 11)) (lent 24 32) .state) (Tick 1 ∷ []) .tally)
+    ∷ words (after (opening (setupOf standard 1 (replicate 4 11)) (lent 24 16) .state) (Tick 1 ∷ []) .tally)
     (14 ∷ 0 ∷ 0 ∷ 0 ∷ 0 ∷ 0 ∷ 0 ∷ 0 ∷ 0 ∷ 0 ∷ 0 ∷ 0 ∷ 14 ∷ replicate 11 0)
     -- of equal messages the first leaves: the one sent at 5 stays
-    ∷ words (after (handedIn standard 0 5 false 0 3 (replicate 4 5) zeroes [] (2 ∷ 0 ∷ 1 ∷ 0 ∷ 1 ∷ 0 ∷ 2 ∷ 3 ∷ 2 ∷ 0 ∷ 1 ∷ 5 ∷ []))
-    (Deliver (Vote 0 1) ∷ []) .network) (1 ∷ 0 ∷ 2 ∷ 3 ∷ 2 ∷ 0 ∷ 1 ∷ 5 ∷ replicate 56 0)
+    ∷ words (after (handedIn standard 0 5 false 0 3 (replicate 4 5) zeroes [] (65 ∷ 0 ∷ 2 ∷ 3 ∷ 65 ∷ 5 ∷ []))
+    (Deliver (Vote 0 1) ∷ []) .network) (2 ∷ 3 ∷ 65 ∷ 5 ∷ replicate 28 0)
     -- the rest keep their order
-    ∷ words (after (handedIn standard 0 5 false 0 4 (replicate 4 5) zeroes [] (2 ∷ 0 ∷ 0 ∷ 0 ∷ 1 ∷ 0 ∷ 2 ∷ 3 ∷ 2 ∷ 0 ∷ 1 ∷ 4 ∷ 2 ∷ 0 ∷ 3 ∷ 5 ∷ []))
-    (Deliver (View 0 2) ∷ []) .network) (2 ∷ 0 ∷ 0 ∷ 0 ∷ 2 ∷ 0 ∷ 1 ∷ 4 ∷ 2 ∷ 0 ∷ 3 ∷ 5 ∷ replicate 52 0)
+    ∷ words (after (handedIn standard 0 5 false 0 4 (replicate 4 5) zeroes [] (64 ∷ 0 ∷ 2 ∷ 3 ∷ 65 ∷ 4 ∷ 67 ∷ 5 ∷ []))
+    (Deliver (View 0 2) ∷ []) .network) (64 ∷ 0 ∷ 65 ∷ 4 ∷ 67 ∷ 5 ∷ replicate 26 0)
     -- other bits of a mark word are kept
-    ∷ words (after (handedIn standard 0 5 false 0 2 (replicate 4 5) zeroes (15 ∷ 2 ∷ 6 ∷ 12 ∷ []) (1 ∷ 0 ∷ 0 ∷ 0 ∷ 2 ∷ 0 ∷ 0 ∷ 0 ∷ []))
+    ∷ words (after (handedIn standard 0 5 false 0 2 (replicate 4 5) zeroes (15 ∷ 2 ∷ 6 ∷ 12 ∷ []) (0 ∷ 0 ∷ 64 ∷ 0 ∷ []))
     (Deliver (View 0 0) ∷ Deliver (Vote 0 0) ∷ []) .tally) (15 ∷ 3 ∷ 7 ∷ 15 ∷ replicate 20 0)
     -- signatures to a faulty leader leave no trace
-    ∷ words (after (opening (setupOf standard 1 zeroes) (lent 24 32) .state) (Sign (View 0 0) ∷ Sign (Vote 1 0) ∷ []) .tally) (14 ∷ replicate 23 0)
+    ∷ words (after (opening (setupOf standard 1 zeroes) (lent 24 16) .state) (Sign (View 0 0) ∷ Sign (Vote 1 0) ∷ []) .tally) (14 ∷ replicate 23 0)
     -- and are accepted
     ∷ schedule buffers (setupOf standard 1 zeroes) (Sign (View 0 0) ∷ Sign (Vote 1 0) ∷ []) (Done 0 0 ∷ Done 0 0 ∷ Done 0 0 ∷ [])
     -- entries by certificate stand in the tally
-    ∷ words (after (opening (setupOf standard 1 zeroes) (lent 24 32) .state) (Show (Qc 0 2) ∷ []) .tally) (14 ∷ 0 ∷ 0 ∷ 0 ∷ 4 ∷ replicate 19 0)
+    ∷ words (after (opening (setupOf standard 1 zeroes) (lent 24 16) .state) (Show (Qc 0 2) ∷ []) .tally) (14 ∷ 0 ∷ 0 ∷ 0 ∷ 4 ∷ replicate 19 0)
     -- the opening zeroes 4V tally words and no more
     ∷ words (opening (setupOf standard 1 zeroes) used .state .tally) (14 ∷ replicate 23 0 ++ (9 ∷ 9 ∷ []))
     -- and every network word
-    ∷ words (opening (setupOf standard 1 zeroes) used .state .network) (replicate 34 0)
+    ∷ words (opening (setupOf standard 1 zeroes) used .state .network) (replicate 17 0)
     -- start clocks of faulty processors and from n on are not read
     ∷ words (opening (setupOf standard 2 (3 ∷ 99 ∷ 3 ∷ 3 ∷ 77 ∷ [])) buffers .state .run .clocks) (table (3 ∷ 0 ∷ 3 ∷ 3 ∷ []))
     -- a later opening starts from nothing: unsettled, no vote heard, no mark
@@ -191,7 +190,7 @@ timing =
     ∷ schedule buffers (setupOf standard 1 (replicate 4 10)) (Tick 1 ∷ Settle ∷ Tick 1 ∷ Tick 9 ∷ [])
     (Done 0 0 ∷ Done 1 0 ∷ Done 0 0 ∷ Done 1 6 ∷ Stopped 2 6 16 ∷ [])
     -- any message held may be the overdue one, not the first alone
-    ∷ handedRow (handedIn standard 0 5 true 0 2 (replicate 4 5) zeroes [] (2 ∷ 0 ∷ 0 ∷ 5 ∷ 2 ∷ 0 ∷ 1 ∷ 3 ∷ [])) (Tick 1 ∷ []) (Refused 16 ∷ [])
+    ∷ handedRow (handedIn standard 0 5 true 0 2 (replicate 4 5) zeroes [] (64 ∷ 5 ∷ 65 ∷ 3 ∷ [])) (Tick 1 ∷ []) (Refused 16 ∷ [])
     -- nothing is overdue in an unsettled network
     ∷ schedule buffers (setupOf standard 0 zeroes) (Tick 9 ∷ []) (Done 0 8 ∷ Done 9 8 ∷ [])
     -- ticks stop by 16, go on after the overdue ones are delivered, and stop again
@@ -202,7 +201,7 @@ timing =
     -- 16 is judged before 17
     ∷ schedule buffers (setupOf (planOf 4 1 2 3) 0 (replicate 4 4)) (Settle ∷ Tick 1 ∷ Tick 1 ∷ []) (Done 0 8 ∷ Done 0 8 ∷ Done 1 8 ∷ Refused 16 ∷ [])
     -- 16 before 18
-    ∷ schedule (lent 24 32) (setupOf (planOf 4 1 4 6) 0 (replicate 4 10)) (Settle ∷ Tick 1 ∷ Tick 1 ∷ []) (Done 0 8 ∷ Done 0 8 ∷ Done 1 8 ∷ Refused 16 ∷ [])
+    ∷ schedule (lent 24 16) (setupOf (planOf 4 1 4 6) 0 (replicate 4 10)) (Settle ∷ Tick 1 ∷ Tick 1 ∷ []) (Done 0 8 ∷ Done 0 8 ∷ Done 1 8 ∷ Refused 16 ∷ [])
     -- what a tick sends counts from the time after it
     ∷ schedule buffers (setupOf (planOf 4 1 2 6) 1 (replicate 4 5)) (Settle ∷ Tick 1 ∷ Tick 1 ∷ Tick 1 ∷ [])
     (Done 0 0 ∷ Done 0 0 ∷ Done 1 6 ∷ Done 1 6 ∷ Refused 16 ∷ [])
@@ -232,28 +231,28 @@ timing =
 pub room : List Row
 room =
     -- what would not fit is refused; messages that left make room; as many as fit exactly are taken
-    schedule (lent 24 32) (setupOf standard 0 zeroes)
+    schedule (lent 24 16) (setupOf standard 0 zeroes)
     (Deliver (View 0 0) ∷ Deliver (View 0 1) ∷ Deliver (Vote 0 0) ∷ Deliver (Vote 0 1) ∷ Deliver (View 0 1) ∷ [])
     (Done 0 8 ∷ Done 0 7 ∷ Refused 18 ∷ Done 0 6 ∷ Done 0 5 ∷ Done 0 8 ∷ [])
-    -- 35 words hold eight messages
-    ∷ schedule (lent 24 35) (setupOf standard 0 zeroes) (Deliver (View 0 0) ∷ Deliver (Vote 0 0) ∷ Deliver (View 0 1) ∷ [])
+    -- 17 words hold eight messages
+    ∷ schedule (lent 24 17) (setupOf standard 0 zeroes) (Deliver (View 0 0) ∷ Deliver (Vote 0 0) ∷ Deliver (View 0 1) ∷ [])
     (Done 0 8 ∷ Done 0 7 ∷ Done 0 6 ∷ Refused 18 ∷ [])
-    -- 36 words hold nine
-    ∷ schedule (lent 24 36) (setupOf standard 0 zeroes) (Deliver (View 0 0) ∷ Deliver (Vote 0 0) ∷ Deliver (View 0 1) ∷ [])
+    -- 18 words hold nine
+    ∷ schedule (lent 24 18) (setupOf standard 0 zeroes) (Deliver (View 0 0) ∷ Deliver (Vote 0 0) ∷ Deliver (View 0 1) ∷ [])
     (Done 0 8 ∷ Done 0 7 ∷ Done 0 6 ∷ Done 0 9 ∷ [])
     -- refused whole: the delivered message stays, its signer is not added
-    ∷ refusedWhole (after (opening (setupOf standard 0 zeroes) (lent 24 32) .state) (Deliver (View 0 0) ∷ [])) (Deliver (View 0 1)) 18
+    ∷ refusedWhole (after (opening (setupOf standard 0 zeroes) (lent 24 16) .state) (Deliver (View 0 0) ∷ [])) (Deliver (View 0 1)) 18
     -- ticks end before the one that does not fit
-    ∷ fullSchedule (lent 24 32) (setupOf standard 0 (replicate 4 10)) (Tick 3 ∷ Tick 1 ∷ []) (Done 0 8 ∷ Stopped 1 8 18 ∷ Refused 18 ∷ [])
+    ∷ fullSchedule (lent 24 16) (setupOf standard 0 (replicate 4 10)) (Tick 3 ∷ Tick 1 ∷ []) (Done 0 8 ∷ Stopped 1 8 18 ∷ Refused 18 ∷ [])
     ((0 ∷ 0 ∷ 11 ∷ []) ∷ (1 ∷ 0 ∷ 11 ∷ []) ∷ (2 ∷ 0 ∷ 11 ∷ []) ∷ (3 ∷ 0 ∷ 11 ∷ []) ∷ [])
     -- a signature whose certificate would not fit is not added
-    ∷ refusedWhole (withNetwork (copies 8 (2 ∷ 0 ∷ 0 ∷ 0 ∷ [])) (handedIn standard 8 5 false 0 8 (replicate 4 5) zeroes (7 ∷ 1 ∷ []) []))
+    ∷ refusedWhole (withNetwork (copies 8 (64 ∷ 0 ∷ [])) (handedIn standard 8 5 false 0 8 (replicate 4 5) zeroes (7 ∷ 1 ∷ []) []))
     (Sign (View 0 3)) 18
     -- a certificate shown whose messages would not fit
-    ∷ refusedWhole (withNetwork (copies 8 (2 ∷ 3 ∷ 1 ∷ 0 ∷ [])) (handedIn standard 1 5 false 0 8 (replicate 4 5) zeroes (replicate 9 14) []))
+    ∷ refusedWhole (withNetwork (copies 8 (1601 ∷ 0 ∷ [])) (handedIn standard 1 5 false 0 8 (replicate 4 5) zeroes (replicate 9 14) []))
     (Show (Qc 2 1)) 18
     -- 17 before 18
-    ∷ refusedWhole (withNetwork (copies 8 (2 ∷ 0 ∷ 0 ∷ 0 ∷ [])) (handedIn standard 0 5 false 0 8 (replicate 4 5) zeroes (replicate 23 0 ++ (2 ∷ [])) []))
+    ∷ refusedWhole (withNetwork (copies 8 (64 ∷ 0 ∷ [])) (handedIn standard 0 5 false 0 8 (replicate 4 5) zeroes (replicate 23 0 ++ (2 ∷ [])) []))
     (Show (Qc 5 0)) 17
     ∷ []
 
@@ -288,7 +287,7 @@ history =
     -- a vote counts for its own view alone, though the next view's votes suffice
     ∷ truth
     (formedIn (Deliver (Vote 0 0))
-    (handedIn standard 0 5 false 0 1 (replicate 4 5) zeroes (15 ∷ 0 ∷ 0 ∷ 0 ∷ 15 ∷ 0 ∷ 14 ∷ []) (2 ∷ 0 ∷ 0 ∷ 0 ∷ [])) 1)
+    (handedIn standard 0 5 false 0 1 (replicate 4 5) zeroes (15 ∷ 0 ∷ 0 ∷ 0 ∷ 15 ∷ 0 ∷ 14 ∷ []) (64 ∷ 0 ∷ [])) 1)
     false
     -- a second settle starts nothing anew
     ∷ didSince 0 (Settle ∷ Tick 1 ∷ threeVotes ++ (Settle ∷ Tick 1 ∷ [])) 2 (1 ∷ 0 ∷ 0 ∷ [])

@@ -89,7 +89,7 @@ lending t w = standingOf unopenedSession (replicate t 0) (replicate w 0)
 
 -- those of 6 views and of 16 messages
 abbrev pub small : Standing
-small = lending 24 64
+small = lending 24 32
 
 -- "(open 4 2 4 6 mask (c c c c))"
 abbrev pub opens : ℕ → ℕ → List ℕ
@@ -150,7 +150,7 @@ refusals =
     ∷ row small (scheduleOf (opens 0 0 ∷ eventLines (Settle ∷ Settle ∷ []))) (Done 0 8 ∷ Done 0 8 ∷ Refused 15 ∷ []) (places four 0 0)
     ∷ row small (scheduleOf (opens 0 11 ∷ eventLines (Tick 1 ∷ Deliver (Vote 0 0) ∷ Deliver (Vote 0 1) ∷ Deliver (Vote 0 2) ∷ [])))
     (Done 0 8 ∷ Done 1 16 ∷ Done 0 15 ∷ Done 0 14 ∷ Refused 18 ∷ []) (places four 3 12)
-    ∷ row (lending 24 48) (scheduleOf (opens 8 11 ∷ eventLines (Tick 1 ∷ Deliver (Vote 0 0) ∷ Deliver (Vote 0 1) ∷ Sign (Vote 0 3) ∷ [])))
+    ∷ row (lending 24 24) (scheduleOf (opens 8 11 ∷ eventLines (Tick 1 ∷ Deliver (Vote 0 0) ∷ Deliver (Vote 0 1) ∷ Sign (Vote 0 3) ∷ [])))
     (Done 0 6 ∷ Done 1 12 ∷ Done 0 11 ∷ Done 0 10 ∷ Refused 18 ∷ []) (places (0 ∷ 1 ∷ 2 ∷ []) 3 12)
     ∷ []
 
@@ -182,17 +182,17 @@ acceptances-hold = refl
 
 -- quorum certificate 5, the last, is formed and on its way to processor 0
 abbrev pub lastFormed : State
-lastFormed = handedIn standard 0 5 false 0 1 (replicate 4 5) zeroes (replicate 23 0 ++ (2 ∷ [])) (4 ∷ 5 ∷ 0 ∷ 0 ∷ [])
+lastFormed = handedIn standard 0 5 false 0 1 (replicate 4 5) zeroes (replicate 23 0 ++ (2 ∷ [])) (2752 ∷ 0 ∷ [])
 
--- two messages are said to be held where words of one are
-abbrev pub wordsMissing : State
-wordsMissing = handedIn standard 0 5 false 0 2 (replicate 4 5) zeroes [] (1 ∷ 0 ∷ 0 ∷ 0 ∷ [])
+-- one message is said to be held where words of two are
+abbrev pub wordsLeft : State
+wordsLeft = handedIn standard 0 5 false 0 1 (replicate 4 5) zeroes [] (0 ∷ 0 ∷ 1 ∷ 0 ∷ [])
 
 pub handedRuns : List Row
 handedRuns =
     -- certificates, refused by 17; ticks, by another check
     row (leaving true lastFormed) (scheduleOf (eventLines (Deliver (Qc 5 0) ∷ Show (Qc 5 1) ∷ []))) (Refused 17 ∷ Refused 17 ∷ []) (places four 0 5)
-    ∷ row (leaving true wordsMissing) (scheduleOf (eventLines (Tick 1 ∷ []))) (Refused 9 ∷ []) (places four 0 5)
+    ∷ row (leaving true wordsLeft) (scheduleOf (eventLines (Tick 1 ∷ []))) (Refused 9 ∷ []) (places four 0 5)
     -- a run that is not open gets no event, no refused opening opens it, and it is not printed
     ∷ row (leaving false lastFormed) (scheduleOf (eventForm (Tick 1) ∷ refusedOpens ∷ eventLines (Tick 1 ∷ []))) (Refused 9 ∷ Refused 7 ∷ Refused 9 ∷ []) []
     ∷ row (leaving false lastFormed) (scheduleOf (opens 0 1 ∷ eventLines (Tick 1 ∷ []))) (Done 0 8 ∷ Done 1 8 ∷ []) (places four 0 2)
@@ -264,7 +264,7 @@ reports =
     ∷ reportRow small (scheduleOf (opens 0 0 ∷ eventLines (Deliver (View 0 0) ∷ Deliver (View 0 0) ∷ []) ++ ([] ∷ [])))
     (report (countsOf 4 4 0 0) (countsOf 1 0 0 0) 0 (countsOf 3 4 0 0))
     -- a run handed in that is unsound
-    ∷ reportRow (leaving true wordsMissing) [] (line (answerForm (Refused 9)))
+    ∷ reportRow (leaving true wordsLeft) [] (line (answerForm (Refused 9)))
     ∷ []
 
 pub reports-hold : agreeing 0 reports ≡ length reports

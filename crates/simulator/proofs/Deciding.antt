@@ -1,9 +1,10 @@
 -- What is named, and what a message makes of whom it reaches. Assumes nothing.
-use mathlib.Core.Path.{_≡_, refl, sym, ap, ap₂, _∙_}
-use mathlib.Core.Bool.{Bool, true, false, not, cond}
+use mathlib.Core.Path.{_≡_, refl, sym, ap, ap₂, _∙_, subst}
+use mathlib.Core.Bool.{Bool, true, false, not, _&&_, cond}
 use mathlib.Core.List.{List}
-use Prim.Native.Nat.{ℕ, _≤_, _<_}
+use Prim.Native.Nat.{ℕ, _+_, _≤_, _<_}
 use native.Mathlib.Omega.{arith}
+use lib.Dec.{leb, ltb}
 use lib.ListN.{length}
 use borrow.Author.Tests.{le-leb, lt-leb}
 use Rattle.base.specs.Tests.{fails}
@@ -13,8 +14,11 @@ use Rattle.types.specs.declared.Message.{Message}
 use Rattle.types.specs.declared.Message.the-variants.{View, Vote, Vc, Qc}
 use Rattle.types.specs.declared.Run.{Run}
 use Rattle.types.specs.declared.Traffic.{Traffic}
+use Rattle.types.specs.declared.Form.the-variants.{Packed}
+use Rattle.types.specs.declared.Sends.{Sends}
+use Rattle.types.specs.declared.Sends.the-variants.{Nothing}
 use Rattle.types.specs.declared.Input.the-variants.{Vc as VcIn, Qc as QcIn}
-use Rattle.types.specs.Quantities.{initial}
+use Rattle.types.specs.Quantities.{nMost, viewsMost, initial}
 use Rattle.types.specs.Traffic.{trafficSent}
 use Rattle.types.specs.Messages.{viewStage, voteStage, viewIn, processorIn, stageOf, isSignature}
 use Rattle.model.specs.State.{stateOf, withHeld, withTraffic, viewOf, isCorrect}
@@ -24,9 +28,11 @@ use Rattle.liveness.proofs.Answers.{no-yes}
 use Rattle.liveness.proofs.Judging.{named-within}
 use Rattle.model.specs.Processors.{movingBy}
 use Rattle.pacemaker.proofs.LimitLaws.{within as limits}
+use Rattle.buffers.specs.Network.{packable, is-sayable}
 use Rattle.simulator.specs.declared.Reaction.{Reaction}
-use Rattle.simulator.specs.Inner.{Posts, sentBy, Reacts, movedChange, changeBy, sentFor, Fit, seat, namedCheck, Decides}
+use Rattle.simulator.specs.Inner.{Posts, AllPackable, sentBy, Reacts, movedChange, changeBy, sentFor, Fit, seat, namedCheck, Decides}
 use Rattle.simulator.proofs.Moving.{moved-taking, stays-below, taking-reaches}
+use Rattle.simulator.proofs.Packing.{none-packs, taking-packs}
 use Rattle.simulator.proofs.Ticking.{state-by}
 
 -- ---- checks 10 and 11
@@ -79,6 +85,14 @@ pub named-place : (plan : Plan) (m m' : Message) (k : ℕ) → planOutside plan 
 named-place plan m m' k o e h long = omega (arith, limits plan o .n-most, named-at plan m m' e h .0)
 
 -- a view certificate that passes them names an initial view
+pub named-small : (plan : Plan) (m m' : Message) → planOutside plan ≡ false → m ≡ m' → namedCheck plan m ≡ 0 → viewIn m' < viewsMost
+named-small plan m m' ok e h = omega (arith, named-at plan m m' e h .1, limits plan ok .views-most)
+
+-- it has a packed word
+pub named-packs : (plan : Plan) (m : Message) → planOutside plan ≡ false → namedCheck plan m ≡ 0 → packable m ≡ true
+named-packs plan m ok h =
+    let v = named-small plan m m ok refl h in is-sayable Packed m (omega arith) (named-place plan m m nMost ok refl h refl)
+
 pub named-vc : (plan : Plan) (w p : ℕ) → namedCheck plan (Vc w p) ≡ 0 → (w < plan .views) × (initial plan w ≡ true)
 named-vc plan w p e = (named-low plan (Vc w p) e .1, go (initial plan w) (named-passed plan (Vc w p) e .1))
   where
@@ -143,27 +157,31 @@ module _ (r : Run) (t : List ℕ) (fit : Fit r) (x : Reaction) where
     ap (heardChange stage r t w p) f,
   )
 
-  pub decides-view : (w p : ℕ) → x .ends ≡ false → x .formed ≡ forms viewStage r t w p → Decides r t (View w p) x
+  pub decides-view : (w p : ℕ) → x .ends ≡ false → x .formed ≡ forms viewStage r t w p → x .sends ≡ Nothing → Decides r t (View w p) x
   unfolding handling
-  decides-view w p e f = let d = decides-heard viewStage w p e f in record { ends = d .0; change = λ _. d .1 }
+  decides-view w p e f n = let d = decides-heard viewStage w p e f in record { ends = d .0; change = λ _. d .1; packs = λ _. subst (λ (y : Sends). AllPackable (sentBy (r .plan) (r .faulty) p y)) (sym n) (none-packs (r .plan) (r .faulty)) }
 
-  pub decides-vote : (w p : ℕ) → x .ends ≡ false → x .formed ≡ forms voteStage r t w p → Decides r t (Vote w p) x
+  pub decides-vote : (w p : ℕ) → x .ends ≡ false → x .formed ≡ forms voteStage r t w p → x .sends ≡ Nothing → Decides r t (Vote w p) x
   unfolding handling
-  decides-vote w p e f = let d = decides-heard voteStage w p e f in record { ends = d .0; change = λ _. d .1 }
+  decides-vote w p e f n = let d = decides-heard voteStage w p e f in record { ends = d .0; change = λ _. d .1; packs = λ _. subst (λ (y : Sends). AllPackable (sentBy (r .plan) (r .faulty) p y)) (sym n) (none-packs (r .plan) (r .faulty)) }
 
-  module _ (p : ℕ) (ok : isCorrect r p ≡ true) (low : p < length (r .clocks)) where
-    pub decides-vc : (w : ℕ) → Reacts (r .plan) (seat r p) (movingBy (r .plan) (seat r p) (VcIn w)) x → Decides r t (Vc w p) x
+  module _ (p : ℕ) (ok : isCorrect r p ≡ true) (low : p < length (r .clocks)) (seated : p < nMost) (w : ℕ) (small : w < viewsMost) where
+    pub decides-vc : Reacts (r .plan) (seat r p) (movingBy (r .plan) (seat r p) (VcIn w)) x → Decides r t (Vc w p) x
     unfolding handling
-    decides-vc w a = record {
+    decides-vc a = record {
       ends = a .ends ∙ sym (taking-reaches r fit t p (byView (r .plan) (viewOf r p) w) ok low);
       change = λ e. moved-taking r t p (byView (r .plan) (viewOf r p) w) x (a .processor e) (a .sent e);
+      packs = λ e. subst (λ (c : Change). AllPackable (c .sent)) (sym (moved-taking r t p (byView (r .plan) (viewOf r p) w) x (a .processor e) (a .sent e)))
+          (taking-packs r t p w (initial (r .plan) w && ltb (viewOf r p) w) seated (omega arith));
     }
 
-    pub decides-qc : (w : ℕ) → Reacts (r .plan) (seat r p) (movingBy (r .plan) (seat r p) (QcIn w)) x → Decides r t (Qc w p) x
+    pub decides-qc : Reacts (r .plan) (seat r p) (movingBy (r .plan) (seat r p) (QcIn w)) x → Decides r t (Qc w p) x
     unfolding handling
-    decides-qc w a = record {
+    decides-qc a = record {
       ends = a .ends ∙ sym (taking-reaches r fit t p (byQuorum (viewOf r p) w) ok low);
       change = λ e. moved-taking r t p (byQuorum (viewOf r p) w) x (a .processor e) (a .sent e);
+      packs = λ e. subst (λ (c : Change). AllPackable (c .sent)) (sym (moved-taking r t p (byQuorum (viewOf r p) w) x (a .processor e) (a .sent e)))
+          (taking-packs r t p (w + 1) (leb (viewOf r p) w) seated (omega arith));
     }
 
 -- ---- a reaction done

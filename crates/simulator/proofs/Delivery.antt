@@ -13,14 +13,15 @@ use Rattle.types.specs.declared.Message.{Message}
 use Rattle.types.specs.declared.Message.the-variants.{View, Vote, Vc, Qc}
 use Rattle.types.specs.declared.Run.{Run}
 use Rattle.types.specs.declared.Traffic.{Traffic}
-use Rattle.types.specs.Quantities.{messageWords}
+use Rattle.types.specs.declared.Form.the-variants.{Packed}
+use Rattle.types.specs.Quantities.{width}
 use Rattle.types.specs.Traffic.{trafficDelivered}
 use Rattle.model.specs.State.{State, stateOf, withRun, withNetwork, withHeld, withTraffic, isCorrect, capacity, roomIn, removed}
 use Rattle.model.specs.Checks.{unsound, isAt, placeOf, notHeld}
 use Rattle.model.specs.Events.{waitSince, without}
 use Rattle.liveness.proofs.Flight.{length-removed}
 use Rattle.liveness.proofs.Marks.{addressed}
-use Rattle.buffers.specs.Network.{found, found-fits}
+use Rattle.buffers.specs.Network.{packable, found, found-fits}
 use Rattle.simulator.specs.Inner.{Fit, ReachesCorrect, leaving}
 
 -- the run with one message less is as fit
@@ -34,25 +35,25 @@ reaches-held r h x (Vc w p) c = c
 reaches-held r h x (Qc w p) c = c
 
 -- a run and the buffers lent with it
-module _ (r : Run) (t ws : List ℕ) (m : Message) (i : ℕ) (room : r .held ≤ capacity ws) where
+module _ (r : Run) (t ws : List ℕ) (m : Message) (i : ℕ) (room : r .held ≤ capacity Packed ws) where
   abbrev s : State
   s = stateOf r t ws
 
-  module _ (is-found : i ≡ found ws (r .held) m) where
+  module _ (packs : packable m ≡ true) (is-found : i ≡ found ws (r .held) m) where
     pub place-is : i ≡ placeOf s m
-    place-is = is-found ∙ found-fits ws (r .held) m room
+    place-is = is-found ∙ found-fits ws (r .held) m room packs
 
     pub found-none : r .held ≤ i → notHeld s m ≡ true
-    found-none l = eq-eqb (placeOf s m) (r .held) (omega (arith, place-is, first-le (isAt ws m) (r .held)))
+    found-none l = eq-eqb (placeOf s m) (r .held) (omega (arith, place-is, first-le (isAt Packed ws m) (r .held)))
 
     pub found-some : i < r .held → notHeld s m ≡ false
     found-some l = ne-eqb (placeOf s m) (r .held) (λ e. absurd (omega (arith, e, place-is)))
 
     pub leaves-without : i < r .held → leaving s m i ≡ without s m
     unfolding without
-    leaves-without inside = rw (lt-ltb i (r .held) inside, le-leb (r .held) (capacity ws) room)
-        (ap (λ (k : ℕ). withRun (withTraffic (trafficDelivered (r .traffic) m (waitSince (r .time) ws k)) (withHeld (r .held - 1) r))
-        (withNetwork (removed ws (r .held) k) s)) place-is)
+    leaves-without inside = rw (lt-ltb i (r .held) inside, le-leb (r .held) (capacity Packed ws) room)
+        (ap (λ (k : ℕ). withRun (withTraffic (trafficDelivered (r .traffic) m (waitSince (r .time) Packed ws k)) (withHeld (r .held - 1) r))
+        (withNetwork (removed Packed ws (r .held) k) s)) place-is)
 
   -- without a message there is as much room
   pub room-left : (roomIn (leaving s m i) ≡ roomIn s) × (leaving s m i .run .held ≤ r .held)
@@ -60,8 +61,8 @@ module _ (r : Run) (t ws : List ℕ) (m : Message) (i : ℕ) (room : r .held ≤
     where
       go : (r .held ≤ i) ⊎ (i < r .held) → (roomIn (leaving s m i) ≡ roomIn s) × (leaving s m i .run .held ≤ r .held)
       go (inl l) = rw (le-ltb i (r .held) l) (refl, le-refl (r .held))
-      go (inr l) = rw (lt-ltb i (r .held) l, le-leb (r .held) (capacity ws) room)
-          (ap (λ (n : ℕ). n / messageWords) (length-removed ws (r .held) i (omega arith) (omega arith)), omega arith)
+      go (inr l) = rw (lt-ltb i (r .held) l, le-leb (r .held) (capacity Packed ws) room)
+          (ap (λ (n : ℕ). n / width Packed) (length-removed Packed ws (r .held) i (omega arith) (omega arith)), omega arith)
 
 -- a certificate that is held goes to a correct processor
 pub held-reaches : (s : State) (m : Message) → unsound s ≡ false → notHeld s m ≡ false → ReachesCorrect (s .run) m

@@ -1,20 +1,24 @@
 -- Processors that enter one after another: what those below k have left, and one processor more. Assumes nothing.
 use mathlib.Core.Path.{_≡_, refl, sym, ap, _∙_, subst}
 use mathlib.Core.Logic.{_≢_}
+use mathlib.Core.Bool.{true}
 use mathlib.Core.List.{List, [], _++_}
 use Prim.Native.Nat.{ℕ, zero, suc, _+_, _-_, _*_, _≤_, _<_}
 use native.Mathlib.Numerals.{add-one}
 use native.Mathlib.Omega.{arith}
 use lib.ListN.{length, getD, set, length-append}
 use lib.Seq.{set-getD, getD-set-other}
+use Rattle.base.specs.Members.{every-second}
 use Rattle.types.specs.declared.Message.{Message}
 use Rattle.types.specs.declared.Run.{Run}
+use Rattle.types.specs.declared.Form.the-variants.{Packed}
 use Rattle.model.specs.State.{clockOf, viewOf, capacity}
 use Rattle.model.specs.Moves.{Change, changed, toCorrect, Entry, stay, into, entryClock, entryMessages, entering, taking, entries}
 use Rattle.model.specs.Processors.{Moved, messagesOf, moving}
 use Rattle.liveness.proofs.FirstEntries.{correct-fewer, entry-few}
 use Rattle.simulator.specs.declared.Reaction.{Reaction}
-use Rattle.simulator.specs.Inner.{Posts, sentBy, enteredBy, movedChange}
+use Rattle.buffers.specs.Network.{packable}
+use Rattle.simulator.specs.Inner.{Posts, AllPackable, sentBy, enteredBy, movedChange}
 use Rattle.simulator.proofs.Moving.{moved-taking}
 use Rattle.simulator.proofs.Posting.{posts-also, posts-as, also-fits}
 
@@ -101,12 +105,16 @@ module _ (e : ℕ → Entry) (r : Run) (t : List ℕ) where
     pub sent-length : length (below (k + 1) .sent) ≡ length (below k .sent) + length (sentBy (r .plan) (r .faulty) k (x .sends))
     sent-length = ap length sent-more ∙ length-append (below k .sent) (sentBy (r .plan) (r .faulty) k (x .sends))
 
+    -- its messages are among those of all up to it
+    pub entry-packs : AllPackable (below (k + 1) .sent) → AllPackable (sentBy (r .plan) (r .faulty) k (x .sends))
+    entry-packs h = every-second (λ (m : Message). packable m ≡ true) (below k .sent) (sentBy (r .plan) (r .faulty) k (x .sends)) (subst AllPackable sent-more h)
+
     -- with room for the messages of all n
-    module _ (n h time held : ℕ) (ws ws' : List ℕ) (low : k < n) (room : h + length (below n .sent) ≤ capacity ws) (posts : Posts (below k .sent) h time ws held ws') where
-      both : h + length (below k .sent ++ sentBy (r .plan) (r .faulty) k (x .sends)) ≤ capacity ws
+    module _ (n h time held : ℕ) (ws ws' : List ℕ) (low : k < n) (room : h + length (below n .sent) ≤ capacity Packed ws) (posts : Posts (below k .sent) h time ws held ws') where
+      both : h + length (below k .sent ++ sentBy (r .plan) (r .faulty) k (x .sends)) ≤ capacity Packed ws
       both = omega (arith, room, sent-below (k + 1) n (omega arith), ap length sent-more)
 
-      pub entry-fits : held + length (sentBy (r .plan) (r .faulty) k (x .sends)) ≤ capacity ws'
+      pub entry-fits : held + length (sentBy (r .plan) (r .faulty) k (x .sends)) ≤ capacity Packed ws'
       entry-fits = also-fits (below k .sent) (sentBy (r .plan) (r .faulty) k (x .sends)) h held time ws ws' posts both
 
       pub posts-turn : (held' : ℕ) (ws'' : List ℕ) → Posts (sentBy (r .plan) (r .faulty) k (x .sends)) held time ws' held' ws''

@@ -1,4 +1,5 @@
 -- What the limits and check 9 leave to rely on. Assumes nothing.
+pub use Rattle.checks.proofs.Nine.{room-of}
 use mathlib.Core.Path.{_≡_}
 use mathlib.Core.Bool.{Bool, true, false, _||_}
 use Prim.Native.Nat.{ℕ, _/_, _≤_, _<_}
@@ -11,9 +12,9 @@ use Rattle.base.specs.Tests.{fails, T-true, T-false}
 use Rattle.types.specs.declared.Plan.{Plan}
 use Rattle.types.specs.declared.Run.{Run}
 use Rattle.types.specs.Quantities.{perLeader, lead, endTime}
-use Rattle.model.specs.State.{State, clockOf, viewOf, isCorrect, roomIn}
+use Rattle.model.specs.State.{State, clockOf, viewOf, isCorrect}
 use Rattle.model.specs.Checks.{planOutside, faultyOutside, buffersOutside, clockOutside, atEnd, unsound}
-use Rattle.liveness.proofs.Judging.{neither, not-ltb, not-leb}
+use Rattle.liveness.proofs.Judging.{neither, not-leb}
 use Rattle.base.specs.Count.{count-some}
 use Rattle.liveness.proofs.Link.{Planned, correct-count, third}
 use Rattle.liveness.proofs.Soundness.{SoundRun, sound-of, sound-time}
@@ -50,9 +51,6 @@ module _ (s : State) (sound : unsound s ≡ false) where
         faulty = T-false (faultyOutside p (s .run .faulty)) (f .1);
         clocks = λ q c. T-false (clockOutside p (clockOf (s .run) q) (viewOf (s .run) q)) (sound-run .clocks q (rw c tt));
       }
-
-  pub room-of : s .run .held ≤ roomIn s
-  room-of = not-ltb _ _ (sound-run .room)
 
   pub time-of : s .run .time < endTime (s .run .plan)
   time-of = not-leb _ _ (sound-time s (fails (unsound s) sound))

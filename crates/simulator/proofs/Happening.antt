@@ -20,6 +20,7 @@ use Rattle.types.specs.declared.Answer.the-variants.{Done, Refused}
 use Rattle.types.specs.declared.Head.{Head}
 use Rattle.types.specs.declared.AppliedHead.{AppliedHead}
 use Rattle.types.specs.declared.Traffic.{Traffic}
+use Rattle.types.specs.declared.Form.the-variants.{Packed}
 use Rattle.types.specs.Quantities.{lead}
 use Rattle.types.specs.Messages.{viewIn, processorIn, stageOf, lacksForm}
 use Rattle.model.specs.State.{State, After, stateOf, runFrom, withTraffic, leftBehind, isCorrect, capacity, roomIn, refused, done}
@@ -97,6 +98,7 @@ unfolding reachesEnd
 decides-counted r y t m x d = record {
   ends = d .ends ∙ ap (reachesEnd r) (sym (handling-sums y r t m));
   change = λ e. change-counted r y t m x ∙ d .change e ∙ sym (handling-sums y r t m);
+  packs = d .packs;
 }
 
 -- a head with other sums
@@ -112,8 +114,8 @@ counting h x = record {
 }
 
 -- the outcome of a message that is handled, by what was decided on a head without it
-pub handled-outcome : (before : Head) (cs vs t ws : List ℕ) (m : Message) (i : ℕ) → before .held ≤ capacity ws → (h : Head) → h ≡ headWithout before i
-    → (x : Reaction) → Decides (runFrom h cs vs) t m x → (room k : ℕ) → room ≡ capacity ws
+pub handled-outcome : (before : Head) (cs vs t ws : List ℕ) (m : Message) (i : ℕ) → before .held ≤ capacity Packed ws → (h : Head) → h ≡ headWithout before i
+    → (x : Reaction) → Decides (runFrom h cs vs) t m x → (room k : ℕ) → room ≡ capacity Packed ws
     → k ≡ outcome (x .ends) (ltb room (h .held + length (sentFor (h .plan) (h .faulty) m x)))
     → let s' = leaving (stateOf (runFrom before cs vs) t ws) m i in let c = handling (s' .run) t m in k ≡ outcome (reachesEnd (s' .run) c) (overfull s' c)
 handled-outcome before cs vs t ws m i fits h e x d room k r q =

@@ -4,6 +4,7 @@ pub mod Fitness
 pub mod Moving
 pub mod Counting
 pub mod Posting
+pub mod Packing
 pub mod Entries
 pub mod Arrivals
 pub mod Hearing

@@ -1,15 +1,14 @@
--- The opening: words set to 0, the table of start clocks, and the first entries, one processor after the other. Assumes nothing.
+-- The opening: the table of start clocks, and the first entries, one processor after the other. Assumes nothing.
 use mathlib.Core.Path.{_≡_, refl, sym, ap, ap₂, _∙_, subst}
-use mathlib.Core.Bool.{Bool, true, false, _||_, cond}
+use mathlib.Core.Bool.{Bool, true, false, cond}
 use mathlib.Core.Logic.{_⊎_, inl, inr, _≢_}
-use mathlib.Core.List.{List, _∷_, _++_, append-nil}
-use Prim.Native.Nat.{ℕ, zero, suc, _+_, _*_, _/_, _%_, _≤_, _<_}
-use native.Mathlib.Numerals.{add-one}
+use mathlib.Core.List.{List}
+use Prim.Native.Nat.{ℕ, suc, _+_, _*_, _/_, _%_, _≤_, _<_}
 use native.Mathlib.Omega.{arith}
 use native.Mathlib.Nat.{zero-mod}
 use lib.Dec.{eqb, ltb}
-use lib.ListN.{length, getD, set, drop, replicate, length-append, length-set, length-drop, length-replicate}
-use lib.Seq.{drop-length, drop-cons, set-at, getD-set-same, getD-set-other, ext-getD}
+use lib.ListN.{length, getD, set, length-set}
+use lib.Seq.{getD-set-same, getD-set-other, ext-getD}
 use borrow.Author.Tests.{eq-eqb, ne-eqb, ltb-false}
 use Rattle.base.specs.Choice.{cond-yes, cond-no, or-parts}
 use Rattle.base.specs.Tests.{le?, by-cond}
@@ -20,47 +19,29 @@ use Rattle.types.specs.declared.Setup.{Setup}
 use Rattle.types.specs.declared.Traffic.{Traffic}
 use Rattle.types.specs.declared.Sends.{Sends}
 use Rattle.types.specs.declared.Sends.the-variants.{Nothing, ViewAndVote}
-use Rattle.types.specs.Quantities.{networkLeast, networkMost, tableClocks, rowWords, perLeader, initial, correct}
+use Rattle.types.specs.declared.Form.the-variants.{Packed}
+use Rattle.types.specs.Quantities.{nMost, networkLeast, networkMost, tableClocks, rowWords, perLeader, initial, correct}
 use Rattle.types.specs.Runs.{head-back}
 use Rattle.types.specs.Traffic.{noTraffic, trafficSent}
 use Rattle.model.specs.State.{stateOf, runOf, withHeld, withTraffic, clockOf, viewOf, posted, capacity, refused, done, runFrom, headOf}
 use Rattle.model.specs.Moves.{Change, changed, stay, into, made}
 use Rattle.model.specs.Processors.{messagesOf, moving}
+use Rattle.model.specs.Checks.{networkOutside}
 use Rattle.model.specs.Opening.{startClocks, blankRun, blank, firstEntry, opened, opening}
 use Rattle.liveness.proofs.Link.{Planned}
 use Rattle.liveness.proofs.FirstEntries.{Mid, mid-all}
 use Rattle.checks.specs.Setups.{setupCheck}
 use Rattle.checks.proofs.Opens.{Passed, setup-passed, setup-check}
+use Rattle.buffers.specs.Zeros.{cleared, cleared-all, cleared-length}
 use Rattle.simulator.specs.declared.Reaction.{Reaction}
-use Rattle.simulator.specs.Inner.{Posts, pairs, sentBy, enteredBy}
+use Rattle.simulator.specs.Inner.{Posts, AllPackable, pairs, sentBy, enteredBy}
 use Rattle.simulator.specs.Opening.{firstSends, enteredFirst}
 use Rattle.simulator.specs.Contracts.{Opens}
 use Rattle.simulator.proofs.Counting.{Paired, paired-counted, Initially, paired-entries}
 use Rattle.simulator.proofs.Entries as entered
 use Rattle.simulator.proofs.Fitness.{planned-of}
+use Rattle.simulator.proofs.Packing.{none-packs, pair-packs}
 use Rattle.simulator.proofs.Ticking.{state-by}
-
--- ---- words set to 0
-
-abbrev pub cleared : List ℕ → ℕ → List ℕ
-cleared l k = replicate k 0 ++ drop k l
-
-pub cleared-more : (l m : List ℕ) (k : ℕ) → k < length l → m ≡ cleared l k → set m k 0 ≡ cleared l (k + 1)
-cleared-more l m k low e =
-    ap (λ (x : List ℕ). set x k 0) (e ∙ ap (λ (x : List ℕ). replicate k 0 ++ x) (drop-cons l k 0 low))
-    ∙ set-at (replicate k 0) (getD l k 0) (drop (suc k) l) 0 k (length-replicate {A = ℕ} k 0)
-    ∙ shift k (drop (suc k) l)
-    ∙ ap (cleared l) (sym (add-one k))
-  where
-    shift : (j : ℕ) (x : List ℕ) → replicate j 0 ++ 0 ∷ x ≡ replicate (suc j) 0 ++ x
-    shift zero x = refl
-    shift (suc j) x = ap (λ (y : List ℕ). 0 ∷ y) (shift j x)
-
-pub cleared-all : (l : List ℕ) → cleared l (length l) ≡ replicate (length l) 0
-cleared-all l = ap (λ (x : List ℕ). replicate (length l) 0 ++ x) (drop-length l) ∙ append-nil (replicate (length l) 0)
-
-pub cleared-length : (l : List ℕ) (k : ℕ) → k ≤ length l → length (cleared l k) ≡ length l
-cleared-length l k low = length-append (replicate k 0) (drop k l) ∙ omega (arith, length-replicate {A = ℕ} k 0, length-drop k l)
 
 -- ---- the table of start clocks
 
@@ -92,20 +73,27 @@ starts-all u l h = ext-getD 0 l (startClocks u) (h .0 ∙ sym (length-listed (st
 pub record Ready (u : Setup) (tally network : ℕ) : Type 0 where
   pub ok : Planned (u .plan) (u .faulty)
   pub rows : rowWords * u .plan .views ≤ tally
-  pub room : networkLeast (u .plan) ≤ network
+  pub room : networkLeast Packed (u .plan) ≤ network
 
-pub ready : (u : Setup) (tally network : ℕ) → setupCheck u tally network ≡ 0 → Ready u tally network
+pub ready : (u : Setup) (tally network : ℕ) → setupCheck Packed u tally network ≡ 0 → Ready u tally network
 ready u tally network e =
     let c : Passed u tally network = setup-passed u tally network e in
-    let b = or-parts (ltb tally (rowWords * u .plan .views) || ltb network (networkLeast (u .plan))) (ltb networkMost network) (c .lengths) in
-    let a = or-parts (ltb tally (rowWords * u .plan .views)) (ltb network (networkLeast (u .plan))) (b .0) in
+    let a = or-parts (ltb tally (rowWords * u .plan .views)) (networkOutside Packed (u .plan) network) (c .lengths) in
+    let b = or-parts (ltb network (networkLeast Packed (u .plan))) (ltb networkMost network) (a .1) in
     record {
       ok = planned-of (u .plan) (u .faulty) (c .plan) (c .faulty);
       rows = ltb-false tally (rowWords * u .plan .views) (a .0);
-      room = ltb-false network (networkLeast (u .plan)) (a .1);
+      room = ltb-false network (networkLeast Packed (u .plan)) (b .0);
     }
 
 -- ---- the first entries
+
+pub first-packs : (plan : Plan) (faulty q : ℕ) → q < nMost → AllPackable (sentBy plan faulty q (firstSends plan faulty q))
+first-packs plan faulty q low = go (correct plan faulty q)
+  where
+    go : (b : Bool) → AllPackable (sentBy plan faulty q (cond b (ViewAndVote 0) Nothing))
+    go true = pair-packs plan faulty 0 q (omega arith) low
+    go false = none-packs plan faulty
 
 zero-initial : (plan : Plan) → initial plan 0 ≡ true
 zero-initial plan = eq-eqb (0 % perLeader plan) 0 (zero-mod (perLeader plan))
@@ -136,11 +124,11 @@ module _ (u : Setup) (t : List ℕ) where
     pub tally-turn : (t' t'' : List ℕ) → t' ≡ below k .tally → t'' ≡ enteredBy t' k sends → t'' ≡ below (k + 1) .tally
     tally-turn = entered.tally-turn (firstEntry u) (blankRun u) t k reaction refl first-messages
 
-    module _ (held : ℕ) (ws ws' : List ℕ) (low : k < u .plan .n) (room : 2 * u .plan .n ≤ capacity ws) (posts : Posts (below k .sent) 0 0 ws held ws') where
-      enough : 0 + length (below (u .plan .n) .sent) ≤ capacity ws
+    module _ (held : ℕ) (ws ws' : List ℕ) (low : k < u .plan .n) (room : 2 * u .plan .n ≤ capacity Packed ws) (posts : Posts (below k .sent) 0 0 ws held ws') where
+      enough : 0 + length (below (u .plan .n) .sent) ≤ capacity Packed ws
       enough = omega (arith, room, entered.sent-few (firstEntry u) (blankRun u) t (u .plan .n))
 
-      pub first-fits : held + length (sentBy (u .plan) (u .faulty) k sends) ≤ capacity ws'
+      pub first-fits : held + length (sentBy (u .plan) (u .faulty) k sends) ≤ capacity Packed ws'
       first-fits = entered.entry-fits (firstEntry u) (blankRun u) t k reaction refl first-messages (u .plan .n) 0 0 held ws ws' low enough posts
 
       pub posts-turn : (held' : ℕ) (ws'' : List ℕ) → Posts (sentBy (u .plan) (u .faulty) k sends) held 0 ws' held' ws'' → Posts (below (k + 1) .sent) 0 0 ws held' ws''
@@ -149,7 +137,7 @@ module _ (u : Setup) (t : List ℕ) where
 -- ---- all together
 
 -- room for two messages of each processor
-pub first-room : (u : Setup) (ws ws' : List ℕ) → networkLeast (u .plan) ≤ length ws → ws' ≡ cleared ws (length ws) → 2 * u .plan .n ≤ capacity ws'
+pub first-room : (u : Setup) (ws ws' : List ℕ) → networkLeast Packed (u .plan) ≤ length ws → ws' ≡ cleared ws (length ws) → 2 * u .plan .n ≤ capacity Packed ws'
 first-room u ws ws' l e = let h : length ws' ≡ length ws = ap length e ∙ cleared-length ws (length ws) (omega arith) in omega arith
 
 -- view 0 is initial
@@ -175,7 +163,7 @@ start-made u t ws fit run held traffic t₁ t' ws₁ ws' e a b x f =
     state-by
     (ap (λ (y : Run). withTraffic traffic (withHeld held y)) e ∙ (λ i. runOf (u .plan) (u .faulty) 0 false 0 (h i) (sym (m .clocks-same) i) (sym (m .views-same) i) (g i)))
     (x .1 ∙ ap (λ (y : List ℕ). enteredFirst u y (u .plan .n) .tally) a)
-    (x .0 .words ∙ ap₂ (λ (y z : List ℕ). posted z 0 0 (enteredFirst u y (u .plan .n) .sent)) a (b ∙ cleared-all ws))
+    (x .0 .words ∙ ap₂ (λ (y z : List ℕ). posted Packed z 0 0 (enteredFirst u y (u .plan .n) .sent)) a (b ∙ cleared-all ws))
 
 -- ---- an opening, by the answer of checks 2 to 8
 
@@ -186,7 +174,7 @@ opened-same u r r' t ws = refl
 
 module _ (u : Setup) (run : Run) (t ws : List ℕ) where
   abbrev check : ℕ
-  check = setupCheck u (length t) (length ws)
+  check = setupCheck Packed u (length t) (length ws)
 
   pub opens-done : (next : Run) (t' ws' : List ℕ) → check ≡ 0 → stateOf next t' ws' ≡ opened u (stateOf (blankRun u) t ws)
       → Opens u (stateOf run t ws) (done (stateOf (runFrom (headOf next) (next .clocks) (next .views)) t' ws'))

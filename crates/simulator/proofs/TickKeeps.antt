@@ -17,7 +17,7 @@ use Rattle.base.specs.ScanLaws.{some-not}
 use Rattle.pacemaker.proofs.LimitLaws.{within, gamma-positive}
 use Rattle.types.specs.declared.Plan.{Plan}
 use Rattle.types.specs.declared.Run.{Run}
-use Rattle.types.specs.Quantities.{messageWords, initial, nextInitial, clockTime, endTime}
+use Rattle.types.specs.Quantities.{width, initial, nextInitial, clockTime, endTime}
 use Rattle.types.proofs.PlanLaws.{per-leader-positive, next-above, next-initial}
 use Rattle.model.specs.State.{State, clockOf, viewOf, isCorrect, roomIn}
 use Rattle.buffers.specs.WordLaws.{posted-length}
@@ -117,7 +117,7 @@ module _ (plan : Plan) (positive : 0 < plan .gamma) (clock view : ℕ) (was : cl
 -- what is posted leaves as much room
 made-room : (s : State) (c : Change) → s .run .held + length (c .sent) ≤ roomIn s → roomIn (made s c) ≡ roomIn s
 unfolding made
-made-room s c room = ap (λ (n : ℕ). n / messageWords) (posted-length (s .network) (s .run .held) (s .run .time) (c .sent) room)
+made-room s c room = ap (λ (n : ℕ). n / width (s .form)) (posted-length (s .form) (s .network) (s .run .held) (s .run .time) (c .sent) room)
 
 module _ (s : State) (long-clocks : s .run .plan .n ≤ length (s .run .clocks)) (long-views : s .run .plan .n ≤ length (s .run .views)) (fit : Fit (s .run))
     (on : some (endsAt (s .run)) (s .run .plan .n) ≡ false) where

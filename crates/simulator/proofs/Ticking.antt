@@ -5,18 +5,24 @@ use mathlib.Core.List.{List}
 use Prim.Native.Nat.{ℕ, _+_, _-_, _/_, _≤_, _<_}
 use native.Mathlib.Omega.{arith}
 use lib.ListN.{length, set}
+use Rattle.base.specs.Scan.{some}
+use Rattle.base.specs.Tests.{fails}
 use Rattle.types.specs.declared.Run.{Run}
 use Rattle.types.specs.declared.Traffic.{Traffic}
+use Rattle.types.specs.declared.Form.the-variants.{Packed}
 use Rattle.types.specs.Traffic.{trafficSent}
 use Rattle.model.specs.State.{State, stateOf, runOf, withHeld, withTime, withClocks, withViews, withTraffic, clockOf, viewOf, capacity}
 use Rattle.model.specs.Moves.{Change, changed, Entry, clocksOn, advanced, arrival, arrivals, made}
 use Rattle.model.specs.Processors.{messagesOf}
 use Rattle.simulator.specs.declared.Reaction.{Reaction}
-use Rattle.simulator.specs.Inner.{Posts, pairs, sentBy, enteredBy, Arrives, seat, arrivedBelow}
+use Rattle.liveness.proofs.Clocks.{arrived}
+use Rattle.simulator.specs.Inner.{Posts, AllPackable, Fit, Whole, endsAt, pairs, sentBy, enteredBy, Arrives, seat, arrivedBelow}
+use Rattle.simulator.proofs.Fitness.{planned-of}
+use Rattle.simulator.proofs.Packing.{sends-pack, inside-fit}
 use Rattle.simulator.proofs.Counting.{Paired, paired-counted, paired-entries, initially-arrives}
 use Rattle.simulator.proofs.Entries as entered
 use Rattle.simulator.proofs.Entries.{turn, entries-views}
-use Rattle.simulator.proofs.Arrivals.{clocks-ahead, arrived-clocks, same-processor, same-sent, clocks-more}
+use Rattle.simulator.proofs.Arrivals.{clocks-ahead, arrived-clocks, tick-reaches, same-processor, same-sent, clocks-more}
 
 -- equal runs and buffers are equal states
 pub state-by : {r r' : Run} {t t' ws ws' : List ℕ} → r ≡ r' → t ≡ t' → ws ≡ ws' → stateOf r t ws ≡ stateOf r' t' ws'
@@ -55,9 +61,18 @@ module _ (s : State) where
     pub tally-turn : (t t' : List ℕ) → t ≡ arrivedBelow s k .tally → t' ≡ enteredBy t k (x .sends) → t' ≡ arrivedBelow s (k + 1) .tally
     tally-turn = entered.tally-turn entry (advanced s .run) (s .tally) k x is-processor is-sent
 
-    module _ (before : List ℕ) (room : s .run .held + length (arrivedBelow s (s .run .plan .n) .sent) ≤ capacity before) (time held : ℕ) (ws : List ℕ)
+    -- its messages have packed words, in a fit run of which no clock comes to the end
+    pub arrival-packs : Fit (s .run) → Whole (s .run) → some (endsAt (s .run)) (s .run .plan .n) ≡ false
+        → AllPackable (sentBy (s .run .plan) (s .run .faulty) k (x .sends))
+    arrival-packs fit whole on =
+        let ok = planned-of (s .run .plan) (s .run .faulty) (fit .plan) (fit .faulty) in
+        let a = arrived s ok (whole .clocks) (whole .views) (inside-fit (s .run) fit) (fails _ (tick-reaches s long ∙ on)) (k + 1) in
+        entered.entry-packs entry (advanced s .run) (s .tally) k x is-processor is-sent
+        (sends-pack (advanced s .run) (s .tally) (arrivedBelow s (k + 1)) ok (a .sends))
+
+    module _ (before : List ℕ) (room : s .run .held + length (arrivedBelow s (s .run .plan .n) .sent) ≤ capacity Packed before) (time held : ℕ) (ws : List ℕ)
         (posts : Posts (arrivedBelow s k .sent) (s .run .held) time before held ws) where
-      pub arrival-fits : held + length (sentBy (s .run .plan) (s .run .faulty) k (x .sends)) ≤ capacity ws
+      pub arrival-fits : held + length (sentBy (s .run .plan) (s .run .faulty) k (x .sends)) ≤ capacity Packed ws
       arrival-fits = entered.entry-fits entry (advanced s .run) (s .tally) k x is-processor is-sent (s .run .plan .n) (s .run .held) time held
           before ws low room posts
 

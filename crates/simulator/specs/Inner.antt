@@ -16,10 +16,12 @@ use Rattle.types.specs.declared.Processor.{Processor}
 use Rattle.types.specs.declared.Input.the-variants.{Tick}
 use Rattle.types.specs.declared.Sends.{Sends}
 use Rattle.types.specs.declared.Sends.the-variants.{Nothing, Vote as VoteFor, ViewAndVote}
+use Rattle.types.specs.declared.Form.the-variants.{Packed}
 use Rattle.types.specs.Quantities.{nMost, correct}
+use Rattle.base.specs.Members.{Every}
 use Rattle.base.specs.Scan.{some}
 use Rattle.types.specs.Traffic.{trafficDelivered}
-use Rattle.types.specs.Messages.{viewStage, voteStage, lacksForm}
+use Rattle.types.specs.Messages.{processorIn, viewStage, voteStage, lacksForm}
 use Rattle.model.specs.State.{State, After, stateOf, runFrom, withRun, withNetwork, withHeld, withTraffic, clockOf, viewOf, isCorrect, enteredWord, added, posted, capacity, roomIn, checkOf, refused, done}
 use Rattle.model.specs.Moves.{Change, toCorrect, movedTo, formedMessages, heardChange, stay, entries, handling, advanced, arrival, arrivals, made}
 use Rattle.model.specs.Checks.{judged, planOutside, faultyOutside, unsound, clockOutside, atEnd, reachesEnd}
@@ -28,14 +30,14 @@ use Rattle.model.specs.Processors.{Moved, messagesOf, moving, movingBy}
 use Rattle.simulator.specs.declared.Reaction.{Reaction}
 use Rattle.simulator.specs.declared.Task.{Task}
 use Rattle.simulator.specs.declared.Task.the-variants.{Refuse, Finish, Handle, Run as RunTicks}
-use Rattle.buffers.specs.Network.{taken}
+use Rattle.buffers.specs.Network.{packable, taken}
 
 -- ---- messages sent
 
 -- that a function posted ms behind the messages held: how many are held then, and the network's words
 pub record Posts (ms : List Message) (held time : ℕ) (ws : List ℕ) (held' : ℕ) (ws' : List ℕ) : Type 0 where
   pub number : held' ≡ held + length ms
-  pub words : ws' ≡ posted ws held time ms
+  pub words : ws' ≡ posted Packed ws held time ms
 
 -- what goes into the network of what p sends in one move
 abbrev pub sentBy : Plan → ℕ → ℕ → Sends → List Message
@@ -47,9 +49,14 @@ enteredBy t p Nothing = t
 enteredBy t p (VoteFor w) = added t w enteredWord p
 enteredBy t p (ViewAndVote w) = added t w enteredWord p
 
--- that the network has room for it
+-- that each message has a packed word
+abbrev pub AllPackable : List Message → Type 0
+AllPackable ms = Every (λ (m : Message). packable m ≡ true) ms
+
+-- that the network has room for it, and words
 abbrev pub CanEnter : Plan → ℕ → ℕ → Sends → ℕ → List ℕ → Type 0
-CanEnter plan faulty p x held ws = (0 < plan .n) × (p < 64) × (held + length (sentBy plan faulty p x) ≤ capacity ws)
+CanEnter plan faulty p x held ws =
+    (0 < plan .n) × (p < 64) × (held + length (sentBy plan faulty p x) ≤ capacity Packed ws) × AllPackable (sentBy plan faulty p x)
 
 -- that both are done: how many messages are held then, the network's words and the tally
 abbrev pub Enters : Plan → ℕ → ℕ → Sends → ℕ → ℕ → List ℕ → List ℕ → ℕ → List ℕ → List ℕ → Type 0
@@ -129,7 +136,7 @@ pub record CanTick (r : Run) (t ws : List ℕ) : Type 0 where
   pub fit : Fit r
   pub whole : Whole r
   pub goes-on : some (endsAt r) (r .plan .n) ≡ false
-  pub room : r .held + length (arrivedBelow (stateOf r t ws) (r .plan .n) .sent) ≤ capacity ws
+  pub room : r .held + length (arrivedBelow (stateOf r t ws) (r .plan .n) .sent) ≤ capacity Packed ws
   pub time : r .time + 1 < 2 ^ 64
 
 -- that the tick was done: time and clocks, then the entries
@@ -170,6 +177,7 @@ ReachesCorrect r (Qc w p) = isCorrect r p ≡ true
 pub record Decides (r : Run) (t : List ℕ) (m : Message) (x : Reaction) : Type 0 where
   pub ends : x .ends ≡ reachesEnd r (handling r t m)
   pub change : x .ends ≡ false → changeBy r t m x ≡ handling r t m
+  pub packs : x .ends ≡ false → AllPackable (sentBy (r .plan) (r .faulty) (processorIn m) (x .sends))
 
 -- the messages of a reaction
 abbrev pub sentFor : Plan → ℕ → Message → Reaction → List Message
@@ -203,8 +211,8 @@ trafficWithout x m wait h i = cond (ltb i h) (trafficDelivered x m wait) x
 
 abbrev pub leaving : State → Message → ℕ → State
 leaving s m i =
-    let x = trafficWithout (s .run .traffic) m (waitSince (s .run .time) (s .network) i) (s .run .held) i in
-    withRun (withTraffic x (withHeld (heldWithout (s .run .held) i) (s .run))) (withNetwork (taken (s .network) (s .run .held) i) s)
+    let x = trafficWithout (s .run .traffic) m (waitSince (s .run .time) (s .form) (s .network) i) (s .run .held) i in
+    withRun (withTraffic x (withHeld (heldWithout (s .run .held) i) (s .run))) (withNetwork (taken (s .form) (s .network) (s .run .held) i) s)
 
 -- m, held at place i or not held, is handled
 abbrev pub handled : State → Message → ℕ → After

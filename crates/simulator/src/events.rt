@@ -5,6 +5,7 @@ use crate::moves;
 use crate::ticks;
 use types::Answer;
 use types::AppliedHead;
+use types::Form;
 use types::Head;
 use types::Input;
 use types::Message;
@@ -24,7 +25,8 @@ ghost use Rattle.model.specs.State.{stateOf, runFrom, leftBehind, capacity};
 ghost use Rattle.model.specs.Moves.{ripe, made, formedMessages, heardChange};
 ghost use Rattle.model.specs.Checks.{planOutside, faultyOutside};
 ghost use Rattle.model.specs.Events.{waitSince};
-ghost use Rattle.simulator.specs.Inner.{Fit, Decides, ReachesCorrect, seat, namedCheck, CanEnter, movedChange, changeBy, sentFor, headWithout, trafficWithout, CanHandle, handled};
+ghost use Rattle.buffers.specs.Network.{viewsPackable};
+ghost use Rattle.simulator.specs.Inner.{AllPackable, sentBy, Fit, Decides, ReachesCorrect, seat, namedCheck, CanEnter, movedChange, changeBy, sentFor, headWithout, trafficWithout, CanHandle, handled};
 
 // A refusal: the check's number alone.
 pub(crate) fn refuse(head: Head, check: u64) -> AppliedHead
@@ -79,7 +81,7 @@ fn decide_heard(
     tally: &[u64],
 ) -> Reaction
     requires { ⌜ (0 < plan .n) × (plan .n ≤ 64) × (p < 64) ⌝ }
-    ensures { λ r. ⌜ (r .ends ≡ false) × (r .formed ≡ ripe stage plan (getD (now (views .entry)) (lead plan w) 0) (now (tally .entry)) w p) ⌝ }
+    ensures { λ r. ⌜ (r .ends ≡ false) × (r .formed ≡ ripe stage plan (getD (now (views .entry)) (lead plan w) 0) (now (tally .entry)) w p) × (r .sends ≡ Sends.Nothing) ⌝ }
 {
     let own = leader_view(plan, w, views);
     let formed = moves::would_form(stage, plan, own, w, p, tally);
@@ -137,7 +139,8 @@ fn listen(
     network: &mut [u64],
 ) -> Head
     requires { ⌜ (0 < head .plan .n) × (processorIn message < 64)
-        × (head .held + length (formedMessages (head .plan) (head .faulty) (stageOf message) (viewIn message) formed) ≤ capacity (now network)) ⌝ }
+        × (head .held + length (formedMessages (head .plan) (head .faulty) (stageOf message) (viewIn message) formed) ≤ capacity Form.Packed (now network))
+        × (head .plan .n ≤ 64) × (viewIn message < viewsPackable) ⌝ }
     ensures { λ r. ⌜ ((c v : List ℕ) → stateOf (runFrom r c v) (now (tally .exit)) (now (network .exit))
         ≡ made (stateOf (runFrom head c v) (now (tally .entry)) (now (network .entry)))
         (heardChange (stageOf message) (runFrom head c v) (now (tally .entry)) (viewIn message) (processorIn message) formed)) ⌝ }
@@ -210,7 +213,8 @@ fn perform(
     tally: &mut [u64],
     network: &mut [u64],
 ) -> Head
-    requires { ⌜ (0 < head .plan .n) × (processorIn message < 64) × (head .held + length (sentFor (head .plan) (head .faulty) message x) ≤ capacity (now network)) ⌝ }
+    requires { ⌜ (0 < head .plan .n) × (processorIn message < 64) × (head .held + length (sentFor (head .plan) (head .faulty) message x) ≤ capacity Form.Packed (now network))
+        × (head .plan .n ≤ 64) × (viewIn message < viewsPackable) × AllPackable (sentBy (head .plan) (head .faulty) (processorIn message) (x .sends)) ⌝ }
     ensures { λ r. ⌜ stateOf (runFrom r (now (clocks .exit)) (now (views .exit))) (now (tally .exit)) (now (network .exit))
         ≡ made (stateOf (runFrom head (now (clocks .entry)) (now (views .entry))) (now (tally .entry)) (now (network .entry))) (changeBy (runFrom head (now (clocks .entry)) (now (views .entry))) (now (tally .entry)) message x) ⌝ }
 {
@@ -258,7 +262,7 @@ fn head_without(head: Head, place: usize) -> Head
 
 // The sums with the message, which is delivered if it is held at the place named.
 fn note_delivery(head: Head, message: Message, place: usize, network: &[u64]) -> Traffic
-    ensures { λ r. ⌜ r ≡ trafficWithout (head .traffic) message (waitSince (head .time) (now (network .entry)) place) (head .held) place ⌝ }
+    ensures { λ r. ⌜ r ≡ trafficWithout (head .traffic) message (waitSince (head .time) Form.Packed (now (network .entry)) place) (head .held) place ⌝ }
 {
     if head.held <= place {
         return head.traffic;
@@ -266,7 +270,7 @@ fn note_delivery(head: Head, message: Message, place: usize, network: &[u64]) ->
     sums::deliver(
         head.traffic,
         message,
-        wait_since(buffers::sent(network, place), head.time),
+        wait_since(buffers::sent(Form::Packed, network, place), head.time),
     )
 }
 
@@ -287,7 +291,7 @@ pub(crate) fn handle(
 {
     let mut next = head_without(head, place);
     let x = decide(next, message, clocks, views, tally);
-    let check = outcome_check(next, message, x, buffers::capacity(network));
+    let check = outcome_check(next, message, x, buffers::capacity(Form::Packed, network));
     if 0 < check {
         return refuse(head, check);
     }

@@ -10,6 +10,7 @@ use types::Answer;
 use types::Applied;
 use types::AppliedHead;
 use types::Event;
+use types::Form;
 use types::Head;
 use types::Message;
 use types::Processor;
@@ -138,7 +139,7 @@ pub fn apply(run: Run, event: Event, tally: &mut [u64], network: &mut [u64]) -> 
     let mut clocks = run.clocks;
     let mut views = run.views;
     let head = types::head_of(run);
-    let broken = checks::unsound_for_good(head, &clocks, &views, tally, network);
+    let broken = checks::unsound_for_good(Form::Packed, head, &clocks, &views, tally, network);
     let outcome = apply_judged(head, broken, event, &mut clocks, &mut views, tally, network);
     let next = outcome.head;
     let answer = outcome.answer;
@@ -191,7 +192,7 @@ pub fn apply_events(
     ensures { λ r. ⌜ AppliesAll (now (events .entry)) (stateOf (runFrom head (now (clocks .entry)) (now (views .entry))) (now (tally .entry)) (now (network .entry)))
         (stateOf (runFrom r (now (clocks .exit)) (now (views .exit))) (now (tally .exit)) (now (network .exit))) (now (events .exit)) ⌝ }
 {
-    let broken = checks::unsound_for_good(head, clocks, views, tally, network);
+    let broken = checks::unsound_for_good(Form::Packed, head, clocks, views, tally, network);
     apply_words(head, broken, clocks, views, tally, network, events)
 }
 
@@ -222,7 +223,7 @@ pub fn write_load(
     ensures { λ r. ⌜ WritesLoad steps settle (pointOf (stateOf (runFrom head (now (clocks .entry)) (now (views .entry))) (now (tally .entry)) (now (network .entry))) seed step) (now (out .entry))
         (stateOf (runFrom (r .head) (now (clocks .exit)) (now (views .exit))) (now (tally .exit)) (now (network .exit))) r (now (out .exit)) ⌝ }
 {
-    let broken = checks::unsound_for_good(head, clocks, views, tally, network);
+    let broken = checks::unsound_for_good(Form::Packed, head, clocks, views, tally, network);
     if broken {
         return Piece {
             head: head,

@@ -1,5 +1,6 @@
 // What one processor's entry, and a signature that a leader hears, do to the lent buffers. Nothing here refuses: the caller has seen that the
 // messages fit.
+use types::Form;
 use types::Message;
 use types::Plan;
 use types::Sends;
@@ -14,8 +15,9 @@ ghost use Rattle.types.specs.Quantities.{lead, correct};
 ghost use Rattle.types.specs.Messages.{addressee};
 ghost use Rattle.types.specs.Traffic.{trafficSent};
 ghost use Rattle.model.specs.State.{capacity};
+ghost use Rattle.buffers.specs.Network.{viewsPackable};
 ghost use Rattle.model.specs.Moves.{toCorrect, needed, ripe, certificate, toEach, heardTally, formedMessages};
-ghost use Rattle.simulator.specs.Inner.{Posts, sentBy, CanEnter, Enters, pairs};
+ghost use Rattle.simulator.specs.Inner.{Posts, AllPackable, sentBy, CanEnter, Enters, pairs};
 
 // The one way by which a message goes into the network: to a correct processor, behind the held ones. Answers how many are held then.
 pub(crate) fn send(
@@ -26,11 +28,11 @@ pub(crate) fn send(
     message: Message,
     time: u64,
 ) -> usize
-    requires { ⌜ (0 < plan .n) × (held + length (toCorrect plan faulty (message ∷ [])) ≤ capacity (now network)) ⌝ }
+    requires { ⌜ (0 < plan .n) × (held + length (toCorrect plan faulty (message ∷ [])) ≤ capacity Form.Packed (now network)) × AllPackable (toCorrect plan faulty (message ∷ [])) ⌝ }
     ensures { λ r. ⌜ Posts (toCorrect plan faulty (message ∷ [])) held time (now (network .entry)) r (now (network .exit)) ⌝ }
 {
     if plan.correct(faulty, message.addressee(plan)) {
-        buffers::append(network, held, message, time);
+        buffers::append(Form::Packed, network, held, message, time);
         return held + 1;
     }
     held
@@ -56,7 +58,7 @@ fn broadcast(
     w: u64,
     time: u64,
 ) -> usize
-    requires { ⌜ (0 < plan .n) × (held + length (toCorrect plan faulty (toEach stage w (plan .n))) ≤ capacity (now network)) ⌝ }
+    requires { ⌜ (0 < plan .n) × (held + length (toCorrect plan faulty (toEach stage w (plan .n))) ≤ capacity Form.Packed (now network)) × (plan .n ≤ 64) × (w < viewsPackable) ⌝ }
     ensures { λ r. ⌜ Posts (toCorrect plan faulty (toEach stage w (plan .n))) held time (now (network .entry)) r (now (network .exit)) ⌝ }
 {
     let mut h = held;
@@ -228,7 +230,7 @@ pub(crate) fn hear(
     formed: bool,
     time: u64,
 ) -> usize
-    requires { ⌜ (0 < plan .n) × (p < 64) × (held + length (formedMessages plan faulty stage w formed) ≤ capacity (now network)) ⌝ }
+    requires { ⌜ (0 < plan .n) × (p < 64) × (held + length (formedMessages plan faulty stage w formed) ≤ capacity Form.Packed (now network)) × (plan .n ≤ 64) × (w < viewsPackable) ⌝ }
     ensures { λ r. ⌜ Posts (formedMessages plan faulty stage w formed) held time (now (network .entry)) r (now (network .exit)) × (now (tally .exit) ≡ heardTally (now (tally .entry)) stage w p formed) ⌝ }
 {
     buffers::hear(tally, stage, w, p);

@@ -1,5 +1,6 @@
 // The opening: buffers set to 0, the run that a setup starts, and the first entries.
 use crate::moves;
+use types::Form;
 use types::Plan;
 use types::Run;
 use types::Sends;
@@ -7,9 +8,8 @@ use types::Setup;
 use types::Traffic;
 ghost use mathlib.Core.Path.{_≡_};
 ghost use mathlib.Core.Bool.{cond};
-ghost use mathlib.Core.List.{_++_};
 ghost use Prim.Native.Nat.{_*_, _≤_, _<_};
-ghost use lib.ListN.{length, drop, replicate};
+ghost use lib.ListN.{length};
 ghost use Rattle.types.specs.Quantities.{correct};
 ghost use Rattle.model.specs.State.{stateOf, capacity};
 ghost use Rattle.model.specs.Opening.{blankRun, opened};
@@ -19,18 +19,6 @@ ghost use Rattle.simulator.specs.Opening.{firstSends, enteredFirst};
 
 // What the run keeps of a start clock that is not read.
 const NOT_READ: u64 = 0;
-
-// The first k words become 0.
-fn zero(buffer: &mut [u64], k: usize)
-    requires { ⌜ k ≤ length (now buffer) ⌝ }
-    ensures { λ r. ⌜ now (buffer .exit) ≡ replicate k 0 ++ drop k (now (buffer .entry)) ⌝ }
-{
-    let mut i = 0;
-    while i < k {
-        buffer[i] = 0;
-        i += 1;
-    }
-}
 
 // The clock with which processor q starts: that of a faulty one, or from n on, is not read.
 fn start_clock(plan: Plan, faulty: u64, q: u64, clock: u64) -> u64
@@ -79,7 +67,7 @@ fn first_sends(plan: Plan, faulty: u64, q: u64) -> Sends
 
 // Every correct processor enters view 0, by rising number. Answers how many messages are held then.
 fn enter_all(setup: Setup, tally: &mut [u64], network: &mut [u64]) -> usize
-    requires { ⌜ (0 < setup .plan .n) × (setup .plan .n ≤ 64) × (2 * setup .plan .n ≤ capacity (now network)) ⌝ }
+    requires { ⌜ (0 < setup .plan .n) × (setup .plan .n ≤ 64) × (2 * setup .plan .n ≤ capacity Form.Packed (now network)) ⌝ }
     ensures { λ r. ⌜ Posts (enteredFirst setup (now (tally .entry)) (setup .plan .n) .sent) 0 0 (now (network .entry)) r (now (network .exit)) × (now (tally .exit) ≡ enteredFirst setup (now (tally .entry)) (setup .plan .n) .tally) ⌝ }
 {
     let n = setup.plan.n;
@@ -95,12 +83,12 @@ fn enter_all(setup: Setup, tally: &mut [u64], network: &mut [u64]) -> usize
 
 // The setup, which checks 2 to 8 passed, is opened.
 pub(crate) fn start(setup: Setup, tally: &mut [u64], network: &mut [u64]) -> Run
-    requires { ⌜ setupCheck setup (length (now tally)) (length (now network)) ≡ 0 ⌝ }
+    requires { ⌜ setupCheck Form.Packed setup (length (now tally)) (length (now network)) ≡ 0 ⌝ }
     ensures { λ r. ⌜ stateOf r (now (tally .exit)) (now (network .exit)) ≡ opened setup (stateOf (blankRun setup) (now (tally .entry)) (now (network .entry))) ⌝ }
 {
     let rows = setup.plan.views as usize;
-    zero(tally, buffers::ROW_WORDS * rows);
-    zero(network, network.len());
+    buffers::zero_words(tally, buffers::ROW_WORDS * rows);
+    buffers::zero_words(network, network.len());
     let mut run = blank(setup);
     let held = enter_all(setup, tally, network);
     let traffic = moves::note_pairs(run.traffic, held);

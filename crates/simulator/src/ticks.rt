@@ -3,6 +3,7 @@ use crate::Reaction;
 use crate::moves;
 use types::Answer;
 use types::AppliedHead;
+use types::Form;
 use types::Head;
 use types::Input;
 use types::Plan;
@@ -205,7 +206,7 @@ fn tick_once(
     tally: &mut [u64],
     network: &mut [u64],
 ) -> Ticked
-    requires { ⌜ Fit (runFrom head (now clocks) (now views)) × Whole (runFrom head (now clocks) (now views)) × (head .held ≤ capacity (now network)) × (head .time + 1 < 2 ^ 64)
+    requires { ⌜ Fit (runFrom head (now clocks) (now views)) × Whole (runFrom head (now clocks) (now views)) × (head .held ≤ capacity Form.Packed (now network)) × (head .time + 1 < 2 ^ 64)
         × (overdue (stateOf (runFrom head (now clocks) (now views)) (now tally) (now network)) ≡ false) ⌝ }
     ensures { λ r. ⌜ TickedTo (stateOf (runFrom head (now (clocks .entry)) (now (views .entry))) (now (tally .entry)) (now (network .entry)))
         (stateOf (runFrom (r .head) (now (clocks .exit)) (now (views .exit))) (now (tally .exit)) (now (network .exit))) (r .check) × (r .check ≡ 0 → r .count ≡ 1) ⌝ }
@@ -217,7 +218,7 @@ fn tick_once(
             check: 17,
         };
     }
-    let room = buffers::capacity(network);
+    let room = buffers::capacity(Form::Packed, network);
     let fits = has_room(head, clocks, views, room);
     if !fits {
         return Ticked {

@@ -1,6 +1,7 @@
 // The sums of a run's traffic: messages that are sent and delivered are added to them. They wrap at 2^64. And what is told of them.
 use buffers::Stored;
 use types::Counts;
+use types::Form;
 use types::Head;
 use types::Message;
 use types::Totals;
@@ -14,7 +15,6 @@ ghost use Rattle.base.specs.Count.{count};
 ghost use Rattle.types.specs.Traffic.{countsMore, trafficSent, trafficDelivered};
 ghost use Rattle.types.specs.Messages.{kindLeast, kindMost};
 ghost use Rattle.model.specs.State.{stateOf, runFrom, heldAt, capacity};
-ghost use Rattle.model.specs.Checks.{unsound};
 ghost use Rattle.model.specs.Traffic.{totals};
 
 // The kinds of messages, as they are stored.
@@ -89,10 +89,10 @@ pub fn deliver(traffic: Traffic, message: Message, wait: u64) -> Traffic
 
 // Whether message i is of that kind.
 fn is_kind(network: &[u64], i: usize, kind: u64) -> bool
-    requires { ⌜ (i < capacity (now network)) × (kindLeast ≤ kind) × (kind ≤ kindMost) ⌝ }
-    ensures { λ r. ⌜ r ≡ eqb (heldAt (now (network .entry)) i .kind) kind ⌝ }
+    requires { ⌜ (i < capacity Form.Packed (now network)) × (kindLeast ≤ kind) × (kind ≤ kindMost) ⌝ }
+    ensures { λ r. ⌜ r ≡ eqb (heldAt Form.Packed (now (network .entry)) i .kind) kind ⌝ }
 {
-    let stored = buffers::decode(network, i);
+    let stored = buffers::decode(Form::Packed, network, i);
     match stored {
         Stored::Holds(message) => message.kind() == kind,
         Stored::Unknown => false,
@@ -101,8 +101,8 @@ fn is_kind(network: &[u64], i: usize, kind: u64) -> bool
 
 // How many held messages are of that kind.
 fn count_kind(network: &[u64], held: usize, kind: u64) -> u64
-    requires { ⌜ (held ≤ capacity (now network)) × (kindLeast ≤ kind) × (kind ≤ kindMost) ⌝ }
-    ensures { λ r. ⌜ r ≡ count held (λ i. eqb (heldAt (now (network .entry)) i .kind) kind) ⌝ }
+    requires { ⌜ (held ≤ capacity Form.Packed (now network)) × (kindLeast ≤ kind) × (kind ≤ kindMost) ⌝ }
+    ensures { λ r. ⌜ r ≡ count held (λ i. eqb (heldAt Form.Packed (now (network .entry)) i .kind) kind) ⌝ }
 {
     let mut k = 0;
     let mut i = 0;
@@ -111,23 +111,6 @@ fn count_kind(network: &[u64], held: usize, kind: u64) -> u64
         i += 1;
     }
     k
-}
-
-// Whether check 9 refuses the run; one that it does not has no more messages than fit.
-fn is_unsound(
-    head: Head,
-    clocks: &[u64; 64],
-    views: &[u64; 64],
-    tally: &[u64],
-    network: &[u64],
-) -> bool
-    ensures { λ r. ⌜ (r ≡ unsound (stateOf (runFrom head (now (clocks .entry)) (now (views .entry))) (now (tally .entry)) (now (network .entry))))
-        × (r ≡ false → head .held ≤ capacity (now (network .entry))) ⌝ }
-{
-    if checks::unsound_for_good(head, clocks, views, tally, network) {
-        return true;
-    }
-    head.plan.end_time() <= head.time
 }
 
 // A run's traffic and the messages in flight by kind, or check 9.
@@ -140,7 +123,7 @@ pub fn totals(
 ) -> Totals
     ensures { λ r. ⌜ r ≡ totals (stateOf (runFrom head (now (clocks .entry)) (now (views .entry))) (now (tally .entry)) (now (network .entry))) ⌝ }
 {
-    if is_unsound(head, clocks, views, tally, network) {
+    if checks::unsound(Form::Packed, head, clocks, views, tally, network) {
         return Totals {
             check: UNSOUND,
             traffic: Traffic::none(),

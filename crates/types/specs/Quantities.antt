@@ -4,6 +4,8 @@ use Prim.Native.Nat.{ℕ, _+_, _-_, _*_, _/_, _%_}
 use lib.Dec.{eqb, ltb}
 use Rattle.base.specs.Sets.{member}
 use Rattle.types.specs.declared.Plan.{Plan}
+use Rattle.types.specs.declared.Form.{Form}
+use Rattle.types.specs.declared.Form.the-variants.{Wide, Packed}
 
 -- "n, the cabinets: 4 to 64"
 abbrev pub nLeast : ℕ
@@ -36,12 +38,15 @@ viewsMost = 6000
 abbrev pub rowWords : ℕ
 rowWords = 4
 
--- "The post: messages .. four 64-bit words each"; check 6: "fewer than 8n or more than 524,288"
-abbrev pub messageWords : ℕ
-messageWords = 4
+-- "The post: messages .. four 64-bit words each"; "A message now takes two words"
+abbrev pub width : Form → ℕ
+width Wide = 4
+width Packed = 2
 
-abbrev pub networkLeast : Plan → ℕ
-networkLeast p = 8 * p .n
+-- check 6: "fewer than 8n or more than 524,288"; "A post needs at least 4n words"
+abbrev pub networkLeast : Form → Plan → ℕ
+networkLeast Wide p = 8 * p .n
+networkLeast Packed p = 4 * p .n
 
 abbrev pub networkMost : ℕ
 networkMost = 524288

@@ -1,6 +1,6 @@
 // The types of the product, declared once, and their own functions.
 ghost use mathlib.Core.Path.{_≡_};
-ghost use Rattle.types.specs.Quantities.{tolerated, perLeader, turnStart, initial, correct};
+ghost use Rattle.types.specs.Quantities.{tolerated, perLeader, turnStart, initial, correct, width};
 ghost use Rattle.types.specs.Messages.{kindOf, viewIn, processorIn, stageOf, isSignature, lacksForm};
 ghost use Rattle.types.specs.Traffic.{noCounts, noTraffic};
 ghost use Rattle.types.specs.Runs.{settledAs, runFrom, headOf};
@@ -205,6 +205,29 @@ impl Message {
         ensures { λ r. ⌜ r ≡ isSignature self ⌝ }
     {
         self.kind() <= Message::LAST_SIGNATURE_KIND
+    }
+}
+
+// How a message in flight stands in the network's words: four of them (document 01), or two (document 02), in which they are held now.
+pub enum Form {
+    Wide,
+    Packed,
+}
+
+impl Form {
+    // The words of a message.
+    pub const WIDE_WORDS: usize = 4;
+
+    pub const PACKED_WORDS: usize = 2;
+
+    // The same, by the form.
+    pub fn width(self) -> usize
+        ensures { λ r. ⌜ r ≡ width self ⌝ }
+    {
+        match self {
+            Form::Wide => Form::WIDE_WORDS,
+            Form::Packed => Form::PACKED_WORDS,
+        }
     }
 }
 

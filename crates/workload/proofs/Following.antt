@@ -22,7 +22,7 @@ use Rattle.model.specs.Checks.{unsound}
 use Rattle.model.specs.Opening.{opened, openingChecks, opening}
 use Rattle.model.specs.Events.{applied}
 use Rattle.liveness.specs.Promises.{Reachable, answerFrom}
-use Rattle.liveness.specs.Unread.{SameWithin}
+use Rattle.liveness.specs.Unread.{AsLong, SameWithin}
 use Rattle.liveness.proofs.Judging.{by-judged}
 use Rattle.liveness.proofs.Link.{Planned, correct-below}
 use Rattle.liveness.proofs.Opens.{planned}
@@ -146,12 +146,12 @@ module _ (u : Setup) (before : State) (table : length (u .clocks) ≡ tableClock
         bytes = refl;
       }
 
-  module _ (x : Standing) (tally : length (x .state .tally) ≡ length (before .tally)) (network : length (x .state .network) ≡ length (before .network)) where
+  module _ (x : Standing) (long : AsLong before (x .state)) where
     within : SameWithin (opening u before .state) (opening u (x .state) .state)
-    within = opens-within u before (x .state) (sym tally) (sym network) .1 a
+    within = opens-within u before (x .state) long .1 a
 
     accepts-there : accepted (opening u (x .state) .answer) ≡ true
-    accepts-there = ap accepted (sym (opens-within u before (x .state) (sym tally) (sym network) .0)) ∙ a
+    accepts-there = ap accepted (sym (opens-within u before (x .state) long .0)) ∙ a
 
     opened-there : reply (cutRead reading (ended (setupForm u))) x
         ≡ record { standing = leaving true (opening u (x .state) .state); answer = opening u (x .state) .answer }
@@ -184,12 +184,12 @@ unfolding inputLines
 none-cut x = tt
 
 pub load-accepted : LoadAccepted
-load-accepted u before steps settle seed room table below x tally network =
+load-accepted u before steps settle seed room table below x long =
     by-whole (λ (l : Load). AllAccepted x (inputLines (scheduleOf (l .forms)))) u before steps settle seed room (λ a. none-cut x) (λ a h. none-cut x)
-    (λ a h. follows-cut x _ (whole-follows u before table below a x tally network steps settle seed (room - lineBytes (setupForm u))) .0)
+    (λ a h. follows-cut x _ (whole-follows u before table below a x long steps settle seed (room - lineBytes (setupForm u))) .0)
 
 pub load-leads : LoadLeads
-load-leads u before steps settle seed room table below x tally network =
+load-leads u before steps settle seed room table below x long =
     by-whole (λ (l : Load). l .forms ≢ [] → StandsAt (l .point) (standingAfter x (inputLines (scheduleOf (l .forms))))) u before steps settle seed room
     (λ a n. absurd (n refl)) (λ a h n. absurd (n refl))
-    (λ a h n. follows-cut x _ (whole-follows u before table below a x tally network steps settle seed (room - lineBytes (setupForm u))) .1)
+    (λ a h n. follows-cut x _ (whole-follows u before table below a x long steps settle seed (room - lineBytes (setupForm u))) .1)

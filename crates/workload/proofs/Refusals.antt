@@ -44,12 +44,12 @@ module _ (s : State) (is-sound : unsound s ≡ false) where
       (λ t. let l : s .run .plan .views ≤ viewIn m = leb→le _ _ t in omega (arith, a .view-low))
 
   -- check 13: the message, or one like it, is found
-  there : (m : Message) (i : ℕ) → i < s .run .held → T (isAt (s .network) m i) → T (notHeld s m) → ⊥
+  there : (m : Message) (i : ℕ) → i < s .run .held → T (isAt (s .form) (s .network) m i) → T (notHeld s m) → ⊥
   there m i l at t =
       let e : placeOf s m ≡ s .run .held = eqb→eq _ _ t in
-      omega (arith, e, first-some (isAt (s .network) m) (s .run .held) (some-by (isAt (s .network) m) (s .run .held) i l at))
+      omega (arith, e, first-some (isAt (s .form) (s .network) m) (s .run .held) (some-by (isAt (s .form) (s .network) m) (s .run .held) i l at))
 
-  delivery-limits : (m : Message) (i : ℕ) → i < s .run .held → T (isAt (s .network) m i) → Addressed (s .run .plan) (s .run .faulty) m
+  delivery-limits : (m : Message) (i : ℕ) → i < s .run .held → T (isAt (s .form) (s .network) m i) → Addressed (s .run .plan) (s .run .faulty) m
       → (T (notInitial (s .run .plan) (stageOf m) (viewIn m)) → ⊥) → ByLimits (applied (Deliver m) s)
   unfolding applied checks effect
   delivery-limits m i l at a eleven = by-judged-each ByLimits (refused s) (checks (Deliver m) s) (effect (Deliver m) s) (

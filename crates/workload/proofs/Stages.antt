@@ -1,13 +1,13 @@
 -- A run opened here and altered by events only holds no view message, and no view certificate, of a view that is not initial: check 11 refuses the
 -- delivery of no message held. Assumes nothing.
-use mathlib.Core.Path.{refl, sym, subst}
+use mathlib.Core.Path.{refl, sym, _∙_, subst}
 use mathlib.Core.Bool.{Bool, true, false}
 use mathlib.Core.Logic.{⊎-elim}
 use mathlib.Core.List.{List, [], _++_}
-use Prim.Native.Nat.{ℕ, zero, suc, _+_, _/_, _<_}
+use Prim.Native.Nat.{ℕ, zero, suc, _+_, _/_, _≤_, _<_}
 use native.Mathlib.Omega.{arith}
-use lib.Dec.{T, ltb→lt, T-not}
-use lib.ListN.{length, replicate, length-replicate}
+use lib.Dec.{T, ltb, T-not}
+use lib.ListN.{length, length-replicate}
 use Rattle.base.specs.Members.{Elem, elem-cases}
 use Rattle.base.specs.Tests.{not-not, by-cond}
 use Rattle.types.specs.declared.Plan.{Plan}
@@ -17,18 +17,20 @@ use Rattle.types.specs.declared.Event.{Event}
 use Rattle.types.specs.declared.Event.the-variants.{Deliver, Sign, Show, Settle, Tick}
 use Rattle.types.specs.declared.Run.{Run}
 use Rattle.types.specs.declared.Setup.{Setup}
-use Rattle.types.specs.Quantities.{messageWords, lead, initial}
-use Rattle.types.specs.Messages.{viewIn, stageOf}
+use Rattle.types.specs.Quantities.{nMost, width, lead, initial}
+use Rattle.types.specs.Messages.{viewIn, processorIn, stageOf}
 use Rattle.model.specs.State.{State, After, viewOf, isCorrect, checkOf, accepted, refused}
 use Rattle.model.specs.Moves.{Change, changed, still, toCorrect, entryMessages, entering, Entry, stay, into, byQuorum, byView, taking, entries, forms, certificate, toEach, hearing, handling, advanced, arrival, arrivals, made}
 use Rattle.model.specs.Checks.{notInitial, isAt, notHeld, overfull}
 use Rattle.model.specs.Opening.{blank, firstEntry, opened, openingChecks, opening}
 use Rattle.model.specs.Events.{without, delivering, signing, nowSettled, tickChecks, tickOnce, continued, ticks, tickRun, effect, applied}
-use Rattle.liveness.proofs.Judging.{Passes, Passed, by-judged, by-applied}
-use Rattle.liveness.proofs.Flight.{Sent, sentAs, stamped, found-in, rest, rest-in}
+use Rattle.liveness.proofs.Judging.{Passes, Passed, by-judged, by-applied, named-within}
+use Rattle.liveness.proofs.Flight.{Sent, sentAs, stamped, Named, found-in, rest, rest-in}
 use Rattle.liveness.proofs.Sending.{signature, in-stamped, elem-correct, At, entry-sent, each-got}
-use Rattle.liveness.proofs.Link.{Wire, wire-length, wire-found-at, wire-posted, wire-removed, wire-found}
-use Rattle.liveness.proofs.Opens.{opened-lengths, opened-tracked}
+use Rattle.liveness.proofs.Wires.{wire-fits}
+use Rattle.liveness.proofs.Link.{Wire, wire-found-at, wire-posted, wire-removed, wire-found}
+use Rattle.liveness.proofs.Addressing.{Names, entries-names, handling-names, signing-names, arrivals-names, named-more}
+use Rattle.liveness.proofs.Opens.{planned, opened-lengths, opened-tracked}
 use Rattle.liveness.proofs.Promises.{opened-so}
 
 -- ---- a message of a stage that takes place at its view
@@ -97,36 +99,47 @@ entries-in-place e r t (suc k) m i =
 
 pub record Staged (s : State) : Type 0 where
   pub messages : List Sent
-  pub wire : Wire (s .network) (s .run .held) messages
+  pub wire : Wire (s .form) (s .network) (s .run .held) messages
   pub in-place : (x : Sent) → Elem x messages → InPlace (s .run .plan) (x .message)
+  pub named : Named messages
+  pub few : s .run .plan .n ≤ nMost
 
 -- a message at a place within them
-pub staged-at : (s : State) → Staged s → (m : Message) (i : ℕ) → i < s .run .held → T (isAt (s .network) m i) → InPlace (s .run .plan) m
+pub staged-at : (s : State) → Staged s → (m : Message) (i : ℕ) → i < s .run .held → T (isAt (s .form) (s .network) m i) → InPlace (s .run .plan) m
 staged-at s x m i l t =
-    let found = wire-found-at (x .wire) m i l t in x .in-place (sentAs m (found .time)) (found-in found)
+    let found = wire-found-at (x .wire) (x .named) m i l t in x .in-place (sentAs m (found .time)) (found-in found)
 
-made-staged : (s : State) (c : Change) → Staged s → AllInPlace (s .run .plan) (c .sent) → (T (overfull s c) → ⊥) → Staged (made s c)
+made-staged : (s : State) (c : Change) → Staged s → AllInPlace (s .run .plan) (c .sent) → Names (s .run .plan .n) (c .sent) → (T (overfull s c) → ⊥)
+    → Staged (made s c)
 unfolding made
-made-staged s c x sent fits = record {
+made-staged s c x sent names fits = record {
   messages = x .messages ++ stamped (s .run .time) (c .sent);
   wire = wire-posted (x .wire) (s .run .time) (c .sent) fits;
   in-place = λ z i. ⊎-elim (x .in-place z) (λ j. sent (z .message) (in-stamped (z .message) (z .time) (s .run .time) (c .sent) j .1))
       (elem-cases z (x .messages) (stamped (s .run .time) (c .sent)) i);
+  named = named-more (x .messages) (s .run .time) (s .run .plan .n) (c .sent) (x .few) (x .named) names;
+  few = x .few;
 }
 
 without-staged : (s : State) (m : Message) → Staged s → (T (notHeld s m) → ⊥) → Staged (without s m)
 unfolding without
 without-staged s m x is-held =
-    let found = wire-found s (x .wire) m is-held in
-    record { messages = rest found; wire = wire-removed (x .wire) found; in-place = λ z i. x .in-place z (rest-in found z i) }
+    let found = wire-found s (x .wire) (x .named) m is-held in
+    record {
+      messages = rest found;
+      wire = wire-removed (x .wire) found;
+      in-place = λ z i. x .in-place z (rest-in found z i);
+      named = λ z i. x .named z (rest-in found z i);
+      few = x .few;
+    }
 
 -- ---- events
 
 once-staged : (s : State) → Staged s → Staged (tickOnce s .state)
 unfolding tickOnce arrivals
 once-staged s x = by-judged (λ (a : After). Staged (a .state)) (refused s) (tickChecks s) _ (λ r. x)
-    (λ c. made-staged (advanced s) (arrivals (advanced s)) (record { messages = x .messages; wire = x .wire; in-place = x .in-place })
-    (entries-in-place (arrival (advanced s .run)) (advanced s .run) (s .tally) (s .run .plan .n)) (c .1 .1 .0))
+    (λ c. made-staged (advanced s) (arrivals (advanced s)) (record { messages = x .messages; wire = x .wire; in-place = x .in-place; named = x .named; few = x .few })
+    (entries-in-place (arrival (advanced s .run)) (advanced s .run) (s .tally) (s .run .plan .n)) (arrivals-names (advanced s)) (c .1 .1 .0))
 
 ticks-staged : (m : ℕ) (s : State) → Staged s → Staged (ticks m s .state)
 unfolding ticks
@@ -141,17 +154,19 @@ effect-staged : (e : Event) (s : State) → Staged s → Passed e s → Staged (
 unfolding effect delivering signing nowSettled tickRun without
 effect-staged (Deliver m) s x c =
     made-staged (without s m) (delivering s m) (without-staged s m x (c .input .1 .1 .0))
-    (handling-in-place (without s m .run) (s .tally) m (passed-in-place (without s m .run .plan) (stageOf m) (viewIn m) (c .input .1 .0))) (c .outcome .1 .0)
+    (handling-in-place (without s m .run) (s .tally) m (passed-in-place (without s m .run .plan) (stageOf m) (viewIn m) (c .input .1 .0)))
+    (handling-names (without s m .run) (s .tally) m (named-within (s .run .plan) (processorIn m) (viewIn m) (c .input .0) .0)) (c .outcome .1 .0)
 effect-staged (Sign m) s x c =
     made-staged s (signing s m) x
     (by-cond (λ (d : Change). AllInPlace (s .run .plan) (d .sent)) (isCorrect (s .run) (lead (s .run .plan) (viewIn m)))
     (handling (s .run) (s .tally) m) (still (s .run) (s .tally))
     (λ t. handling-in-place (s .run) (s .tally) m (passed-in-place (s .run .plan) (stageOf m) (viewIn m) (c .input .1 .0))) (λ t z i. absurd i))
-    (c .outcome .1 .0)
+    (signing-names s m (named-within (s .run .plan) (processorIn m) (viewIn m) (c .input .0) .0)) (c .outcome .1 .0)
 effect-staged (Show m) s x c =
     made-staged s (handling (s .run) (s .tally) m) x
-    (handling-in-place (s .run) (s .tally) m (passed-in-place (s .run .plan) (stageOf m) (viewIn m) (c .input .1 .0))) (c .outcome .1 .0)
-effect-staged Settle s x c = record { messages = x .messages; wire = x .wire; in-place = x .in-place }
+    (handling-in-place (s .run) (s .tally) m (passed-in-place (s .run .plan) (stageOf m) (viewIn m) (c .input .1 .0)))
+    (handling-names (s .run) (s .tally) m (named-within (s .run .plan) (processorIn m) (viewIn m) (c .input .0) .0)) (c .outcome .1 .0)
+effect-staged Settle s x c = record { messages = x .messages; wire = x .wire; in-place = x .in-place; named = x .named; few = x .few }
 effect-staged (Tick m) s x c = ticks-staged m s x
 
 pub event-staged : (s : State) → Staged s → (e : Event) → Staged (applied e s .state)
@@ -165,17 +180,24 @@ first-room : (u : Setup) (s : State) → Passes (openingChecks u s)
 unfolding opened blank made
 first-room u s c t =
     let all : Change = entries (firstEntry u) (blank u s .run) (blank u s .tally) (u .plan .n) in
-    let g : length (replicate {A = ℕ} (length (s .network)) 0) / messageWords < 0 + length (all .sent) = ltb→lt _ _ t in
-    omega (arith, wire-length (opened-tracked u s c .wire), opened-lengths u s c .1, length-replicate {A = ℕ} (length (s .network)) 0)
+    wire-fits (opened-tracked u s c .wire) (subst (λ (n : ℕ). T (ltb (n / width (s .form)) (0 + length (all .sent))))
+    (length-replicate {A = ℕ} (length (s .network)) 0 ∙ sym (opened-lengths u s c .1)) t)
 
-blank-staged : (u : Setup) (s : State) → Staged (blank u s)
+blank-staged : (u : Setup) (s : State) → u .plan .n ≤ nMost → Staged (blank u s)
 unfolding blank
-blank-staged u s = record { messages = []; wire = record { spare = length (s .network); words = refl; number = refl }; in-place = λ x i. absurd i }
+blank-staged u s few = record {
+  messages = [];
+  wire = record { spare = length (s .network); words = refl; number = refl };
+  in-place = λ x i. absurd i;
+  named = λ x i. absurd i;
+  few = few;
+}
 
 opened-staged : (u : Setup) (s : State) → Passes (openingChecks u s) → Staged (opened u s)
-unfolding opened
-opened-staged u s c = made-staged (blank u s) (entries (firstEntry u) (blank u s .run) (blank u s .tally) (u .plan .n)) (blank-staged u s)
-    (entries-in-place (firstEntry u) (blank u s .run) (blank u s .tally) (u .plan .n)) (first-room u s c)
+unfolding opened blank
+opened-staged u s c = made-staged (blank u s) (entries (firstEntry u) (blank u s .run) (blank u s .tally) (u .plan .n)) (blank-staged u s (planned u s c .n-most))
+    (entries-in-place (firstEntry u) (blank u s .run) (blank u s .tally) (u .plan .n))
+    (entries-names (firstEntry u) (blank u s .run) (blank u s .tally) (u .plan .n) (u .plan .n) (omega arith)) (first-room u s c)
 
 pub opening-staged : (u : Setup) (s : State) → T (accepted (opening u s .answer)) → Staged (opening u s .state)
 opening-staged u s t = let o = opened-so u s t in subst Staged (sym (o .1)) (opened-staged u s (o .0))

@@ -16,7 +16,7 @@ use Rattle.model.specs.Checks.{unsoundForGood}
 use Rattle.model.specs.Opening.{opening}
 use Rattle.model.specs.Events.{applied}
 use Rattle.liveness.specs.Promises.{Tabled}
-use Rattle.liveness.specs.Unread.{SameWithin}
+use Rattle.liveness.specs.Unread.{AsLong, SameWithin}
 use Rattle.lines.specs.Forms.{eventForm, setupForm, setupFields, Below}
 use Rattle.lines.specs.Splitting.{Cut, inputLines, cutRead}
 use Rattle.lines.specs.Promises.{scheduleOf}
@@ -37,7 +37,7 @@ AllAccepted x (c ∷ cs) = let r = reply (cutRead reading c) x in (lineAccepted 
 abbrev pub OfLoads : (Standing → Load → Type 0) → Type 0
 OfLoads P =
     (u : Setup) (before : State) (steps settle seed room : ℕ) → length (u .clocks) ≡ tableClocks → Below (setupFields u)
-    → (x : Standing) → length (x .state .tally) ≡ length (before .tally) → length (x .state .network) ≡ length (before .network)
+    → (x : Standing) → AsLong before (x .state)
     → P x (wholeLoad u before steps settle seed room)
 
 -- "Each line is accepted when read in turn with lent buffers as long."
@@ -64,7 +64,7 @@ GeneratedAccepted =
     (u : Setup) (before : State) (steps settle seed : ℕ) (out tally network : List ℕ) (r : Generated) (after : List ℕ)
     → Generates (checkOf (opening u before .answer)) (wholeLoad u before steps settle seed (length out)) out tally network r after
     → length (u .clocks) ≡ tableClocks → Below (setupFields u)
-    → (x : Standing) → length (x .state .tally) ≡ length (before .tally) → length (x .state .network) ≡ length (before .network)
+    → (x : Standing) → AsLong before (x .state)
     → Replayed r tally network (take (r .bytes) after) x
 
 -- ---- what ends a load

@@ -44,17 +44,17 @@ fn check_1() {
 fn checks_2_to_8() {
     let clocks = [0; 4];
     let of = |plan, faulty| setup(plan, faulty, &clocks);
-    opening_refused(&of(Plan { n: 3, ..USUAL }, 0), 24, 32, 2);
-    opening_refused(&of(Plan { n: 65, ..USUAL }, 0), 24, 32, 2);
-    opening_refused(&of(Plan { delta: 0, ..USUAL }, 0), 24, 32, 3);
-    opening_refused(&of(Plan { gamma: 3, ..USUAL }, 0), 24, 32, 3);
-    opening_refused(&of(Plan { views: 4, ..USUAL }, 0), 24, 32, 4);
-    opening_refused(&of(USUAL, 16), 24, 32, 5);
-    opening_refused(&of(USUAL, 3), 24, 32, 5);
-    opening_refused(&of(USUAL, 0), 23, 32, 6);
-    opening_refused(&of(USUAL, 0), 24, 31, 6);
-    opening_refused(&usual(&[12, 12, 12, 12]), 24, 32, 7);
-    opening_refused(&usual(&[5, 0, 0, 0]), 24, 32, 8);
+    opening_refused(&of(Plan { n: 3, ..USUAL }, 0), 24, 16, 2);
+    opening_refused(&of(Plan { n: 65, ..USUAL }, 0), 24, 16, 2);
+    opening_refused(&of(Plan { delta: 0, ..USUAL }, 0), 24, 16, 3);
+    opening_refused(&of(Plan { gamma: 3, ..USUAL }, 0), 24, 16, 3);
+    opening_refused(&of(Plan { views: 4, ..USUAL }, 0), 24, 16, 4);
+    opening_refused(&of(USUAL, 16), 24, 16, 5);
+    opening_refused(&of(USUAL, 3), 24, 16, 5);
+    opening_refused(&of(USUAL, 0), 23, 16, 6);
+    opening_refused(&of(USUAL, 0), 24, 15, 6);
+    opening_refused(&usual(&[12, 12, 12, 12]), 24, 16, 7);
+    opening_refused(&usual(&[5, 0, 0, 0]), 24, 16, 8);
 }
 
 /// Every form of event refuses by check 9 a run spoiled so.
@@ -87,7 +87,7 @@ fn check_9_limits() {
     unsound(|world| world.run.faulty = 12);
     unsound(|world| world.run.faulty = 1 << 63);
     unsound(|world| world.tally.truncate(23));
-    unsound(|world| world.network.truncate(31));
+    unsound(|world| world.network.truncate(15));
     unsound(|world| world.network.resize(524_289, 0));
 }
 
@@ -107,20 +107,50 @@ fn check_9_clocks_and_times() {
 
 #[test]
 fn check_9_messages() {
-    unsound(|world| world.run.held = 513);
+    unsound(|world| world.run.held = 1_025);
     unsound(|world| world.run.held = u64::MAX);
+    unsound(|world| world.run.held = 1 << 63);
     unsound(|world| world.run.held = 5);
-    unsound(|world| world.run.held = 7);
-    unsound(|world| world.network[0] = 5);
-    unsound(|world| world.network[0] = 0);
-    unsound(|world| world.network[1] = 6);
-    unsound(|world| world.network[1] = 9);
-    unsound(|world| world.network[2] = 4);
-    unsound(|world| world.network[3] = 2);
-    unsound(|world| world.network[..3].copy_from_slice(&[3, 0, 3]));
-    unsound(|world| world.network[24] = 1);
+    // Kinds 5 to 8, that is 4 to 7 in the three bits of the kind.
+    unsound(|world| world.network[0] = 256);
+    unsound(|world| world.network[0] = 257);
+    unsound(|world| world.network[0] = 5 * 64);
+    unsound(|world| world.network[0] = 6 * 64 + 2);
+    unsound(|world| world.network[0] = 511);
+    // Views 6 and 9, and views whose word nears 2^64.
+    unsound(|world| world.put(0, [2, 6, 0, 0]));
+    unsound(|world| world.put(0, [1, 9, 0, 0]));
+    unsound(|world| world.network[0] = 1 << 63);
+    unsound(|world| world.network[0] = u64::MAX);
+    // Processors 4 and 63, and a sending time later than now.
+    unsound(|world| world.network[0] = 4);
+    unsound(|world| world.network[0] = 64 + 63);
+    unsound(|world| world.network[1] = 2);
+    unsound(|world| world.put(0, [3, 0, 3, 0]));
+    unsound(|world| world.network[12] = 1);
+    unsound(|world| world.network[13] = 1);
     unsound(|world| *world.network.last_mut().unwrap() = 1);
     unsound(|world| world.network.push(1));
+}
+
+/// Words 0 and 0 are a message, the view message of processor 0 for view 0
+/// sent at 0: only the number held says what is a message.
+#[test]
+fn words_of_0_are_a_message() {
+    let mut world = with_faulty();
+    assert_eq!(world.network[..4], [0, 0, 64, 0]);
+    assert_eq!(world.held()[..2], [[1, 0, 0, 0], [2, 0, 0, 0]]);
+    world.run.held = 1_024;
+    assert!(world.is_sound());
+    world.must(Tick(1));
+    world.network[0..2].copy_from_slice(&[1, 0]);
+    world.must(Deliver(View(0, 0)));
+    assert_eq!((world.run.held, world.run.sums.waits), (1_023, 1));
+    // Three certificates in place of one message are one too many.
+    world.refuses(Deliver(View(0, 1)), 18);
+    world.must(Deliver(View(0, 0)));
+    world.must(Deliver(View(0, 1)));
+    assert_eq!(world.run.held, 1_024);
 }
 
 #[test]
@@ -132,10 +162,8 @@ fn what_check_9_leaves_alone() {
     world.run.clocks[3..].fill(u64::MAX);
     world.run.views[3..].fill(u64::MAX);
     world.tally.fill(u64::MAX);
-    world.network[3] = 1;
-    world.network[2] = 3;
-    world.network[5] = 1;
-    world.network[4] = 1;
+    world.put(0, [1, 0, 3, 1]);
+    world.put(1, [1, 1, 0, 0]);
     world.network.push(0);
     assert!(world.is_sound());
     (world.run.settled, world.run.gst) = (true, 1);
@@ -229,7 +257,7 @@ fn check_17() {
 
 #[test]
 fn check_18() {
-    let mut world = World::lent(24, 35);
+    let mut world = World::lent(24, 17);
     assert_eq!(
         world.open(&usual(&[11; 4])),
         Answer::Done { ticks: 0, held: 8 }
@@ -248,7 +276,7 @@ fn check_18() {
 
 #[test]
 fn check_18_of_a_signature() {
-    let mut world = World::lent(24, 32);
+    let mut world = World::lent(24, 16);
     let faulty = setup(USUAL, 8, &[0; 4]);
     assert_eq!(world.open(&faulty), Answer::Done { ticks: 0, held: 6 });
     world.tally[1] = 1;

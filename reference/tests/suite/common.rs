@@ -66,7 +66,17 @@ impl World {
 
     /// The messages held: kind, view, processor, sending time.
     pub fn held(&self) -> Vec<[u64; 4]> {
-        self.network.as_chunks().0[..self.run.held as usize].to_vec()
+        let (pairs, _) = self.network.as_chunks();
+        pairs[..self.run.held as usize]
+            .iter()
+            .map(|&[word, sent]| [(word >> 6 & 7) + 1, word >> 9, word & 63, sent])
+            .collect()
+    }
+
+    /// Puts a message into a place: kind, view, processor, sending time.
+    pub fn put(&mut self, place: usize, [kind, view, processor, sent]: [u64; 4]) {
+        let word = view << 9 | (kind - 1) << 6 | processor;
+        self.network[2 * place..2 * place + 2].copy_from_slice(&[word, sent]);
     }
 }
 

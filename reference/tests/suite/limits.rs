@@ -67,7 +67,7 @@ fn faulty_below_n_and_at_most_t() {
 #[test]
 fn lent_words() {
     let with = |tally, network| refusal(USUAL, 0, tally, network);
-    assert_eq!([with(24, 32), with(23, 32), with(24, 31)], [0, 6, 6]);
+    assert_eq!([with(24, 16), with(23, 16), with(24, 15)], [0, 6, 6]);
     assert_eq!(
         [with(24, 524_288), with(24, 524_289), with(0, 0)],
         [0, 6, 6]
@@ -113,14 +113,14 @@ fn clock_11_is_the_last_start_clock() {
 
 #[test]
 fn an_opening_zeroes_just_its_own_words() {
-    let mut world = World::lent(30, 35);
+    let mut world = World::lent(30, 19);
     world.tally.fill(7);
     world.network.fill(7);
     assert!(matches!(world.open(&usual(&[0; 4])), Answer::Done { .. }));
     assert_eq!(world.tally[..8], [15, 0, 0, 0, 0, 0, 0, 0]);
     assert_eq!(world.tally[24..], [7; 6]);
     assert_eq!(world.held().len(), 8);
-    assert_eq!(world.network[32..], [0; 3]);
+    assert_eq!(world.network[16..], [0; 3]);
     assert!(world.is_sound());
 }
 
@@ -183,7 +183,7 @@ fn edges_of_a_step() {
 fn the_last_quorum_certificate_is_formed_but_not_taken() {
     let mut world = World::opened(&usual(&[0; 4]));
     world.tally[4 * 5 + 2] = 0b11;
-    world.network[32..36].copy_from_slice(&[2, 5, 2, 0]);
+    world.put(8, [2, 5, 2, 0]);
     world.run.held = 9;
     world.must(Event::Deliver(Message::Vote(5, 2)));
     assert_eq!(world.tally[4 * 5 + 2..4 * 6], [0b111, 2]);

@@ -161,7 +161,7 @@ fn a_refused_delivery_ends_the_load() {
     let mut refused = (world.held().into_iter()).filter(|words| (words[0], words[1]) == (4, 2));
     assert!(refused.next().is_some());
     // Delivering a view message forms a certificate that has no room.
-    let mut tight = World::lent(24, 32);
+    let mut tight = World::lent(24, 16);
     let mut left = load(NEVER, NEVER, DELIVERING);
     let (piece, text) = begun(&mut tight, &usual(&[]), &mut left, 5_000);
     assert_eq!(piece.map(|piece| piece.full), Ok(false));

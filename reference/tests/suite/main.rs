@@ -1,5 +1,6 @@
 //! The tests of the reference, one subject a module.
 
+mod carrying;
 mod checks;
 mod common;
 mod generator;

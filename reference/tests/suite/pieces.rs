@@ -120,7 +120,7 @@ fn of_equal_messages_the_first_leaves() {
     let mut world = World::opened(&usual(&[]));
     world.run.time = 5;
     // Place 3 is drawn, a vote of processor 1; another stands in place 0.
-    world.network[..4].copy_from_slice(&[2, 0, 1, 5]);
+    world.put(0, [2, 0, 1, 5]);
     let mut left = load(1, NEVER, 1);
     let (_, text) = gone_on(&mut world, &mut left, 500);
     assert_eq!(text, "(deliver (vote 0 1))\n");

@@ -103,8 +103,8 @@ fn the_program_lends_3600_tally_words() {
 
 #[test]
 fn the_program_lends_2048_network_words() {
-    // 64 processors entering view 0, 3, 6 and 9 send 512 messages, all that
-    // fit; the next initial view finds no room.
+    // 64 processors entering views 0, 3, 6 and so on to 21 send 1,024
+    // messages, all that fit; the next initial view finds no room.
     let clocks = vec!["5"; 64].join(" ");
     let input = format!("(open 64 1 2 900 0 ({clocks}))\n(tick 1000)\n(tick 1)\n");
     let printed = simulate(input.as_bytes());
@@ -114,9 +114,9 @@ fn the_program_lends_2048_network_words() {
         lines,
         [
             "(done 0 128)",
-            "(stopped 18 512 18)",
-            "(stopped 0 512 18)",
-            "(cabinet 0 9 23)"
+            "(stopped 42 1024 18)",
+            "(stopped 0 1024 18)",
+            "(cabinet 0 21 47)"
         ]
     );
 }

@@ -20,13 +20,13 @@ fn the_opening_sends_by_rising_number_view_before_vote() {
 fn delivery_closes_up_and_takes_the_first_of_equal_ones() {
     let mut world = World::opened(&usual(&[0; 4]));
     world.must(Tick(1));
-    world.network[32..36].copy_from_slice(&[1, 0, 1, 1]);
+    world.put(8, [1, 0, 1, 1]);
     world.run.held = 9;
     let mut expected = world.held();
     world.must(Deliver(View(0, 1)));
     expected.remove(2);
     assert_eq!(world.held(), expected);
-    assert!(world.network[32..].iter().all(|&word| word == 0));
+    assert!(world.network[16..].iter().all(|&word| word == 0));
     assert_eq!(world.held()[7], [1, 0, 1, 1]);
 }
 

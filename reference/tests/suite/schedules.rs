@@ -32,12 +32,11 @@ fn drawn_setup(draws: &mut Draws) -> Setup {
 fn held(world: &World, draws: &mut Draws, first: bool) -> Option<Message> {
     let held = world.run.held;
     let place = if first { 0 } else { draws.below(held.max(1)) };
-    let words = &world.network[4 * place as usize..][..4];
-    match words[0] {
-        1 => Some(View(words[1], words[2])),
-        2 => Some(Vote(words[1], words[2])),
-        3 => Some(Vc(words[1], words[2])),
-        4 => Some(Qc(words[1], words[2])),
+    match world.held().get(place as usize) {
+        Some(&[1, view, p, _]) => Some(View(view, p)),
+        Some(&[2, view, p, _]) => Some(Vote(view, p)),
+        Some(&[3, view, p, _]) => Some(Vc(view, p)),
+        Some(&[4, view, p, _]) => Some(Qc(view, p)),
         _ => None,
     }
 }
@@ -131,7 +130,7 @@ fn compare_ticks(before: &World, after: &World, answer: Answer) {
 fn schedule(seed: u64, events: u64) -> bool {
     let mut draws = Draws(seed);
     let opening = drawn_setup(&mut draws);
-    let mut world = World::lent(4 * opening.plan.views as usize, 510);
+    let mut world = World::lent(4 * opening.plan.views as usize, 255);
     let opened = world.open(&opening);
     if let Answer::Refused(check) = opened {
         // The drawn clocks may be too far apart.

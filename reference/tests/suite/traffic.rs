@@ -60,7 +60,7 @@ fn a_wait_is_the_time_of_delivery_less_that_of_sending() {
 fn of_equal_messages_the_first_one_has_waited() {
     let mut world = World::opened(&usual(&[0; 4]));
     world.must(Tick(4));
-    world.network[32..36].copy_from_slice(&[1, 0, 1, 3]);
+    world.put(8, [1, 0, 1, 3]);
     world.run.held = 9;
     world.must(Deliver(View(0, 1)));
     assert_eq!(world.run.sums.waits, 4);
@@ -142,7 +142,7 @@ fn an_accepted_opening_starts_the_sums_anew() {
 
 #[test]
 fn refused_events_count_nothing() {
-    let mut world = World::lent(24, 32);
+    let mut world = World::lent(24, 16);
     world.open(&usual(&[0; 4]));
     world.must(Deliver(View(0, 0)));
     // Four certificates would have no room.
@@ -182,11 +182,11 @@ fn an_unsound_run_has_no_report() {
     spoilt(|world| world.run.time = 24);
     spoilt(|world| world.run.gst = 1);
     spoilt(|world| world.run.held = 7);
-    spoilt(|world| world.network[0] = 5);
-    spoilt(|world| world.network[32] = 1);
+    spoilt(|world| world.network[0] = 256);
+    spoilt(|world| world.network[16] = 1);
     spoilt(|world| world.run.clocks[0] = 12);
     spoilt(|world| world.tally.truncate(23));
-    assert_eq!(World::lent(24, 32).traffic(), Err(9));
+    assert_eq!(World::lent(24, 16).traffic(), Err(9));
     assert!(good.traffic().is_ok());
 }
 
@@ -283,7 +283,7 @@ fn a_message_counts_by_its_own_kind() {
     {
         let mut world = World::opened(&setup(plan, 0, &[0; 4]));
         let words = [message.kind(), message.view(), message.processor(), 0];
-        world.network[32..36].copy_from_slice(&words);
+        world.put(8, words);
         world.run.held = 9;
         let mut held = [4, 4, 0, 0];
         held[kind] += 1;

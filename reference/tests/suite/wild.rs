@@ -24,7 +24,7 @@ fn unsound_as_written(world: &World) -> bool {
         || (0..64).any(|p| p >= n && run.faulty >> p & 1 == 1)
         || u64::from(run.faulty.count_ones()) > (n - 1) / 3
         || (world.tally.len() as u128) < 4 * wide(views)
-        || (world.network.len() as u128) < 8 * wide(n)
+        || (world.network.len() as u128) < 4 * wide(n)
         || world.network.len() > 524_288;
     if limits {
         return true;
@@ -38,22 +38,18 @@ fn unsound_as_written(world: &World) -> bool {
         clock >= last || clock < view * wide(gamma) || clock >= (view / 3 + 1) * 3 * wide(gamma)
     });
     let times = wide(run.time) >= last || run.gst > run.time || (!run.settled && run.gst != 0);
-    let fit = world.network.len() as u128 / 4;
+    let fit = world.network.len() as u128 / 2;
     if clocks || times || wide(run.held) > fit {
         return true;
     }
-    let used = run.held as usize * 4;
+    let used = run.held as usize * 2;
     world.network[used..].iter().any(|&word| word != 0)
-        || world.network[..used].chunks(4).any(|words| {
-            let to = if words[0] < 3 {
-                words[1] / 3 % n
-            } else {
-                words[2]
-            };
-            !(1..=4).contains(&words[0])
-                || words[1] >= views
-                || words[2] >= n
-                || words[3] > run.time
+        || world.held().iter().any(|&[kind, view, processor, sent]| {
+            let to = if kind < 3 { view / 3 % n } else { processor };
+            !(1..=4).contains(&kind)
+                || view >= views
+                || processor >= n
+                || sent > run.time
                 || run.faulty >> to & 1 == 1
         })
 }
@@ -66,10 +62,10 @@ fn edge(draws: &mut Draws) -> u64 {
     draws.one_of(&[0, 1, small, small, near - 1, near, near + 1, any, u64::MAX])
 }
 
-/// A sound run after some events, with words beyond a multiple of 4.
+/// A sound run after some events, with a word beyond a multiple of 2.
 fn sound(draws: &mut Draws) -> World {
     let faulty = draws.one_of(&[0, 1, 2, 4, 8]);
-    let mut world = World::lent(30, 70);
+    let mut world = World::lent(30, 37);
     let answer = world.open(&setup(USUAL, faulty, &[11, 11, 11, 10]));
     assert!(matches!(answer, Answer::Done { .. }));
     world.apply(Event::Tick(1 + draws.below(4)));
@@ -105,9 +101,10 @@ fn spoil(world: &mut World, draws: &mut Draws) {
         9 => run.clocks[some] = value,
         10 => run.views[some] = value,
         11 => world.tally.truncate(place),
-        12 => world.network.truncate(place),
+        12 => world.network.truncate(place % 37),
         13 => world.tally[place % 30] = value,
-        _ => world.network[place] = value,
+        14 => world.network[place % 37] = value,
+        _ => world.network[place % 37] ^= 1 << place,
     }
 }
 
@@ -135,7 +132,7 @@ fn soundness_is_its_sentence_and_apply_is_total() {
     for _ in 0..40_000 {
         let mut world = sound(&mut draws);
         for _ in 0..=draws.below(2) {
-            if world.tally.len() == 30 && world.network.len() == 70 {
+            if world.tally.len() == 30 && world.network.len() == 37 {
                 spoil(&mut world, &mut draws);
             }
         }
@@ -205,7 +202,7 @@ fn wild_openings_are_refused_unchanged_or_sound() {
         }
         let mut world = World::lent(
             draws.one_of(&[0, 23, 24, 99]),
-            draws.one_of(&[0, 31, 32, 600]),
+            draws.one_of(&[0, 15, 16, 600]),
         );
         world.tally.fill(draws.any());
         world.network.fill(draws.any());

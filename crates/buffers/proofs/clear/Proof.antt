@@ -1,6 +1,6 @@
-use native.Mathlib.Omega.{arith}
+use Rattle.buffers.proofs.NetworkWords.{two}
 use lib.ListN.{length-set}
-use Rattle.buffers.proofs.NetworkWords.{four}
+use native.Mathlib.Omega.{arith}
 use borrow.Author.Needs.{needs}
 use Rattle.buffers.proofs.clear.Statement.{statement}
 use Rattle.buffers.proofs.clear.Tie as tie
@@ -22,29 +22,11 @@ mul-network-2 c = search needs
 slice-write-network-2 : tie.Need-slice-write-network-2
 slice-write-network-2 c = simp length-set (omega arith)
 
-add-network-2 : tie.Need-add-network-2
-add-network-2 c = search needs
-
-mul-network-3 : tie.Need-mul-network-3
-mul-network-3 c = search needs
-
-slice-write-network-3 : tie.Need-slice-write-network-3
-slice-write-network-3 c = simp length-set (omega arith)
-
-add-network-3 : tie.Need-add-network-3
-add-network-3 c = search needs
-
-mul-network-4 : tie.Need-mul-network-4
-mul-network-4 c = search needs
-
-slice-write-network-4 : tie.Need-slice-write-network-4
-slice-write-network-4 c = simp length-set (omega arith)
-
 same-length : tie.Need-same-length
 same-length c = search needs
 
 returns : tie.Need-returns
-returns c = search (four, needs)
+returns c = search (two, needs)
 
 pub clear-spec : {M : Type 1} → statement M
 clear-spec =
@@ -55,11 +37,5 @@ clear-spec =
     add-network
     mul-network-2
     slice-write-network-2
-    add-network-2
-    mul-network-3
-    slice-write-network-3
-    add-network-3
-    mul-network-4
-    slice-write-network-4
     same-length
     returns)

@@ -25,10 +25,10 @@ enum-told : tie.Need-enum-told
 enum-told c = search needs
 
 returns : tie.Need-returns
-returns c = held-unsound (c .before .before .before .before .before .before .before .args .plan) (c .before .before .before .before .before .before .before .args .faulty) (c .before .before .before .before .before .before .before .args .time) (c .before .before .before .before .before .before .before .args .network .now) (c .before .before .before .before .before .before .before .args .i) (c .before .before .before .stored .given .0 .0) (c .before .sent .result) _ (sym (c .before .before .before .before .before .decode .ensures) ∙ c .before .before .before .stored .given .1) (c .before .sent .ensures) (c .held-unsound .ensures)
+returns c = held-unsound (c .before .before .before .before .before .before .before .args .form) (c .before .before .before .before .before .before .before .args .plan) (c .before .before .before .before .before .before .before .args .faulty) (c .before .before .before .before .before .before .before .args .time) (c .before .before .before .before .before .before .before .args .network .now) (c .before .before .before .before .before .before .before .args .i) (c .before .before .before .stored .given .0 .0) (c .before .sent .result) _ (sym (c .before .before .before .before .before .decode .ensures) ∙ c .before .before .before .stored .given .1) (c .before .sent .ensures) (c .held-unsound .ensures)
 
 returns-2 : tie.Need-returns-2
-returns-2 c = sym (kind-unsound (c .before .before .before .before .args .plan) (c .before .before .before .before .args .faulty) (c .before .before .before .before .args .time) (c .before .before .before .before .args .network .now) (c .before .before .before .before .args .i) (c .before .before .before .before .pre .1) (sym (c .before .before .decode .ensures) ∙ c .enum-told .given .1))
+returns-2 c = sym (kind-unsound (c .before .before .before .before .args .form) (c .before .before .before .before .args .plan) (c .before .before .before .before .args .faulty) (c .before .before .before .before .args .time) (c .before .before .before .before .args .network .now) (c .before .before .before .before .args .i) (c .before .before .before .before .pre .1) (sym (c .before .before .decode .ensures) ∙ c .enum-told .given .1))
 
 pub message-unsound-spec : {M : Type 1} → statement M
 message-unsound-spec =

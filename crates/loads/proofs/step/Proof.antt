@@ -1,6 +1,7 @@
 use borrow.Author.Needs.{needs}
 use Rattle.model.specs.State.{stateOf, runFrom}
 use Rattle.loads.specs.Loads.{pointOf, deliveryOf}
+use Rattle.types.specs.declared.Form.the-variants.{Packed}
 use Rattle.buffers.specs.Kinds.{stored}
 use Rattle.loads.proofs.Choosing.{tick-none, draws-delivery, draws-tick, none-held, step-delivers, step-ticks}
 use mathlib.Core.Path.{refl, ap, _∙_}
@@ -37,7 +38,7 @@ delivery-requires : tie.Need-delivery-requires
 delivery-requires c κs = search needs
 
 returns-2 : tie.Need-returns-2
-returns-2 c = λ k v t j. step-delivers (pointOf (stateOf (runFrom (c .before .before .before .before .before .before .before .before .before .args .head) k v) t (c .before .before .before .before .before .before .before .before .before .args .network .now)) (c .before .before .before .before .before .before .before .before .before .args .seed) j) _ (c .before .before .before .before .before .before .before .next-seed .ensures) _ _ (c .before .before .next-seed2 .ensures) (draws-delivery (c .before .before .before .before .before .before .before .next-seed .result) (c .before .before .before .before .drawn .result) (c .before .before .before .before .before .before .before .before .before .args .head .held) (c .before .before .before .before .drawn .ensures) (c .before .before .before .if2 .taken) (omega (arith, c .before .before .before .before .before .if1 .left))) (c .delivery .ensures ∙ ap (λ (d : ℕ). deliveryOf (stored (c .before .before .before .before .before .before .before .before .before .args .network .now) (d % c .before .before .before .before .before .before .before .before .before .args .head .held))) (c .before .drawn2 .ensures))
+returns-2 c = λ k v t j. step-delivers (pointOf (stateOf (runFrom (c .before .before .before .before .before .before .before .before .before .args .head) k v) t (c .before .before .before .before .before .before .before .before .before .args .network .now)) (c .before .before .before .before .before .before .before .before .before .args .seed) j) _ (c .before .before .before .before .before .before .before .next-seed .ensures) _ _ (c .before .before .next-seed2 .ensures) (draws-delivery (c .before .before .before .before .before .before .before .next-seed .result) (c .before .before .before .before .drawn .result) (c .before .before .before .before .before .before .before .before .before .args .head .held) (c .before .before .before .before .drawn .ensures) (c .before .before .before .if2 .taken) (omega (arith, c .before .before .before .before .before .if1 .left))) (c .delivery .ensures ∙ ap (λ (d : ℕ). deliveryOf (stored Packed (c .before .before .before .before .before .before .before .before .before .args .network .now) (d % c .before .before .before .before .before .before .before .before .before .args .head .held))) (c .before .drawn2 .ensures))
 
 tick-or-deliver-requires : tie.Need-tick-or-deliver-requires
 tick-or-deliver-requires c κs = search needs

@@ -1,5 +1,5 @@
 use Rattle.simulator.proofs.Happening.{refused-is, done-is}
-use Rattle.sums.proofs.Reporting.{plan-of}
+use Rattle.checks.proofs.Nine.{plan-of}
 use Rattle.model.specs.State.{State, stateOf, runFrom}
 use mathlib.Core.Path.{refl, _∙_}
 use borrow.Author.Needs.{needs}

@@ -7,6 +7,7 @@ use mathlib.Core.Path.{_≡_, sym, ap, _∙_}
 use Prim.Native.Nat.{ℕ, _-_, _≤_}
 use native.Mathlib.Omega.{arith}
 use borrow.Author.Needs.{zero≤}
+use Rattle.types.specs.declared.Form.the-variants.{Packed}
 use Rattle.model.specs.State.{heldAt}
 use Rattle.sums.proofs.count_kind.Statement.{statement}
 use Rattle.sums.proofs.count_kind.Tie as tie
@@ -16,7 +17,7 @@ use Rattle.sums.proofs.is_kind.Reads as is-kind-reads
 
 -- whether message i is of that kind
 abbrev isKind : List ℕ → ℕ → ℕ → Bool
-isKind network kind i = eqb (heldAt network i .kind) kind
+isKind network kind i = eqb (heldAt Packed network i .kind) kind
 
 abbrev Inv-loop : tie.InvT-loop
 Inv-loop network held kind k₀ i₀ k i = (i ≤ held) × (k ≡ count i (isKind network kind))

@@ -1,4 +1,4 @@
-use Rattle.simulator.proofs.Deciding.{named-at, named-place, named-vc, decides-view, decides-vote, decides-vc, decides-qc}
+use Rattle.simulator.proofs.Deciding.{named-small, named-at, named-place, named-vc, decides-view, decides-vote, decides-vc, decides-qc}
 use Rattle.simulator.proofs.Fitness.{seat-sound}
 use Rattle.pacemaker.proofs.LimitLaws.{within}
 use native.Mathlib.Omega.{arith}
@@ -44,16 +44,16 @@ react-requires-2 : tie.Need-react-requires-2
 react-requires-2 c κs = rw (c .seat-of2 .ensures (c .before .before .before .before .before .before .before .args .head)) (seat-sound (runFrom (c .before .before .before .before .before .before .before .args .head) (c .before .before .before .before .before .before .before .args .clocks .now) (c .before .before .before .before .before .before .before .args .views .now)) _ (c .before .before .before .before .before .before .before .pre .0) (rw (c .before .before .before .before .message4 .given .1) at (c .before .before .before .before .before .before .before .pre .2)), named-at (c .before .before .before .before .before .before .before .args .head .plan) (c .before .before .before .before .before .before .before .args .message) _ (c .before .before .before .before .message4 .given .1) (c .before .before .before .before .before .before .before .pre .1) .0, named-at (c .before .before .before .before .before .before .before .args .head .plan) (c .before .before .before .before .before .before .before .args .message) _ (c .before .before .before .before .message4 .given .1) (c .before .before .before .before .before .before .before .pre .1) .1)
 
 returns : tie.Need-returns
-returns c = rw (c .before .before .message .given .1) (decides-view (runFrom (c .before .before .before .before .before .args .head) (c .before .before .before .before .before .args .clocks .now) (c .before .before .before .before .before .args .views .now)) (c .before .before .before .before .before .args .tally .now) (c .before .before .before .before .before .pre .0) _ _ _ (c .decide-heard .ensures .0) (c .decide-heard .ensures .1))
+returns c = rw (c .before .before .message .given .1) (decides-view (runFrom (c .before .before .before .before .before .args .head) (c .before .before .before .before .before .args .clocks .now) (c .before .before .before .before .before .args .views .now)) (c .before .before .before .before .before .args .tally .now) (c .before .before .before .before .before .pre .0) _ _ _ (c .decide-heard .ensures .0) (c .decide-heard .ensures .1) (c .decide-heard .ensures .2))
 
 returns-2 : tie.Need-returns-2
-returns-2 c = rw (c .before .before .message2 .given .1) (decides-vote (runFrom (c .before .before .before .before .before .args .head) (c .before .before .before .before .before .args .clocks .now) (c .before .before .before .before .before .args .views .now)) (c .before .before .before .before .before .args .tally .now) (c .before .before .before .before .before .pre .0) _ _ _ (c .decide-heard2 .ensures .0) (c .decide-heard2 .ensures .1))
+returns-2 c = rw (c .before .before .message2 .given .1) (decides-vote (runFrom (c .before .before .before .before .before .args .head) (c .before .before .before .before .before .args .clocks .now) (c .before .before .before .before .before .args .views .now)) (c .before .before .before .before .before .args .tally .now) (c .before .before .before .before .before .pre .0) _ _ _ (c .decide-heard2 .ensures .0) (c .decide-heard2 .ensures .1) (c .decide-heard2 .ensures .2))
 
 returns-3 : tie.Need-returns-3
-returns-3 c = rw (c .before .before .before .before .before .message3 .given .1) (decides-vc (runFrom (c .before .before .before .before .before .before .before .before .args .head) (c .before .before .before .before .before .before .before .before .args .clocks .now) (c .before .before .before .before .before .before .before .before .args .views .now)) (c .before .before .before .before .before .before .before .before .args .tally .now) (c .before .before .before .before .before .before .before .before .pre .0) _ _ (rw (c .before .before .before .before .before .message3 .given .1) at (c .before .before .before .before .before .before .before .before .pre .2)) (named-place (c .before .before .before .before .before .before .before .before .args .head .plan) (c .before .before .before .before .before .before .before .before .args .message) _ _ (c .before .before .before .before .before .before .before .before .pre .0 .plan) (c .before .before .before .before .before .message3 .given .1) (c .before .before .before .before .before .before .before .before .pre .1) (c .before .before .before .seat-of-arg .given .0)) _ (rw (c .before .seat-of .ensures (c .before .before .before .before .before .before .before .before .args .head)) at (c .react .ensures)))
+returns-3 c = rw (c .before .before .before .before .before .message3 .given .1) (decides-vc (runFrom (c .before .before .before .before .before .before .before .before .args .head) (c .before .before .before .before .before .before .before .before .args .clocks .now) (c .before .before .before .before .before .before .before .before .args .views .now)) (c .before .before .before .before .before .before .before .before .args .tally .now) (c .before .before .before .before .before .before .before .before .pre .0) _ _ (rw (c .before .before .before .before .before .message3 .given .1) at (c .before .before .before .before .before .before .before .before .pre .2)) (named-place (c .before .before .before .before .before .before .before .before .args .head .plan) (c .before .before .before .before .before .before .before .before .args .message) _ _ (c .before .before .before .before .before .before .before .before .pre .0 .plan) (c .before .before .before .before .before .message3 .given .1) (c .before .before .before .before .before .before .before .before .pre .1) (c .before .before .before .seat-of-arg .given .0)) (named-place (c .before .before .before .before .before .before .before .before .args .head .plan) (c .before .before .before .before .before .before .before .before .args .message) _ 64 (c .before .before .before .before .before .before .before .before .pre .0 .plan) (c .before .before .before .before .before .message3 .given .1) (c .before .before .before .before .before .before .before .before .pre .1) refl) _ (named-small (c .before .before .before .before .before .before .before .before .args .head .plan) (c .before .before .before .before .before .before .before .before .args .message) _ (c .before .before .before .before .before .before .before .before .pre .0 .plan) (c .before .before .before .before .before .message3 .given .1) (c .before .before .before .before .before .before .before .before .pre .1)) (rw (c .before .seat-of .ensures (c .before .before .before .before .before .before .before .before .args .head)) at (c .react .ensures)))
 
 returns-4 : tie.Need-returns-4
-returns-4 c = rw (c .before .before .before .before .before .message4 .given .1) (decides-qc (runFrom (c .before .before .before .before .before .before .before .before .args .head) (c .before .before .before .before .before .before .before .before .args .clocks .now) (c .before .before .before .before .before .before .before .before .args .views .now)) (c .before .before .before .before .before .before .before .before .args .tally .now) (c .before .before .before .before .before .before .before .before .pre .0) _ _ (rw (c .before .before .before .before .before .message4 .given .1) at (c .before .before .before .before .before .before .before .before .pre .2)) (named-place (c .before .before .before .before .before .before .before .before .args .head .plan) (c .before .before .before .before .before .before .before .before .args .message) _ _ (c .before .before .before .before .before .before .before .before .pre .0 .plan) (c .before .before .before .before .before .message4 .given .1) (c .before .before .before .before .before .before .before .before .pre .1) (c .before .before .before .seat-of-arg3 .given .0)) _ (rw (c .before .seat-of2 .ensures (c .before .before .before .before .before .before .before .before .args .head)) at (c .react2 .ensures)))
+returns-4 c = rw (c .before .before .before .before .before .message4 .given .1) (decides-qc (runFrom (c .before .before .before .before .before .before .before .before .args .head) (c .before .before .before .before .before .before .before .before .args .clocks .now) (c .before .before .before .before .before .before .before .before .args .views .now)) (c .before .before .before .before .before .before .before .before .args .tally .now) (c .before .before .before .before .before .before .before .before .pre .0) _ _ (rw (c .before .before .before .before .before .message4 .given .1) at (c .before .before .before .before .before .before .before .before .pre .2)) (named-place (c .before .before .before .before .before .before .before .before .args .head .plan) (c .before .before .before .before .before .before .before .before .args .message) _ _ (c .before .before .before .before .before .before .before .before .pre .0 .plan) (c .before .before .before .before .before .message4 .given .1) (c .before .before .before .before .before .before .before .before .pre .1) (c .before .before .before .seat-of-arg3 .given .0)) (named-place (c .before .before .before .before .before .before .before .before .args .head .plan) (c .before .before .before .before .before .before .before .before .args .message) _ 64 (c .before .before .before .before .before .before .before .before .pre .0 .plan) (c .before .before .before .before .before .message4 .given .1) (c .before .before .before .before .before .before .before .before .pre .1) refl) _ (named-small (c .before .before .before .before .before .before .before .before .args .head .plan) (c .before .before .before .before .before .before .before .before .args .message) _ (c .before .before .before .before .before .before .before .before .pre .0 .plan) (c .before .before .before .before .before .message4 .given .1) (c .before .before .before .before .before .before .before .before .pre .1)) (rw (c .before .seat-of2 .ensures (c .before .before .before .before .before .before .before .before .args .head)) at (c .react2 .ensures)))
 
 pub decide-spec : {M : Type 1} → statement M
 decide-spec =

@@ -16,7 +16,7 @@ would-form-requires : tie.Need-would-form-requires
 would-form-requires c κs = search needs
 
 returns : tie.Need-returns
-returns c = (refl, c .would-form .ensures ∙ ap (λ (own : ℕ). ripe (c .before .before .before .args .stage) (c .before .before .before .args .plan) own (c .before .before .before .args .tally .now) (c .before .before .before .args .w) (c .before .before .before .args .p)) (c .before .leader-view .ensures))
+returns c = (refl, c .would-form .ensures ∙ ap (λ (own : ℕ). ripe (c .before .before .before .args .stage) (c .before .before .before .args .plan) own (c .before .before .before .args .tally .now) (c .before .before .before .args .w) (c .before .before .before .args .p)) (c .before .leader-view .ensures), refl)
 
 pub decide-heard-spec : {M : Type 1} → statement M
 decide-heard-spec = tie.close (tie.spec leader-view-requires would-form-requires returns)

@@ -1,6 +1,6 @@
 use borrow.Author.Needs.{needs}
 use Rattle.simulator.proofs.Happening.{refused-is, done-is, finish-refused, finish-done, outcome-passed, decides-counted, counting, handled-outcome}
-use Rattle.simulator.proofs.Deciding.{named-place}
+use Rattle.simulator.proofs.Deciding.{named-small, named-place}
 use Rattle.simulator.proofs.Delivery.{fit-held, reaches-held, room-left}
 use Rattle.simulator.proofs.Fitness.{fit-of, room-of}
 use Rattle.pacemaker.proofs.LimitLaws.{within}
@@ -8,6 +8,7 @@ use Rattle.model.specs.Checks.{reachesEnd, overfull}
 use Rattle.model.specs.Moves.{made, handling}
 use Rattle.model.specs.State.{State, stateOf, runFrom, capacity}
 use Rattle.types.specs.declared.Head.{Head}
+use Rattle.types.specs.declared.Form.the-variants.{Packed}
 use borrow.Author.Tests.{ltb-false}
 use native.Mathlib.Omega.{arith}
 use mathlib.Core.List.{List}
@@ -79,10 +80,13 @@ perform-requires c κs =
     let k : ℕ = next .held + length (sentFor (next .plan) (next .faulty) (c .before .before .before .before .before .before .before .before .before .before .before .before .before .before .before .before .before .before .before .before .before .args .message) (c .before .before .before .before .before .before .before .before .before .before .before .before .before .before .decide .result)) in
     let p = outcome-passed (c .before .before .before .before .before .before .before .before .before .before .before .before .before .before .decide .result .ends) (ltb (c .before .before .before .before .before .before .before .before .before .before .before .before .capacity .result) k) (sym (c .before .before .before .before .before .before .before .before .before .before .before .outcome-check .ensures) ∙ z) in
     let fits : k ≤ c .before .before .before .before .before .before .before .before .before .before .before .before .capacity .result = ltb-false (c .before .before .before .before .before .before .before .before .before .before .before .before .capacity .result) k (p .1) in
-    let as-much = ap capacity (c .before .before .before .before .before .before .remove .ensures) ∙ room-left (s .run) (s .tally) (s .network) (c .before .before .before .before .before .before .before .before .before .before .before .before .before .before .before .before .before .before .before .before .before .args .message) (c .before .before .before .before .before .before .before .before .before .before .before .before .before .before .before .before .before .before .before .before .before .args .place) (room-of s (c .before .before .before .before .before .before .before .before .before .before .before .before .before .before .before .before .before .before .before .before .before .pre .sound)) .0 in (
+    let as-much = ap (capacity Packed) (c .before .before .before .before .before .before .remove .ensures) ∙ room-left (s .run) (s .tally) (s .network) (c .before .before .before .before .before .before .before .before .before .before .before .before .before .before .before .before .before .before .before .before .before .args .message) (c .before .before .before .before .before .before .before .before .before .before .before .before .before .before .before .before .before .before .before .before .before .args .place) (room-of s (c .before .before .before .before .before .before .before .before .before .before .before .before .before .before .before .before .before .before .before .before .before .pre .sound)) .0 in (
       rw (c .before .before .before .before .before .before .before .before .before .before .before .before .before .before .before .before .before .before .head-without .ensures) (omega (arith, within (c .before .before .before .before .before .before .before .before .before .before .before .before .before .before .before .before .before .before .before .before .before .args .head .plan) (f .plan) .n-least)),
       named-place (c .before .before .before .before .before .before .before .before .before .before .before .before .before .before .before .before .before .before .before .before .before .args .head .plan) (c .before .before .before .before .before .before .before .before .before .before .before .before .before .before .before .before .before .before .before .before .before .args .message) (c .before .before .before .before .before .before .before .before .before .before .before .before .before .before .before .before .before .before .before .before .before .args .message) 64 (f .plan) refl (c .before .before .before .before .before .before .before .before .before .before .before .before .before .before .before .before .before .before .before .before .before .pre .named) refl,
       omega (arith, c .before .before .before .before .before .before .before .before .before .before .before .before .capacity .ensures, fits, as-much),
+      rw (c .before .before .before .before .before .before .before .before .before .before .before .before .before .before .before .before .before .before .head-without .ensures) (within (c .before .before .before .before .before .before .before .before .before .before .before .before .before .before .before .before .before .before .before .before .before .args .head .plan) (f .plan) .n-most),
+      (let v = named-small (c .before .before .before .before .before .before .before .before .before .before .before .before .before .before .before .before .before .before .before .before .before .args .head .plan) (c .before .before .before .before .before .before .before .before .before .before .before .before .before .before .before .before .before .before .before .before .before .args .message) (c .before .before .before .before .before .before .before .before .before .before .before .before .before .before .before .before .before .before .before .before .before .args .message) (f .plan) refl (c .before .before .before .before .before .before .before .before .before .before .before .before .before .before .before .before .before .before .before .before .before .pre .named) in omega arith),
+      c .before .before .before .before .before .before .before .before .before .before .before .before .before .before .decide .ensures .packs (p .0),
     )
 
 done-requires : tie.Need-done-requires

@@ -1,3 +1,4 @@
+use Rattle.simulator.proofs.Packing.{certificate-packs}
 use Rattle.simulator.proofs.Posting.{posts-none, each-fits, each-turn}
 use Rattle.simulator.specs.Inner.{Posts}
 use Rattle.model.specs.Moves.{toCorrect, toEach}
@@ -27,7 +28,7 @@ certificate-of-requires : tie.Need-certificate-of-requires Inv-loop μ-loop
 certificate-of-requires c κs = search needs
 
 send-requires : tie.Need-send-requires Inv-loop μ-loop
-send-requires c κs = (c .before .before .before .before .before .before .pre .0, rw (c .certificate-of .ensures) (each-fits (c .before .before .before .before .before .before .args .plan) (c .before .before .before .before .before .before .args .faulty) (c .before .before .before .before .before .before .args .stage) (c .before .before .before .before .before .before .args .w) _ _ _ _ (c .before .before .before .before .before .before .pre .1) _ _ _ (c .before .before .before .before .loop .inv .1) (c .before .before .if1 .taken)))
+send-requires c κs = (c .before .before .before .before .before .before .pre .0, rw (c .certificate-of .ensures) (each-fits (c .before .before .before .before .before .before .args .plan) (c .before .before .before .before .before .before .args .faulty) (c .before .before .before .before .before .before .args .stage) (c .before .before .before .before .before .before .args .w) _ _ _ _ (c .before .before .before .before .before .before .pre .1) _ _ _ (c .before .before .before .before .loop .inv .1) (c .before .before .if1 .taken)), rw (c .certificate-of .ensures) (certificate-packs (c .before .before .before .before .before .before .args .plan) (c .before .before .before .before .before .before .args .faulty) (c .before .before .before .before .before .before .args .stage) (c .before .before .before .before .before .before .args .w) (c .before .before .before .before .loop .q) (c .before .before .before .before .before .before .pre .3) (omega (arith, c .before .before .if1 .taken, c .before .before .before .before .before .before .pre .2))))
 
 add-q : tie.Need-add-q Inv-loop μ-loop
 add-q c = search needs

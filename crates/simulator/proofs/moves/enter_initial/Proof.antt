@@ -7,7 +7,12 @@ use Rattle.types.specs.declared.Message.the-variants.{View, Vote}
 use lib.ListN.{length, length-append}
 use native.Mathlib.Omega.{arith}
 use mathlib.Core.List.{[], _∷_}
-use mathlib.Core.Path.{_∙_, sym, ap}
+use mathlib.Core.Path.{_≡_, _∙_, sym, ap, subst}
+use mathlib.Core.Bool.{true}
+use Rattle.base.specs.Members.{every-first, every-second}
+use Rattle.types.specs.declared.Message.{Message}
+use Rattle.buffers.specs.Network.{packable}
+use Rattle.simulator.specs.Inner.{AllPackable}
 use borrow.Author.Needs.{needs}
 use Rattle.simulator.proofs.moves.enter_initial.Statement.{statement}
 use Rattle.simulator.proofs.moves.enter_initial.Tie as tie
@@ -20,10 +25,10 @@ enter-requires : tie.Need-enter-requires
 enter-requires c κs = search needs
 
 send-requires : tie.Need-send-requires
-send-requires c κs = (c .before .before .before .before .before .before .before .pre .0, omega (arith, c .before .before .before .before .before .before .before .pre .2, ap length (sent-both (c .before .before .before .before .before .before .before .args .plan) (c .before .before .before .before .before .before .before .args .faulty) (c .before .before .before .before .before .before .before .args .p) (c .before .before .before .before .before .before .before .args .w)), length-append (toCorrect (c .before .before .before .before .before .before .before .args .plan) (c .before .before .before .before .before .before .before .args .faulty) (View (c .before .before .before .before .before .before .before .args .w) (c .before .before .before .before .before .before .before .args .p) ∷ [])) (toCorrect (c .before .before .before .before .before .before .before .args .plan) (c .before .before .before .before .before .before .before .args .faulty) (Vote (c .before .before .before .before .before .before .before .args .w) (c .before .before .before .before .before .before .before .args .p) ∷ []))))
+send-requires c κs = (c .before .before .before .before .before .before .before .pre .0, omega (arith, c .before .before .before .before .before .before .before .pre .2, ap length (sent-both (c .before .before .before .before .before .before .before .args .plan) (c .before .before .before .before .before .before .before .args .faulty) (c .before .before .before .before .before .before .before .args .p) (c .before .before .before .before .before .before .before .args .w)), length-append (toCorrect (c .before .before .before .before .before .before .before .args .plan) (c .before .before .before .before .before .before .before .args .faulty) (View (c .before .before .before .before .before .before .before .args .w) (c .before .before .before .before .before .before .before .args .p) ∷ [])) (toCorrect (c .before .before .before .before .before .before .before .args .plan) (c .before .before .before .before .before .before .before .args .faulty) (Vote (c .before .before .before .before .before .before .before .args .w) (c .before .before .before .before .before .before .before .args .p) ∷ []))), every-first (λ (m : Message). packable m ≡ true) (toCorrect (c .before .before .before .before .before .before .before .args .plan) (c .before .before .before .before .before .before .before .args .faulty) (View (c .before .before .before .before .before .before .before .args .w) (c .before .before .before .before .before .before .before .args .p) ∷ [])) (toCorrect (c .before .before .before .before .before .before .before .args .plan) (c .before .before .before .before .before .before .before .args .faulty) (Vote (c .before .before .before .before .before .before .before .args .w) (c .before .before .before .before .before .before .before .args .p) ∷ [])) (subst AllPackable (sent-both (c .before .before .before .before .before .before .before .args .plan) (c .before .before .before .before .before .before .before .args .faulty) (c .before .before .before .before .before .before .before .args .p) (c .before .before .before .before .before .before .before .args .w)) (c .before .before .before .before .before .before .before .pre .3)))
 
 send-requires-2 : tie.Need-send-requires-2
-send-requires-2 c κs = (c .before .before .before .before .before .before .before .before .before .before .before .pre .0, also-fits _ _ _ _ _ _ _ (c .before .before .before .send .ensures) (rw (sent-both (c .before .before .before .before .before .before .before .before .before .before .before .args .plan) (c .before .before .before .before .before .before .before .before .before .before .before .args .faulty) (c .before .before .before .before .before .before .before .before .before .before .before .args .p) (c .before .before .before .before .before .before .before .before .before .before .before .args .w)) at (c .before .before .before .before .before .before .before .before .before .before .before .pre .2)))
+send-requires-2 c κs = (c .before .before .before .before .before .before .before .before .before .before .before .pre .0, also-fits _ _ _ _ _ _ _ (c .before .before .before .send .ensures) (rw (sent-both (c .before .before .before .before .before .before .before .before .before .before .before .args .plan) (c .before .before .before .before .before .before .before .before .before .before .before .args .faulty) (c .before .before .before .before .before .before .before .before .before .before .before .args .p) (c .before .before .before .before .before .before .before .before .before .before .before .args .w)) at (c .before .before .before .before .before .before .before .before .before .before .before .pre .2)), every-second (λ (m : Message). packable m ≡ true) (toCorrect (c .before .before .before .before .before .before .before .before .before .before .before .args .plan) (c .before .before .before .before .before .before .before .before .before .before .before .args .faulty) (View (c .before .before .before .before .before .before .before .before .before .before .before .args .w) (c .before .before .before .before .before .before .before .before .before .before .before .args .p) ∷ [])) (toCorrect (c .before .before .before .before .before .before .before .before .before .before .before .args .plan) (c .before .before .before .before .before .before .before .before .before .before .before .args .faulty) (Vote (c .before .before .before .before .before .before .before .before .before .before .before .args .w) (c .before .before .before .before .before .before .before .before .before .before .before .args .p) ∷ [])) (subst AllPackable (sent-both (c .before .before .before .before .before .before .before .before .before .before .before .args .plan) (c .before .before .before .before .before .before .before .before .before .before .before .args .faulty) (c .before .before .before .before .before .before .before .before .before .before .before .args .p) (c .before .before .before .before .before .before .before .before .before .before .before .args .w)) (c .before .before .before .before .before .before .before .before .before .before .before .pre .3)))
 
 same-length : tie.Need-same-length
 same-length c = search needs

@@ -27,7 +27,7 @@ same-length : tie.Need-same-length
 same-length c = search needs
 
 returns : tie.Need-returns
-returns c = sends-yes (c .before .before .before .before .before .before .before .before .args .plan) (c .before .before .before .before .before .before .before .before .args .faulty) (c .before .before .before .before .before .before .before .before .args .message) _ _ _ _ (ap (correct (c .before .before .before .before .before .before .before .before .args .plan) (c .before .before .before .before .before .before .before .before .args .faulty)) (sym (c .before .before .before .before .before .before .addressee .ensures ∙ addressee-fits (c .before .before .before .before .before .before .before .before .args .plan) (c .before .before .before .before .before .before .before .before .args .message) (c .before .before .before .before .before .before .before .before .pre .0))) ∙ sym (c .before .before .before .before .before .correct .ensures) ∙ c .before .before .before .before .if1 .taken) (c .before .before .before .before .before .before .before .before .pre .1) (c .before .before .append .ensures)
+returns c = sends-yes (c .before .before .before .before .before .before .before .before .args .plan) (c .before .before .before .before .before .before .before .before .args .faulty) (c .before .before .before .before .before .before .before .before .args .message) _ _ _ _ (ap (correct (c .before .before .before .before .before .before .before .before .args .plan) (c .before .before .before .before .before .before .before .before .args .faulty)) (sym (c .before .before .before .before .before .before .addressee .ensures ∙ addressee-fits (c .before .before .before .before .before .before .before .before .args .plan) (c .before .before .before .before .before .before .before .before .args .message) (c .before .before .before .before .before .before .before .before .pre .0))) ∙ sym (c .before .before .before .before .before .correct .ensures) ∙ c .before .before .before .before .if1 .taken) (c .before .before .before .before .before .before .before .before .pre .1) (c .before .before .before .before .before .before .before .before .pre .2) (c .before .before .append .ensures)
 
 returns-2 : tie.Need-returns-2
 returns-2 c = sends-no (c .before .before .before .before .args .plan) (c .before .before .before .before .args .faulty) (c .before .before .before .before .args .message) _ _ _ (ap (correct (c .before .before .before .before .args .plan) (c .before .before .before .before .args .faulty)) (sym (c .before .before .addressee .ensures ∙ addressee-fits (c .before .before .before .before .args .plan) (c .before .before .before .before .args .message) (c .before .before .before .before .pre .0))) ∙ sym (c .before .correct .ensures) ∙ c .if1 .left)

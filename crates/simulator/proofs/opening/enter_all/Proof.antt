@@ -7,7 +7,7 @@ use Rattle.model.specs.Moves.{entries}
 use Rattle.simulator.specs.Opening.{enteredFirst}
 use Rattle.simulator.specs.Inner.{Posts}
 use Rattle.simulator.proofs.Posting.{posts-none}
-use Rattle.simulator.proofs.Starting.{tally-turn, first-fits, posts-turn}
+use Rattle.simulator.proofs.Starting.{first-packs, tally-turn, first-fits, posts-turn}
 use Rattle.simulator.proofs.opening.enter_all.Statement.{statement}
 use Rattle.simulator.proofs.opening.enter_all.Tie as tie
 use Rattle.simulator.proofs.opening.enter_all.Reads as reads
@@ -29,7 +29,7 @@ first-sends-requires : tie.Need-first-sends-requires Inv-loop μ-loop
 first-sends-requires c κs = search needs
 
 enter-requires : tie.Need-enter-requires Inv-loop μ-loop
-enter-requires c κs = (c .before .before .before .before .before .before .before .pre .0, omega (arith, c .before .before .before .before .before .before .before .pre .1, c .before .before .before .loop-test .taken), rw (c .before .before .first-sends .ensures) (first-fits (c .before .before .before .before .before .before .before .args .setup) (c .before .before .before .before .before .before .before .args .tally .now) _ _ _ _ (c .before .before .before .loop-test .taken) (c .before .before .before .before .before .before .before .pre .2) (c .before .before .before .before .loop .inv .2)))
+enter-requires c κs = (c .before .before .before .before .before .before .before .pre .0, omega (arith, c .before .before .before .before .before .before .before .pre .1, c .before .before .before .loop-test .taken), rw (c .before .before .first-sends .ensures) (first-fits (c .before .before .before .before .before .before .before .args .setup) (c .before .before .before .before .before .before .before .args .tally .now) _ _ _ _ (c .before .before .before .loop-test .taken) (c .before .before .before .before .before .before .before .pre .2) (c .before .before .before .before .loop .inv .2)), rw (c .before .before .first-sends .ensures) (first-packs _ _ _ (omega (arith, c .before .before .before .before .before .before .before .pre .1, c .before .before .before .loop-test .taken))))
 
 add-q : tie.Need-add-q Inv-loop μ-loop
 add-q c = search needs

@@ -1,5 +1,5 @@
 use mathlib.Core.Path.{refl}
-use Rattle.sums.proofs.Reporting.{end-reached}
+use Rattle.checks.proofs.Nine.{end-reached}
 use borrow.Author.Needs.{needs}
 use Rattle.simulator.proofs.tasks.is_nine.Statement.{statement}
 use Rattle.simulator.proofs.tasks.is_nine.Tie as tie

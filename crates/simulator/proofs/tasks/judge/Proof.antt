@@ -1,5 +1,5 @@
 use Rattle.simulator.proofs.Happening.{lacking, unsound-handed, ticks-applied, ticks-some}
-use Rattle.sums.proofs.Reporting.{nine-is}
+use Rattle.checks.proofs.Nine.{nine-is}
 use Rattle.pacemaker.proofs.LimitLaws.{within}
 use Rattle.model.specs.State.{State, stateOf, runFrom}
 use Rattle.types.specs.Messages.{lacksForm}

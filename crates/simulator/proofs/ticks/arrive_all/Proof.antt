@@ -1,4 +1,4 @@
-use Rattle.simulator.proofs.Ticking.{seat-kept, next-turn, tally-turn, arrival-fits, posts-turn, tick-made}
+use Rattle.simulator.proofs.Ticking.{arrival-packs, seat-kept, next-turn, tally-turn, arrival-fits, posts-turn, tick-made}
 use Rattle.simulator.proofs.Posting.{posts-none}
 use Rattle.simulator.proofs.Fitness.{seat-sound}
 use Rattle.simulator.specs.Inner.{Posts, Arrives, arrivedBelow, endsAt, seat}
@@ -70,7 +70,7 @@ enter-by-tick-requires c κs =
     let most : s .run .plan .n ≤ length (s .run .clocks) = c .before .before .before .before .before .before .before .before .before .before .pre .whole .clocks in
     let a : Arrives (s .run .plan) (s .run .faulty) (seat (s .run) (c .before .before .before .before .before .before .loop .q)) (c .before .before .arrive .result) = subst (λ (p : Processor). Arrives (s .run .plan) (s .run .faulty) p (c .before .before .arrive .result)) (seat-kept s (c .before .before .before .before .before .before .loop .q) (runFrom (c .before .before .before .before .before .before .before .before .before .before .args .head) (c .before .before .before .before .before .before .loop .clocks) (c .before .before .before .before .before .before .loop .views)) (c .before .before .before .before .before .before .loop .inv .1)) (c .before .before .arrive .ensures) in
     let on : c .before .before .arrive .result .ends ≡ false = a .ends ∙ some-not (endsAt (s .run)) _ (c .before .before .before .before .before .before .loop .q) (c .before .before .before .before .before .before .before .before .before .before .pre .goes-on) (c .before .before .before .before .before .loop-test .taken) in
-    (omega (arith, within (s .run .plan) (c .before .before .before .before .before .before .before .before .before .before .pre .fit .plan) .n-least), omega (arith, c .before .before .before .before .before .loop-test .taken, within (s .run .plan) (c .before .before .before .before .before .before .before .before .before .before .pre .fit .plan) .n-most), arrival-fits s most (c .before .before .before .before .before .before .loop .q) (c .before .before .before .before .before .loop-test .taken) (c .before .before .arrive .result) a on _ (c .before .before .before .before .before .before .before .before .before .before .pre .room) _ _ _ (c .before .before .before .before .before .before .loop .inv .3))
+    (omega (arith, within (s .run .plan) (c .before .before .before .before .before .before .before .before .before .before .pre .fit .plan) .n-least), omega (arith, c .before .before .before .before .before .loop-test .taken, within (s .run .plan) (c .before .before .before .before .before .before .before .before .before .before .pre .fit .plan) .n-most), arrival-fits s most (c .before .before .before .before .before .before .loop .q) (c .before .before .before .before .before .loop-test .taken) (c .before .before .arrive .result) a on _ (c .before .before .before .before .before .before .before .before .before .before .pre .room) _ _ _ (c .before .before .before .before .before .before .loop .inv .3), arrival-packs s most (c .before .before .before .before .before .before .loop .q) (c .before .before .before .before .before .loop-test .taken) (c .before .before .arrive .result) a on (c .before .before .before .before .before .before .before .before .before .before .pre .fit) (c .before .before .before .before .before .before .before .before .before .before .pre .whole) (c .before .before .before .before .before .before .before .before .before .before .pre .goes-on))
 
 add-q : tie.Need-add-q Inv-loop μ-loop
 add-q c = search needs

@@ -1,0 +1,2 @@
+-- Why the functions meet their contracts.
+pub mod Laying

@@ -1,11 +1,13 @@
 /*
  * Document 01's printed schedule from C: each line is read, written again, and done by the exported functions as include/fever.h
- * declares them; the report of its traffic; in header_carry.h its run carried over to a network of four words a message and back; and
- * in header_loads.h a load of its setup. Prints what it got; ends with 1 where that is not what the document prints, where a report or
- * a load is not that of its lines, where carrying over loses something, or where a refusal changed something.
+ * declares them; the report of its traffic; in header_carry.h its run carried over to a network of four words a message and back; in
+ * header_loads.h a load of its setup; and in header_turns.h what follows the views per leader. Prints what it got; ends with 1 where
+ * that is not what the document prints, where a report or a load is not that of its lines, where carrying over loses something, or
+ * where a refusal changed something.
  */
 #include "header_carry.h"
 #include "header_loads.h"
+#include "header_turns.h"
 #include "header_words.h"
 
 #include <inttypes.h>
@@ -26,7 +28,7 @@ static void print(const char *form, ...)
     va_end(numbers);
 }
 
-/* Whether the line that was read is written as it stood, in just the bytes that it needs and in no fewer. */
+/* Whether the line that was read is written as it stood, an opening with k, in just the bytes that it needs and in no fewer. */
 static void write_again(const char *line)
 {
     uint8_t out[FEVER_LINE_BYTES];
@@ -58,7 +60,7 @@ static void answer(const char *line)
     uint64_t check;
     uint64_t ticks;
     read_line(line);
-    write_again(line);
+    write_again(line == schedule[0] ? OPENING : line);
     check = apply();
     ticks = run[FEVER_RUN_TIME] - before;
     if (check == 0) {
@@ -77,7 +79,7 @@ static void refuse(void)
     uint64_t unopened[FEVER_RUN_WORDS] = {0};
     memcpy(words, run, sizeof(run));
     demand(fever_apply(LENT(run), FEVER_SETTLE, 0, 0, 0, LENT(tally), LENT(network)) != 0, "settling twice is refused");
-    demand(fever_apply(run, COUNT(run) - 1, FEVER_TICK, 0, 1, 0, LENT(tally), LENT(network)) == 1, "145 words are too few");
+    demand(fever_apply(run, COUNT(run) - 1, FEVER_TICK, 0, 1, 0, LENT(tally), LENT(network)) == 1, "146 words are too few");
     demand(memcmp(words, run, sizeof(run)) == 0, "a refused event leaves the run");
     demand(fever_apply(LENT(unopened), FEVER_TICK, 0, 1, 0, LENT(tally), LENT(network)) == 9, "no run is open");
     demand(fever_read_line((const uint8_t *)"(tick 0)", 8, LENT(reading)) == 1, "0 ticks are no form");
@@ -128,7 +130,7 @@ static void refuse_all(void)
     events[FEVER_EVENT_WORDS + FEVER_EVENT_PROCESSOR] = 9;
     memcpy(words, run, sizeof(run));
     memcpy(kept, events, sizeof(events));
-    demand(fever_apply_all(run, COUNT(run) - 1, LENT(tally), LENT(network), LENT(events)) == 1, "145 words are too few for all");
+    demand(fever_apply_all(run, COUNT(run) - 1, LENT(tally), LENT(network), LENT(events)) == 1, "146 words are too few for all");
     run[FEVER_RUN_SETTLED] = 2;
     demand(fever_apply_all(LENT(run), LENT(tally), LENT(network), LENT(events)) == 9, "a settled word of no run");
     run[FEVER_RUN_SETTLED] = words[FEVER_RUN_SETTLED];
@@ -159,7 +161,7 @@ static void report(void)
     for (word = 0; word < FEVER_TRAFFIC_WORDS; word++) {
         demand(traffic(COUNT(run), COUNT(tally), words, word) == 1, "12 words are too few for a report");
     }
-    demand(traffic(COUNT(run) - 1, COUNT(tally), LENT(words)) == 1, "145 words are too few of a run to report");
+    demand(traffic(COUNT(run) - 1, COUNT(tally), LENT(words)) == 1, "146 words are too few of a run to report");
     demand(traffic(COUNT(run), COUNT(tally) - 1, LENT(words)) == 9, "a tally too short is reported unsound");
     run[FEVER_RUN_SETTLED] = 2;
     demand(traffic(COUNT(run), COUNT(tally), LENT(words)) == 9, "a settled word of no run is reported unsound");
@@ -182,11 +184,11 @@ static void report(void)
 static void step(void)
 {
     uint64_t processor[FEVER_PROCESSOR_WORDS] = {0, 2, 0, 7};
-    demand(fever_step(4, 2, 4, VIEWS, LENT(processor), FEVER_INPUT_QC, 2) == 0, "the step is done");
+    demand(fever_step(4, 2, 4, VIEWS, PER_LEADER, LENT(processor), FEVER_INPUT_QC, 2) == 0, "the step is done");
     demand(processor[FEVER_PROCESSOR_CLOCK] == 12 && processor[FEVER_PROCESSOR_VIEW] == 3 &&
                processor[FEVER_PROCESSOR_SENDS] == FEVER_SENDS_VIEW_AND_VOTE,
            "clock 12, view 3, a view message and a vote");
-    demand(fever_step(4, 2, 4, VIEWS, LENT(processor), FEVER_INPUT_QC, VIEWS - 1) == 17, "no view is left");
+    demand(fever_step(4, 2, 4, VIEWS, PER_LEADER, LENT(processor), FEVER_INPUT_QC, VIEWS - 1) == 17, "no view is left");
 }
 
 int main(void)
@@ -207,6 +209,7 @@ int main(void)
     report();
     step();
     generate_loads();
+    take_turns();
     demand(strcmp(printed, expected) == 0, "this is what document 01 prints");
     fputs(printed, stdout);
     return wrong;

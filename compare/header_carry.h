@@ -73,7 +73,7 @@ static void refuse_targets(void)
     size_t n = (size_t)run[FEVER_RUN_N];
     uint64_t settled = run[FEVER_RUN_SETTLED];
     blank(LENT(packed));
-    demand(fever_pack(run, COUNT(run) - 1, LENT(tally), LENT(wide), LENT(packed)) == 1, "145 words are too few to pack");
+    demand(fever_pack(run, COUNT(run) - 1, LENT(tally), LENT(wide), LENT(packed)) == 1, "146 words are too few to pack");
     demand(fever_pack(LENT(run), LENT(tally), LENT(wide), packed, 4 * n - 1) == 6, "fewer than 4n words are no target");
     demand(fever_pack(LENT(run), LENT(tally), LENT(wide), packed, 2 * LEFT - 1) == 6, "ten messages have no room in 19 words");
     demand(fever_pack(LENT(run), tally, COUNT(tally) - 1, LENT(wide), LENT(packed)) == 9, "a tally too short to pack");
@@ -95,7 +95,7 @@ static void refuse_wide_targets(void)
 {
     size_t n = (size_t)run[FEVER_RUN_N];
     blank(LENT(wide));
-    demand(fever_unpack(run, COUNT(run) - 1, LENT(tally), LENT(network), LENT(wide)) == 1, "145 words are too few to unpack");
+    demand(fever_unpack(run, COUNT(run) - 1, LENT(tally), LENT(network), LENT(wide)) == 1, "146 words are too few to unpack");
     demand(fever_unpack(LENT(run), LENT(tally), LENT(network), wide, 8 * n - 1) == 6, "fewer than 8n words are no target");
     demand(fever_unpack(LENT(run), LENT(tally), LENT(network), wide, 4 * LEFT - 1) == 6, "ten messages have no room in 39 words");
     network[0] += 4 * 64;

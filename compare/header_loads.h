@@ -64,7 +64,7 @@ static void replay(const struct made *made)
 /* A load in one piece and in two; the first draws of seed 1 deliver the fourth message and then the sixth. */
 static void generate_loads(void)
 {
-    static const char first[] = "(open 4 2 4 6 0 (0 0 0 0))\n(deliver (vote 0 1))\n(settle)\n(deliver (view 0 3))\n";
+    static const char first[] = OPENING "\n(deliver (vote 0 1))\n(settle)\n(deliver (view 0 3))\n";
     static struct made whole, pieces, kept;
     uint64_t bytes;
     read_line(schedule[0]);
@@ -78,7 +78,7 @@ static void generate_loads(void)
     kept = pieces;
     demand(generate(&pieces, FEVER_LOAD_WORDS - 1, ROOM) == 1, "5 words are too few for a load");
     demand(memcmp(&pieces, &kept, sizeof(kept)) == 0, "a refused load leaves every word");
-    demand(generate(&pieces, FEVER_LOAD_WORDS, strlen(schedule[0])) == 0, "no room for the newline");
+    demand(generate(&pieces, FEVER_LOAD_WORDS, strlen(OPENING)) == 0, "no room for the newline");
     demand(pieces.load[FEVER_LOAD_BYTES] == 0 && pieces.load[FEVER_LOAD_FULL] == 1, "nothing is written");
     demand(memcmp(pieces.run, kept.run, sizeof(kept.run)) == 0, "nothing is opened");
     demand(generate(&pieces, FEVER_LOAD_WORDS, strlen(first) - 1) == 0 && pieces.load[FEVER_LOAD_FULL] == 1, "a first piece");

@@ -10,10 +10,14 @@
 #include <string.h>
 
 #define VIEWS 6
+#define PER_LEADER FEVER_VIEWS_PER_LEADER
 #define MESSAGES 16
 
 #define COUNT(words) (sizeof(words) / sizeof((words)[0]))
 #define LENT(words) (words), COUNT(words)
+
+/* The schedule's opening as it is written: with the views per leader, which document 01's line does not say. */
+#define OPENING "(open 4 2 4 6 3 0 (0 0 0 0))"
 
 static const char *const schedule[] = {"(open 4 2 4 6 0 (0 0 0 0))", "(deliver (view 0 0))", "(deliver (view 0 1))",
                                        "(tick 3)",                   "(settle)",             "(tick 3)"};

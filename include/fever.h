@@ -30,31 +30,35 @@ extern "C" {
 
 /* ---- a run: the execution so far, without the two lent buffers */
 
-#define FEVER_RUN_WORDS 146
+#define FEVER_RUN_WORDS 147
 #define FEVER_RUN_N 0           /* n, the processors */
 #define FEVER_RUN_DELTA 1       /* the delay */
 #define FEVER_RUN_GAMMA 2       /* the slot */
 #define FEVER_RUN_LIMIT 3       /* V, the view limit */
-#define FEVER_RUN_FAULTY 4      /* the faulty processors, bit p for processor p */
-#define FEVER_RUN_TIME 5        /* the ticks since the opening */
-#define FEVER_RUN_SETTLED 6     /* 1 once the network has settled, else 0 */
-#define FEVER_RUN_GST 7         /* when it settled, else 0 */
-#define FEVER_RUN_HELD 8        /* the messages in the network */
-#define FEVER_RUN_CLOCKS 9      /* 64 clocks, by processor */
-#define FEVER_RUN_VIEWS 73      /* 64 views, by processor */
-#define FEVER_RUN_SENT 137      /* four words, by kind from 1 to 4: the messages posted since the opening */
-#define FEVER_RUN_DELIVERED 141 /* four words, by kind: those delivered */
-#define FEVER_RUN_WAITS 145     /* the sum of the times that these were in flight */
+#define FEVER_RUN_K 4           /* k, the views per leader */
+#define FEVER_RUN_FAULTY 5      /* the faulty processors, bit p for processor p */
+#define FEVER_RUN_TIME 6        /* the ticks since the opening */
+#define FEVER_RUN_SETTLED 7     /* 1 once the network has settled, else 0 */
+#define FEVER_RUN_GST 8         /* when it settled, else 0 */
+#define FEVER_RUN_HELD 9        /* the messages in the network */
+#define FEVER_RUN_CLOCKS 10     /* 64 clocks, by processor */
+#define FEVER_RUN_VIEWS 74      /* 64 views, by processor */
+#define FEVER_RUN_SENT 138      /* four words, by kind from 1 to 4: the messages posted since the opening */
+#define FEVER_RUN_DELIVERED 142 /* four words, by kind: those delivered */
+#define FEVER_RUN_WAITS 146     /* the sum of the times that these were in flight */
 
 /* ---- a setup: what a run is opened with */
 
-#define FEVER_SETUP_WORDS 69
+#define FEVER_SETUP_WORDS 70
 #define FEVER_SETUP_N 0
 #define FEVER_SETUP_DELTA 1
 #define FEVER_SETUP_GAMMA 2
 #define FEVER_SETUP_LIMIT 3
-#define FEVER_SETUP_FAULTY 4
-#define FEVER_SETUP_CLOCKS 5 /* 64 start clocks; those of faulty processors and from n on are not read */
+#define FEVER_SETUP_K 4      /* 2 to 8: V is a multiple of k, start clocks are below k slots, and a slot has two delays, for k = 2 four */
+#define FEVER_SETUP_FAULTY 5
+#define FEVER_SETUP_CLOCKS 6 /* 64 start clocks; those of faulty processors and from n on are not read */
+
+#define FEVER_VIEWS_PER_LEADER 3 /* k in the line of a setup that does not say it */
 
 /* ---- the two lent buffers
  *
@@ -90,15 +94,15 @@ extern "C" {
 #define FEVER_QC 4   /* a quorum certificate */
 
 /*
- * Opens a run. Answers 0, or the check that refuses: 1 where the setup has fewer than 69 words or the run fewer than 146, else 2
- * to 8. Opened: the run's 146 words are the new run's, the first 4V words of the tally and the whole network are set anew. Refused:
+ * Opens a run. Answers 0, or the check that refuses: 1 where the setup has fewer than 70 words or the run fewer than 147, else 2
+ * to 8. Opened: the run's 147 words are the new run's, the first 4V words of the tally and the whole network are set anew. Refused:
  * nothing has changed. The run at hand is not judged: its words may hold anything.
  */
 uint64_t fever_open(const uint64_t *setup, size_t setup_len, uint64_t *run, size_t run_len, uint64_t *tally, size_t tally_len,
                     uint64_t *network, size_t network_len);
 
 /*
- * Applies an event. Answers 0 where it was done, else a check: 1 where the run has fewer than 146 words, the four numbers are no
+ * Applies an event. Answers 0 where it was done, else a check: 1 where the run has fewer than 147 words, the four numbers are no
  * event, there are 0 ticks or the form lacks the kind; 9 where the run is unsound, a settled word above 1 among it; or 10 to 18.
  *
  * Ticks may be stopped after some of them were done: the answer is then the check that the next tick would meet, and the run has
@@ -129,7 +133,7 @@ uint64_t fever_apply(uint64_t *run, size_t run_len, uint64_t form, uint64_t kind
  * Up to three words behind the last whole event stay as they are. Whether the run is sound is looked at in full once a call, so
  * events together cost less than one by one.
  *
- * Answers 0; or 1 where the run has fewer than 146 words, 9 where the settled word is above 1, and nothing that was lent has
+ * Answers 0; or 1 where the run has fewer than 147 words, 9 where the settled word is above 1, and nothing that was lent has
  * changed, the words of the events included.
  */
 uint64_t fever_apply_all(uint64_t *run, size_t run_len, uint64_t *tally, size_t tally_len, uint64_t *network, size_t network_len,
@@ -155,26 +159,26 @@ uint64_t fever_apply_all(uint64_t *run, size_t run_len, uint64_t *tally, size_t 
 
 /*
  * Moves one processor: its record is lent and altered there. Answers 0, or the check that refuses: 1 where the record has fewer
- * than 4 words or the input is none of the three, else 9, 10, 11 or 17. `views` is the view limit. Which processors are faulty is
- * not known here: what it sends is for a leader faulty or not.
+ * than 4 words or the input is none of the three, else 9, 10, 11 or 17. `views` is the view limit, `k` the views per leader. Which
+ * processors are faulty is not known here: what it sends is for a leader faulty or not.
  */
-uint64_t fever_step(uint64_t n, uint64_t delta, uint64_t gamma, uint64_t views, uint64_t *processor, size_t processor_len,
-                    uint64_t input, uint64_t view);
+uint64_t fever_step(uint64_t n, uint64_t delta, uint64_t gamma, uint64_t views, uint64_t k, uint64_t *processor,
+                    size_t processor_len, uint64_t input, uint64_t view);
 
 /* ---- lines */
 
-#define FEVER_LINE_BYTES 1440 /* no line of an event or a setup has more bytes, its newline included */
+#define FEVER_LINE_BYTES 1461 /* no line of an event or a setup has more bytes, its newline included */
 
-#define FEVER_READING_WORDS 73
+#define FEVER_READING_WORDS 74
 #define FEVER_READING_FORM 0      /* 1 to 5 an event, 6 an opening */
 #define FEVER_READING_KIND 1      /* 0 where the form has none, and so for the next two */
 #define FEVER_READING_VIEW 2      /* of a tick: how many */
 #define FEVER_READING_PROCESSOR 3
-#define FEVER_READING_SETUP 4     /* the 69 words of an opening's setup, clocks from n on being 0; all 0 for an event */
+#define FEVER_READING_SETUP 4     /* the 70 words of an opening's setup, clocks from n on being 0; all 0 for an event */
 
 /*
- * Reads a line, handed in without its newline. Answers 0, and the line stands in the first 73 words; or 1 where it is none of the
- * forms or fewer than 73 words are lent, and nothing has changed.
+ * Reads a line, handed in without its newline. Answers 0, and the line stands in the first 74 words; or 1 where it is none of the
+ * forms or fewer than 74 words are lent, and nothing has changed. The line of a setup without k is read as one with 3 views per leader.
  */
 uint64_t fever_read_line(const uint8_t *line, size_t line_len, uint64_t *words, size_t words_len);
 
@@ -185,8 +189,8 @@ uint64_t fever_read_line(const uint8_t *line, size_t line_len, uint64_t *words, 
 uint64_t fever_write_event(uint64_t form, uint64_t kind, uint64_t view, uint64_t processor, uint8_t *out, size_t out_len);
 
 /*
- * Writes the line of a setup, newline included, with its first n clocks. Answers the bytes written; or 0 where the setup has fewer
- * than 69 words, n is 0 or above 64, or the bytes lent are too few, and no byte has changed. Bytes behind the newline are
+ * Writes the line of a setup, newline included, with k and its first n clocks. Answers the bytes written; or 0 where the setup has fewer
+ * than 70 words, n is 0 or above 64, or the bytes lent are too few, and no byte has changed. Bytes behind the newline are
  * untouched.
  */
 uint64_t fever_write_setup(const uint64_t *setup, size_t setup_len, uint8_t *out, size_t out_len);
@@ -209,7 +213,7 @@ uint64_t fever_write_setup(const uint64_t *setup, size_t setup_len, uint8_t *out
  * the last newline are untouched. Where the bytes are too few for the first line, the run is not opened: no byte is written, the load is
  * full, and a load begins anew by this call, with more of them.
  *
- * Answers 0; or 1 where the setup has fewer than 69 words, the run fewer than 146 or the load fewer than 6, else the check, 2 to 8, that
+ * Answers 0; or 1 where the setup has fewer than 70 words, the run fewer than 147 or the load fewer than 6, else the check, 2 to 8, that
  * refuses the opening; and then nothing that was lent has changed.
  */
 uint64_t fever_generate(const uint64_t *setup, size_t setup_len, uint64_t *run, size_t run_len, uint64_t *tally, size_t tally_len,
@@ -218,10 +222,10 @@ uint64_t fever_generate(const uint64_t *setup, size_t setup_len, uint64_t *run, 
 /*
  * Goes on with a load that is full and whose opening was written, with other bytes or the same: by its steps, settling step, seed and
  * step. The lines of the calls in turn are those of one call with bytes enough. Bytes are asked for before an event is tried, so the
- * line that had no room may turn out to be that of an event that a check refuses; and 1,440 bytes hold every line: a call that is
+ * line that had no room may turn out to be that of an event that a check refuses; and 1,461 bytes hold every line: a call that is
  * lent as many and writes none has ended the load.
  *
- * Answers 0; or 1 where the run has fewer than 146 words or the load fewer than 6; 9 where the run is unsound but for its time, a settled
+ * Answers 0; or 1 where the run has fewer than 147 words or the load fewer than 6; 9 where the run is unsound but for its time, a settled
  * word above 1 among it; and then nothing that was lent has changed.
  */
 uint64_t fever_generate_more(uint64_t *run, size_t run_len, uint64_t *tally, size_t tally_len, uint64_t *network, size_t network_len,
@@ -238,9 +242,9 @@ uint64_t fever_generate_more(uint64_t *run, size_t run_len, uint64_t *tally, siz
 
 /*
  * Tells the traffic of a run. Of a run that was opened here and moved by events only, sent is delivered plus held, kind by kind, and no
- * sum has wrapped. In a run handed in the sums, words 137 to 145, may hold anything: no check looks at them, and they wrap at 2^64.
+ * sum has wrapped. In a run handed in the sums, words 138 to 146, may hold anything: no check looks at them, and they wrap at 2^64.
  *
- * Answers 0, and the first 13 words are set; or 1 where the run has fewer than 146 words or fewer than 13 are lent for the report, 9
+ * Answers 0, and the first 13 words are set; or 1 where the run has fewer than 147 words or fewer than 13 are lent for the report, 9
  * where the run is unsound, a settled word above 1 among it; and then no word has changed.
  */
 uint64_t fever_traffic(const uint64_t *run, size_t run_len, const uint64_t *tally, size_t tally_len, const uint64_t *network,
@@ -254,7 +258,7 @@ uint64_t fever_traffic(const uint64_t *run, size_t run_len, const uint64_t *tall
  * target. The run and its tally go on with the target in the network's place; `fever_unpack` leads back to the same words, into a target
  * as long as the network was.
  *
- * Answers 0; or 1 where the run has fewer than 146 words; 6 where the target has fewer than 4n words, n being what the run says, more
+ * Answers 0; or 1 where the run has fewer than 147 words; 6 where the target has fewer than 4n words, n being what the run says, more
  * than 524,288, or too few for the messages that the run says are held; 9 where the run is unsound, a settled word above 1 among it, as
  * one with a network of four words a message, which needs 8n words; and then no word has changed.
  */

@@ -13,7 +13,7 @@
 //! ```
 //! use fever::{apply, apply_all, open, Answer, Event, Plan, Run, Setup};
 //!
-//! let plan = Plan { n: 4, delta: 2, gamma: 4, views: 6 };
+//! let plan = Plan { n: 4, delta: 2, gamma: 4, views: 6, k: 3 };
 //! let (mut run, mut tally, mut network) = (Run::unopened(), [0; 24], [0; 32]);
 //! let opened = open(&Setup::new(plan), &mut run, &mut tally, &mut network);
 //! assert_eq!(opened, Answer::Done { ticks: 0, held: 8 });

@@ -15,7 +15,8 @@ pub enum Line {
     Open(Setup),
 }
 
-/// Reads a line, without its newline; none where it is none of the forms, which is check 1.
+/// Reads a line, without its newline; none where it is none of the forms, which is check 1. An opening without the views per leader
+/// has [`Plan::VIEWS_PER_LEADER`](crate::Plan::VIEWS_PER_LEADER).
 pub fn read_line(line: &[u8]) -> Option<Line> {
     let mut words = [0; raw::READING_WORDS];
     if raw::read_line(line, &mut words) != 0 {
@@ -39,8 +40,8 @@ pub fn write_event(event: Event, out: &mut [u8]) -> Option<usize> {
     counted(raw::write_event(form, kind, view, processor, out))
 }
 
-/// Writes the line of a setup, newline included, with its first n clocks. Answers as [`write_event`] does; a setup has no form where
-/// n is 0 or above 64.
+/// Writes the line of a setup, newline included, with its views per leader and its first n clocks. Answers as [`write_event`] does; a
+/// setup has no form where n is 0 or above 64.
 pub fn write_setup(setup: &Setup, out: &mut [u8]) -> Option<usize> {
     counted(raw::write_setup(&setup.words(), out))
 }

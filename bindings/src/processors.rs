@@ -58,8 +58,9 @@ pub fn step(plan: Plan, processor: &mut Processor, input: Input) -> Stepped {
         delta,
         gamma,
         views,
+        k,
     } = plan;
-    match raw::step(n, delta, gamma, views, &mut words, input, view) {
+    match raw::step(n, delta, gamma, views, k, &mut words, input, view) {
         0 => {
             let [number, clock, view, sends] = words;
             *processor = Processor {

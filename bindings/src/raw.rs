@@ -2,39 +2,41 @@
 //! numbers.
 
 /// The words of a run; words behind them are never touched.
-pub const RUN_WORDS: usize = 146;
+pub const RUN_WORDS: usize = 147;
+/// The words of a plan, which a run and a setup begin with: n, Δ, Γ, V and k.
+pub const PLAN_WORDS: usize = 5;
 /// Where a run has its faulty processors, bit p for processor p.
-pub const RUN_FAULTY: usize = 4;
+pub const RUN_FAULTY: usize = 5;
 /// Where a run has the ticks since the opening.
-pub const RUN_TIME: usize = 5;
+pub const RUN_TIME: usize = 6;
 /// Where a run has 1 once the network has settled, else 0.
-pub const RUN_SETTLED: usize = 6;
+pub const RUN_SETTLED: usize = 7;
 /// Where a run has when it settled, else 0.
-pub const RUN_GST: usize = 7;
+pub const RUN_GST: usize = 8;
 /// Where a run has how many messages are in the network.
-pub const RUN_HELD: usize = 8;
+pub const RUN_HELD: usize = 9;
 /// Where a run has its 64 clocks, by processor.
-pub const RUN_CLOCKS: usize = 9;
+pub const RUN_CLOCKS: usize = 10;
 /// Where a run has its 64 views, by processor.
-pub const RUN_VIEWS: usize = 73;
+pub const RUN_VIEWS: usize = 74;
 /// Where a run has how many messages were posted since the opening: four words, by kind from 1 to 4.
-pub const RUN_SENT: usize = 137;
+pub const RUN_SENT: usize = 138;
 /// Where a run has how many were delivered: four words, by kind.
-pub const RUN_DELIVERED: usize = 141;
+pub const RUN_DELIVERED: usize = 142;
 /// Where a run has the sum of the times that these were in flight.
-pub const RUN_WAITS: usize = 145;
+pub const RUN_WAITS: usize = 146;
 /// The words of a setup.
-pub const SETUP_WORDS: usize = 69;
+pub const SETUP_WORDS: usize = 70;
 /// Where a setup has its faulty processors, bit p for processor p.
-pub const SETUP_FAULTY: usize = 4;
+pub const SETUP_FAULTY: usize = 5;
 /// Where a setup has its 64 start clocks.
-pub const SETUP_CLOCKS: usize = 5;
+pub const SETUP_CLOCKS: usize = 6;
 /// The words of an event in a list, and of the answer that takes their place.
 pub const EVENT_WORDS: usize = 4;
 /// The words of one processor's record.
 pub const PROCESSOR_WORDS: usize = 4;
 /// The words that a line is read into.
-pub const READING_WORDS: usize = 73;
+pub const READING_WORDS: usize = 74;
 /// The words of a load: steps, settling step, seed, the next step, bytes written, whether the bytes were too few.
 pub const LOAD_WORDS: usize = 6;
 /// The words of a report of a run's traffic: messages sent, delivered and held, four by kind each, and the sum of waits.
@@ -56,7 +58,7 @@ pub const KINDS: usize = 4;
 /// The clocks or views of a table.
 pub const TABLE: usize = 64;
 /// No line of an event or a setup has more bytes, its newline included.
-pub const LINE_BYTES: usize = 1440;
+pub const LINE_BYTES: usize = 1461;
 
 mod archive;
 
@@ -79,7 +81,7 @@ pub fn open(setup: &[u64], run: &mut [u64], tally: &mut [u64], network: &mut [u6
     }
 }
 
-/// `fever_apply`: 0, or the check that refused the event or ended its ticks. Ticks done are the time gained, run word 5.
+/// `fever_apply`: 0, or the check that refused the event or ended its ticks. Ticks done are the time gained, run word 6.
 pub fn apply(
     run: &mut [u64],
     form: u64,
@@ -130,11 +132,14 @@ pub fn apply_all(
 }
 
 /// `fever_step`: 0, or the check that refuses the input.
+// A plan's five numbers, the record and the input, as the archive takes them.
+#[allow(clippy::too_many_arguments)]
 pub fn step(
     n: u64,
     delta: u64,
     gamma: u64,
     views: u64,
+    k: u64,
     processor: &mut [u64],
     input: u64,
     view: u64,
@@ -146,6 +151,7 @@ pub fn step(
             delta,
             gamma,
             views,
+            k,
             processor.as_mut_ptr(),
             processor.len(),
             input,

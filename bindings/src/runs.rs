@@ -10,10 +10,23 @@ pub struct Plan {
     pub n: u64,
     /// The delay Δ, 1 to 1,000 ticks.
     pub delta: u64,
-    /// The slot Γ, 2Δ to 10,000 ticks.
+    /// The slot Γ, 2Δ to 10,000 ticks; for two views per leader at least 4Δ.
     pub gamma: u64,
-    /// The view limit V, 3 to 6,000 and a multiple of 3.
+    /// The view limit V, 3 to 6,000 and a multiple of the views per leader.
     pub views: u64,
+    /// The views per leader k, 2 to 8: a start clock is below kΓ, and every k-th view is initial. The line of a setup that does not say
+    /// it has [`Plan::VIEWS_PER_LEADER`].
+    pub k: u64,
+}
+
+impl Plan {
+    /// The views per leader of a line that does not say them.
+    pub const VIEWS_PER_LEADER: u64 = 3;
+
+    /// Its words, which those of a setup and of a run begin with: n, Δ, Γ, V, k.
+    pub fn words(&self) -> [u64; raw::PLAN_WORDS] {
+        [self.n, self.delta, self.gamma, self.views, self.k]
+    }
 }
 
 /// What a run is opened with.
@@ -37,12 +50,11 @@ impl Setup {
         }
     }
 
-    /// Its words: n, Δ, Γ, V, the faulty set, 64 clocks.
+    /// Its words: n, Δ, Γ, V, k, the faulty set, 64 clocks.
     pub fn words(&self) -> [u64; raw::SETUP_WORDS] {
         let mut words = [0; raw::SETUP_WORDS];
-        let plan = self.plan;
-        let front = [plan.n, plan.delta, plan.gamma, plan.views, self.faulty];
-        words[..raw::SETUP_CLOCKS].copy_from_slice(&front);
+        words[..raw::PLAN_WORDS].copy_from_slice(&self.plan.words());
+        words[raw::SETUP_FAULTY] = self.faulty;
         words[raw::SETUP_CLOCKS..].copy_from_slice(&self.clocks);
         words
     }
@@ -66,10 +78,11 @@ fn plan_in(words: &[u64]) -> Plan {
         delta: words[1],
         gamma: words[2],
         views: words[3],
+        k: words[4],
     }
 }
 
-/// The execution so far, without the lent buffers, as the archive's 146 words.
+/// The execution so far, without the lent buffers, as the archive's 147 words.
 #[derive(Clone, Debug, PartialEq, Eq, Hash)]
 pub struct Run([u64; raw::RUN_WORDS]);
 

@@ -18,6 +18,7 @@ const PLAN: Plan = Plan {
     delta: 2,
     gamma: 4,
     views: 6,
+    k: 3,
 };
 
 /// A run with its buffers.
@@ -145,6 +146,39 @@ fn opens_the_settings() {
 }
 
 #[test]
+fn opens_by_the_views_per_leader() {
+    let opened = |k, gamma, views, clock| {
+        let plan = Plan {
+            gamma,
+            views,
+            k,
+            ..PLAN
+        };
+        let clocks = [clock; raw::TABLE];
+        match Simulator::new().open(&Setup {
+            plan,
+            faulty: 0,
+            clocks,
+        }) {
+            Answer::Refused(check) => check,
+            _ => 0,
+        }
+    };
+    // A slot of 4Δ for two views per leader, of 2Δ for any other number of them, which only then is judged.
+    assert_eq!([7, 8].map(|gamma| opened(2, gamma, 6, 0)), [3, 0]);
+    for k in [0, 1, 9, u64::MAX] {
+        assert_eq!([3, 4].map(|gamma| opened(k, gamma, 9, 0)), [3, 4], "{k}");
+    }
+    for k in 3..=8 {
+        assert_eq!([3, 4].map(|gamma| opened(k, gamma, 840, 0)), [3, 0], "{k}");
+        assert_eq!(opened(k, 4, 841, 0), 4);
+        let clocks = [4 * k - 1, 4 * k];
+        assert_eq!(clocks.map(|clock| opened(k, 4, 840, clock)), [0, 7], "{k}");
+    }
+    assert_eq!(opened(4, 4, 6, 0), 4);
+}
+
+#[test]
 fn ticks_into_an_initial_view() {
     let mut simulator = Simulator::opened(&setup(&[11, 11, 11, 11], 0));
     let answer = simulator.apply(Event::Tick(1));
@@ -199,6 +233,16 @@ fn steps_the_settings() {
             (processor, Stepped::Refused(check))
         );
     }
+    let two = Plan {
+        gamma: 8,
+        k: 2,
+        ..PLAN
+    };
+    let mut shorter = at(15, 0);
+    let answer = step(two, &mut shorter, Input::Tick);
+    assert_eq!((shorter, answer), (at(16, 2), sent(Sends::ViewAndVote(2))));
+    let answer = step(two, &mut shorter, Input::Vc(3));
+    assert_eq!((shorter, answer), (at(16, 2), Stepped::Refused(11)));
     let stranger = Processor {
         number: 4,
         ..at(2, 0)

@@ -6,6 +6,7 @@ use crate::counts::Counts;
 use crate::damage;
 use crate::difference::{first_line, Difference};
 use crate::draws::Draws;
+use crate::openings;
 use crate::pending;
 use crate::readers::{compare_one, compare_report, shown_by, Readers};
 use crate::report;
@@ -93,16 +94,19 @@ fn inputs(draws: &mut Draws, round: u64) -> Vec<Trace> {
         schedules::drawn(&mut trace, draws);
         end_at_times(&mut inputs, &mut trace, draws);
     }
-    let n = draws.one_of(&[4, 4, 5, 6, 7, 8, 10, 13]);
-    schedules::patient(&mut trace, draws, n);
-    end_at_times(&mut inputs, &mut trace, draws);
+    // Each number of views per leader in turn, two of them a round.
+    for k in [2 + round % 7, 2 + (round + 3) % 7] {
+        let n = draws.one_of(&[4, 4, 5, 6, 7, 8, 10, 13]);
+        schedules::patient(&mut trace, draws, n, k);
+        end_at_times(&mut inputs, &mut trace, draws);
+    }
     if round.is_multiple_of(4) {
         schedules::crowded(&mut trace, draws);
         end_at_times(&mut inputs, &mut trace, draws);
     }
     if round.is_multiple_of(10) {
-        let n = draws.one_of(&[16, 31, 64]);
-        schedules::patient(&mut trace, draws, n);
+        let (n, k) = (draws.one_of(&[16, 31, 64]), openings::per_leader(draws));
+        schedules::patient(&mut trace, draws, n, k);
     }
     end(&mut trace, draws);
     inputs.push(trace);

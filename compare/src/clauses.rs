@@ -8,7 +8,7 @@ use reference::{Plan, Run};
 /// A clause of check 9, or the library's own about the settled word.
 #[derive(Clone, Copy, PartialEq, Eq, Debug)]
 pub enum Clause {
-    /// A limit of 2 to 5.
+    /// A limit of 2 to 5, whatever the views per leader are.
     Plan = 0,
     /// The tally's words, of which 6 speaks.
     Tally = 1,
@@ -40,10 +40,12 @@ pub enum Clause {
     Beyond = 14,
     /// A word at the end that no whole message can use.
     Odd = 15,
+    /// A limit that follows the views per leader, or theirs.
+    Turns = 16,
 }
 
 /// What each of them is called.
-pub const CLAUSES: [&str; 16] = [
+pub const CLAUSES: [&str; 17] = [
     "a limit of 2 to 5",
     "a tally too short",
     "a network too short",
@@ -60,6 +62,7 @@ pub const CLAUSES: [&str; 16] = [
     "a sending time",
     "a word beyond the last message",
     "a word that no message can use",
+    "the views per leader",
 ];
 
 /// The clauses that a run's words break, with a tally of so many words. Of a
@@ -71,11 +74,13 @@ pub fn broken(width: Width, words: &[u64], tally: usize, network: &[u64]) -> Vec
     let length = network.len() as u128;
     let limit = u128::from(views) * u128::from(run.plan.gamma);
     let is_settled = words[SETTLED] > 0;
-    let planned = plan_holds(&run);
+    let (limited, turned) = (plan_holds(&run), turns_hold(run.plan));
+    let planned = limited && turned;
     let fits = u128::from(run.held) * width.words() as u128 <= length;
     let mut found = Vec::new();
     for (clause, breaks) in [
-        (Clause::Plan, !planned),
+        (Clause::Plan, !limited),
+        (Clause::Turns, !turned),
         (Clause::Tally, (tally as u128) < 4 * u128::from(views)),
         (
             Clause::Short,
@@ -101,32 +106,48 @@ pub fn broken(width: Width, words: &[u64], tally: usize, network: &[u64]) -> Vec
     found
 }
 
-/// Checks 2 to 5.
+/// Checks 2 to 5, but for what follows the views per leader.
 fn plan_holds(run: &Run) -> bool {
     let Plan {
         n,
         delta,
         gamma,
         views,
+        ..
     } = run.plan;
     (4..=64).contains(&n)
         && (1..=1_000).contains(&delta)
         && (2 * delta..=10_000).contains(&gamma)
         && (3..=6_000).contains(&views)
-        && views % 3 == 0
         && (n == 64 || run.faulty >> n == 0)
         && u64::from(run.faulty.count_ones()) <= (n - 1) / 3
+}
+
+/// What of checks 3 and 4 follows the views per leader.
+const fn turns_hold(plan: Plan) -> bool {
+    let Plan {
+        delta,
+        gamma,
+        views,
+        k,
+        ..
+    } = plan;
+    match k {
+        2 => gamma as u128 >= 4 * delta as u128 && views % 2 == 0,
+        3..=8 => views % k == 0,
+        _ => false,
+    }
 }
 
 /// Whether every correct clock is below the limit, not below its view's clock
 /// time and below that of the next initial view.
 fn clocks_hold(run: &Run) -> bool {
-    let gamma = u128::from(run.plan.gamma);
+    let (gamma, k) = (u128::from(run.plan.gamma), u128::from(run.plan.k));
     let correct = (0..run.plan.n).filter(|number| run.faulty >> number & 1 == 0);
     correct.into_iter().all(|number| {
         let clock = u128::from(run.clocks[number as usize]);
         let view = u128::from(run.views[number as usize]);
-        let next = (view / 3 + 1) * 3;
+        let next = (view / k + 1) * k;
         let limit = u128::from(run.plan.views) * gamma;
         clock < limit && clock >= view * gamma && clock < next * gamma
     })
@@ -166,7 +187,7 @@ fn message_breaks(run: &Run, [kind, view, processor, sent]: Fields) -> Vec<Claus
             found.push(clause);
         }
     }
-    let leader = view / 3 % run.plan.n;
+    let leader = view / run.plan.k % run.plan.n;
     let to = if kind < 3 { leader } else { processor };
     if found.is_empty() && run.faulty >> to & 1 == 1 {
         found.push(Clause::Addressee);
@@ -195,6 +216,7 @@ mod tests {
             "a settled word above 1"
         );
         assert_eq!(CLAUSES[Clause::Kind as usize], "a kind");
+        assert_eq!(CLAUSES[Clause::Turns as usize], "the views per leader");
     }
 
     #[test]

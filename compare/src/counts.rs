@@ -3,6 +3,7 @@
 use crate::carry_counts::Carried;
 use crate::load_counts::Loads;
 use crate::traffic_counts::TrafficCounts;
+use crate::turn_counts::Turns;
 use reference::Answer;
 use std::fmt::{self, Display, Formatter};
 
@@ -36,6 +37,8 @@ pub struct Counts {
     pub traffic: TrafficCounts,
     /// The runs carried over from one form of network to the other.
     pub carried: Carried,
+    /// What follows the views per leader.
+    pub turns: Turns,
 }
 
 /// Counts of calls that apply events together.
@@ -141,6 +144,7 @@ impl Counts {
         self.loads.add(&other.loads);
         self.traffic.add(&other.traffic);
         self.carried.add(&other.carried);
+        self.turns.add(&other.turns);
     }
 
     /// The checks from 1 to 18 that were met less often.
@@ -216,7 +220,7 @@ impl Display for Counts {
         if !self.loads.is_empty() {
             write!(out, "  {}", self.loads)?;
         }
-        write!(out, "{}{}", self.traffic, self.carried)
+        write!(out, "{}{}{}", self.turns, self.traffic, self.carried)
     }
 }
 
@@ -229,9 +233,14 @@ pub(crate) fn add_by_check(times: &mut [u64; 19], more: &[u64; 19]) {
 
 /// Those that are not 0.
 pub(crate) fn by_check(times: &[u64; 19]) -> String {
+    by_number(times)
+}
+
+/// Those that are not 0, each with its place.
+pub(crate) fn by_number(times: &[u64]) -> String {
     let some = times.iter().enumerate().filter(|(_, &times)| times > 0);
     let told: Vec<String> = some
-        .map(|(check, times)| format!("{check}: {times}"))
+        .map(|(number, times)| format!("{number}: {times}"))
         .collect();
     told.join(", ")
 }

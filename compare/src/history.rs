@@ -158,6 +158,7 @@ mod tests {
             delta: 2,
             gamma: 4,
             views: 6,
+            k: 3,
         };
         let (faulty, clocks) = (0, [0; 64]);
         let setup = Setup {

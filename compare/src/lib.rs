@@ -53,5 +53,6 @@ pub mod summary;
 pub mod text;
 pub mod trace;
 pub mod traffic_counts;
+pub mod turn_counts;
 pub mod wild;
 pub mod words;

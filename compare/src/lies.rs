@@ -47,9 +47,10 @@ fn views_at_hand(scene: Scene) -> Vec<u64> {
     let (Some(lowest), Some(highest)) = (present().min(), present().max()) else {
         return Vec::new();
     };
-    let last = scene.run.plan.views - 1;
-    let mut views: Vec<u64> = (highest.saturating_sub(5)..=highest + 4).collect();
-    views.extend(lowest.saturating_sub(1)..=lowest + 4);
+    // A turn ahead and behind, so that an initial view is among them.
+    let (last, turn) = (scene.run.plan.views - 1, scene.run.plan.k);
+    let mut views: Vec<u64> = (highest.saturating_sub(turn + 2)..=highest + turn + 1).collect();
+    views.extend(lowest.saturating_sub(1)..=lowest + turn + 1);
     views.retain(|&view| view <= last);
     views.sort_unstable();
     views.dedup();
@@ -132,6 +133,7 @@ mod tests {
             delta: 2,
             gamma: 4,
             views: 6,
+            k: 3,
         };
         let setup = Setup {
             plan,

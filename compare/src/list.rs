@@ -85,6 +85,7 @@ impl List {
         if !self.due && watch.ticks_since_settling() > watch.patience() {
             self.due = true;
             counts.due += 1;
+            counts.turns.due(scene.run.plan);
         }
         kept
     }

@@ -103,7 +103,7 @@ impl Scene<'_> {
     /// The ticks until the first correct clock comes to the clock time of an
     /// initial view.
     pub fn ticks_to_entry(&self) -> u64 {
-        let round = self.run.plan.gamma.saturating_mul(3).max(1);
+        let round = self.run.plan.round().max(1);
         self.correct()
             .map(|number| round - self.run.clocks[number as usize] % round)
             .min()
@@ -164,6 +164,7 @@ mod tests {
                 delta: 2,
                 gamma: 4,
                 views: 6,
+                k: 3,
             },
             faulty: 8,
             clocks: [0; 64],

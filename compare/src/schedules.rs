@@ -5,13 +5,16 @@ use crate::damage;
 use crate::draws::Draws;
 use crate::lies::Lies;
 use crate::openings;
-use crate::text;
+use crate::text::{self, Heading};
 use crate::trace::Trace;
 use crate::wild;
-use reference::{Answer, Event, Plan};
+use reference::{Answer, Event, Plan, Setup};
 
 /// The views that the program's lent words are enough for.
 const MOST_VIEWS: u64 = 900;
+
+/// Numbers before the clocks that no opening has.
+pub const NO_HEADINGS: [Heading; 2] = [Heading::Four, Heading::Seven];
 
 /// The refusals in a row after which a play is given up: a network so full
 /// that every delivery would send too much refuses on and on.
@@ -24,24 +27,31 @@ pub fn drawn(trace: &mut Trace, draws: &mut Draws) {
         disturb(trace, draws);
     }
     let setup = openings::accepted(draws, MOST_VIEWS);
-    trace.opening(&setup);
+    open(trace, draws, &setup);
     let style = Style::drawn(draws, setup.plan.n, setup.faulty);
     let lines = draws.one_of(&[40, 150, 400, 400, 900]);
     play(trace, draws, &style, disturbed, lines);
 }
 
+/// Adds the line of an opening, with k or without.
+fn open(trace: &mut Trace, draws: &mut Draws, setup: &Setup) {
+    let heading = openings::heading(setup, draws);
+    trace.opening(heading, setup);
+}
+
 /// Adds a schedule whose delays are the longest legal ones from the settling
-/// on, and that lasts until demand 3 is due whole.
-pub fn patient(trace: &mut Trace, draws: &mut Draws, n: u64) {
+/// on, and that lasts until demand 3 is due whole; with k views per leader.
+pub fn patient(trace: &mut Trace, draws: &mut Draws, n: u64, k: u64) {
     let (delta, gamma) = draws.one_of(&[(1, 2), (2, 4), (2, 5), (5, 10), (3, 10)]);
     let plan = Plan {
         n,
         delta,
         gamma,
         views: MOST_VIEWS,
+        k,
     };
-    let setup = openings::accepted_of(draws, plan);
-    trace.opening(&setup);
+    let setup = openings::accepted_of(draws, openings::with_turns(plan, k));
+    open(trace, draws, &setup);
     let favourite = adversary::correct(draws, n, setup.faulty);
     let style = Style {
         order: draws.one_of(&[Order::Last, Order::Last, Order::Starve(favourite)]),
@@ -53,7 +63,7 @@ pub fn patient(trace: &mut Trace, draws: &mut Draws, n: u64) {
             Lies::Any,
         ]),
         lying: draws.one_of(&[20, 100]),
-        settling: draws.one_of(&[Settling::First, Settling::At(3 * gamma)]),
+        settling: draws.one_of(&[Settling::First, Settling::At(k * gamma)]),
         pace: draws.one_of(&[Pace::One, Pace::Edge, Pace::UpTo(2 * delta)]),
     };
     let (lists, due) = (trace.counts().lists, trace.counts().due);
@@ -127,7 +137,7 @@ pub fn disturb(trace: &mut Trace, draws: &mut Draws) {
         14 | 15 => damage_opening(trace, draws),
         16 | 17 => {
             let setup = openings::refused(draws, MOST_VIEWS);
-            trace.opening(&setup);
+            open(trace, draws, &setup);
         }
         18 if draws.per_mille(200) => {
             let line = damage::long(draws);
@@ -156,14 +166,21 @@ fn damage_event(trace: &mut Trace, draws: &mut Draws, plan: Plan) {
     trace.line(&line);
 }
 
-/// A damaged line of an opening, or one with a wrong number of clocks.
+/// A damaged line of an opening, or one with a wrong number of clocks or of
+/// numbers before them.
 fn damage_opening(trace: &mut Trace, draws: &mut Draws) {
     let setup = openings::accepted(draws, MOST_VIEWS);
     let n = setup.plan.n as usize;
-    let line = match draws.below(4) {
-        0 => text::opening(&setup, draws.one_of(&[0, 1, n - 1, n + 1, 64, 65, 2 * n])),
-        1 => damage::huge(&text::opening(&setup, n), draws),
-        _ => damage::damaged(&text::opening(&setup, n), draws),
+    let heading = openings::heading(&setup, draws);
+    let line = text::headed(heading, &setup, n);
+    let line = match draws.below(5) {
+        0 => {
+            let clocks = draws.one_of(&[0, 1, n - 1, n + 1, 64, 65, 2 * n]);
+            text::headed(heading, &setup, clocks)
+        }
+        1 => damage::huge(&line, draws),
+        2 => text::headed(draws.one_of(&NO_HEADINGS), &setup, n),
+        _ => damage::damaged(&line, draws),
     };
     trace.line(&line);
 }
@@ -176,9 +193,11 @@ pub fn crowded(trace: &mut Trace, draws: &mut Draws) {
         delta: 1,
         gamma: draws.one_of(&[2, 9]),
         views: 300,
+        k: Plan::VIEWS_PER_LEADER,
     };
+    let plan = openings::with_turns(plan, openings::per_leader(draws));
     let setup = openings::accepted_of(draws, plan);
-    trace.opening(&setup);
+    open(trace, draws, &setup);
     let mut style = Style {
         order: Order::Never,
         deliveries: 1_000,
@@ -205,6 +224,7 @@ pub fn steady(n: u64, lines: u64) -> Trace {
         delta: 4,
         gamma: 16,
         views: MOST_VIEWS,
+        k: Plan::VIEWS_PER_LEADER,
     };
     let style = Style {
         order: Order::Any,
@@ -219,7 +239,7 @@ pub fn steady(n: u64, lines: u64) -> Trace {
         if u64::from(setup.faulty.count_ones()) < plan.tolerance() {
             continue;
         }
-        trace.opening(&setup);
+        trace.opening(Heading::Six, &setup);
         play(&mut trace, &mut draws, &style, 0, lines);
     }
     trace
@@ -248,10 +268,11 @@ mod tests {
     fn patient_ones_come_under_the_second_sentence() {
         let mut trace = Trace::new();
         let mut draws = Draws::new(12);
-        for n in [4, 5, 7, 10, 16, 64] {
-            patient(&mut trace, &mut draws, n);
+        for (n, k) in [4, 5, 7, 10, 16, 64, 4].into_iter().zip(2..) {
+            patient(&mut trace, &mut draws, n, k);
         }
-        assert_eq!(trace.counts().due, 6);
+        assert_eq!(trace.counts().due, 7);
+        assert_eq!(trace.counts().turns.due[2..], [1; 7]);
         assert!(trace.complaint().is_none());
     }
 

@@ -8,7 +8,8 @@ use std::fmt::{self, Display, Formatter};
 const LEAST_EVENTS: u64 = 200_000;
 /// How often it meets each check on each way, and how often 16, 17 and 18 each
 /// end ticks there, at least; and all that is counted of events together, of
-/// loads, of traffic, of runs carried over and of the search for newlines.
+/// loads, of traffic, of runs carried over, of views per leader and of the
+/// search for newlines.
 const LEAST_MET: u64 = 5;
 
 /// What a comparison met.
@@ -48,8 +49,9 @@ impl Summary {
     /// What is missing of a comparison that says something: enough events,
     /// every check met on both ways and by events together, and every one that
     /// ends ticks; all that is counted of calls for events together and for
-    /// loads, of traffic, of runs carried over and of the search for newlines;
-    /// reports of loads; demand 3 due whole as often as there are rounds.
+    /// loads, of traffic, of runs carried over, of views per leader and of the
+    /// search for newlines; reports of loads; demand 3 due whole as often as
+    /// there are rounds.
     pub fn missing(&self) -> Option<String> {
         let alone = |counts: &Counts| counts.together.calls == 0 && counts.loads.is_empty();
         let library = self.library(alone);
@@ -85,12 +87,13 @@ impl Summary {
     }
 
     /// What was met less often of all that is counted of loads, of traffic, of
-    /// runs carried over and of the search for newlines.
+    /// runs carried over, of views per leader and of the search for newlines.
     fn counted_too_little(&self) -> Option<String> {
         let (program, generator) = (&self.program.traffic, &self.generator);
         let loads = self.library(|counts| !counts.loads.is_empty()).loads;
         let all = self.library(|_| true);
-        let (library, carried) = (all.traffic, all.carried);
+        let (library, carried, turns) = (all.traffic, all.carried, all.turns);
+        let of_program = self.program.turns.program_lacks(LEAST_MET);
         let parts = [
             ("search for newlines", self.search.lacks(LEAST_MET)),
             (
@@ -105,6 +108,12 @@ impl Summary {
             ("traffic of the program", program.program_lacks(LEAST_MET)),
             ("traffic of the library", library.library_lacks(LEAST_MET)),
             ("runs carried over", carried.lacks(LEAST_MET)),
+            ("views per leader, program", of_program),
+            (
+                "views per leader, loads of the program",
+                generator.turns.loads_lack(LEAST_MET),
+            ),
+            ("views per leader, library", turns.library_lacks(LEAST_MET)),
         ];
         let mut parts = parts.into_iter();
         parts.find_map(|(part, few)| few.map(|few| format!("{part}, {few}")))
@@ -136,6 +145,7 @@ mod tests {
     use crate::counts::Together;
     use crate::load_counts::Loads;
     use crate::traffic_counts::TrafficCounts;
+    use crate::turn_counts::Turns;
 
     /// A comparison of which each count is just enough.
     fn enough() -> Summary {
@@ -147,10 +157,12 @@ mod tests {
         program.stopped[16..].fill(LEAST_MET);
         program.due = 1;
         program.traffic = TrafficCounts::met_everywhere(LEAST_MET);
+        program.turns = Turns::met_everywhere(LEAST_MET);
         let mut together = program.clone();
         together.events = 0;
         together.met[2..=8].fill(0);
         together.traffic = TrafficCounts::default();
+        together.turns = Turns::default();
         together.together = Together {
             calls: 1,
             refused: [LEAST_MET; 19],
@@ -173,6 +185,7 @@ mod tests {
             ("carried", carried),
         ];
         loads.traffic = TrafficCounts::met_everywhere(LEAST_MET);
+        loads.turns = Turns::met_everywhere(LEAST_MET);
         program.due = 3;
         program.events = LEAST_EVENTS;
         Summary {
@@ -221,6 +234,18 @@ mod tests {
         lacks(spoil, "traffic of the library, 0 calls in which waits");
         let spoil = |summary: &mut Summary| summary.library[0].1.traffic.bound_met = 0;
         lacks(spoil, "traffic of the library, 0 views with 2n");
+    }
+
+    #[test]
+    fn too_little_of_views_per_leader_is_told() {
+        let spoil = |summary: &mut Summary| summary.program.turns.opened[7] = 1;
+        lacks(spoil, "views per leader, program, 1 openings with 7");
+        let spoil = |summary: &mut Summary| summary.program.turns.due_at_edge = 0;
+        lacks(spoil, "program, 0 due with just four delays");
+        let spoil = |summary: &mut Summary| summary.generator.turns.lines[1] = 0;
+        lacks(spoil, "loads of the program, 0 lines taken without k");
+        let spoil = |summary: &mut Summary| summary.library[0].1.turns.unsound = 0;
+        lacks(spoil, "views per leader, library, 0 runs unsound for them");
     }
 
     #[test]

@@ -5,7 +5,7 @@ use crate::counts::Counts;
 use crate::list::List;
 use crate::reference_calls::guarded;
 use crate::scene::Scene;
-use crate::text;
+use crate::text::{self, Heading};
 use reference::{apply, open, read_line, Answer, Event, Reading, Run, Setup};
 use reference::{Traffic, NETWORK_WORDS, TALLY_WORDS};
 use std::ops::Range;
@@ -106,9 +106,9 @@ impl Trace {
         self.line(&text::event(event))
     }
 
-    /// Adds the line of an opening, and answers it.
-    pub fn opening(&mut self, setup: &Setup) -> Answer {
-        self.line(&text::opening(setup, setup.plan.n as usize))
+    /// Adds the line of an opening with such a heading, and answers it.
+    pub fn opening(&mut self, heading: Heading, setup: &Setup) -> Answer {
+        self.line(&text::headed(heading, setup, setup.plan.n as usize))
     }
 
     /// Adds bytes and a newline, and answers the last line among them.
@@ -120,6 +120,8 @@ impl Trace {
             self.text.push(b'\n');
             last = guarded(|| self.answer(line, start)).unwrap_or_else(|| self.give_up());
             self.counts.answer(&last);
+            let taken = !matches!(last, Answer::Refused(_));
+            self.counts.turns.line(line, taken);
         }
         last
     }
@@ -144,7 +146,12 @@ impl Trace {
     fn answer_opening(&mut self, setup: &Setup, start: usize) -> Answer {
         self.counts.openings += 1;
         let answer = open(setup, &mut self.run, &mut self.tally, &mut self.network);
-        if let Answer::Done { .. } = answer {
+        let check = match answer {
+            Answer::Refused(check) => check,
+            _ => 0,
+        };
+        self.counts.turns.opening(setup, check);
+        if check == 0 {
             let (list, kept) = List::opened(self.scene());
             self.list = Some(list);
             self.opening = start;

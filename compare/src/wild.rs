@@ -5,6 +5,14 @@ use crate::draws::Draws;
 use crate::scene::Scene;
 use reference::{Event, Message, Plan};
 
+/// The initial view at or below a view; the view itself, if k is 0.
+pub const fn initial(plan: Plan, view: u64) -> u64 {
+    match view.checked_rem(plan.k) {
+        Some(into) => view - into,
+        None => view,
+    }
+}
+
 /// A view at or near an edge of a plan.
 pub fn view(plan: Plan, draws: &mut Draws) -> u64 {
     let inside = draws.below(plan.views);
@@ -12,13 +20,13 @@ pub fn view(plan: Plan, draws: &mut Draws) -> u64 {
     let last = plan.views.wrapping_sub(1);
     draws.one_of(&[
         0,
-        3,
+        plan.k,
         inside,
         inside,
-        inside / 3 * 3,
+        initial(plan, inside),
         last,
         plan.views,
-        plan.views.wrapping_add(3),
+        plan.views.wrapping_add(plan.k),
         any,
     ])
 }

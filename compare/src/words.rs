@@ -2,12 +2,12 @@
 
 use reference::{ByKind, Event, Load, Message, Piece, Plan, Run, Setup, Sums, Traffic};
 
-/// The words of a run: n, delta, gamma, views, faulty, time, settled, gst,
+/// The words of a run: n, delta, gamma, views, k, faulty, time, settled, gst,
 /// held, 64 clocks, 64 views, four numbers of messages sent and four of those
 /// delivered, by kind, and the sum of waits.
-pub const RUN_WORDS: usize = 146;
-/// The words of a setup: n, delta, gamma, views, faulty and 64 clocks.
-pub const SETUP_WORDS: usize = 69;
+pub const RUN_WORDS: usize = 147;
+/// The words of a setup: n, delta, gamma, views, k, faulty and 64 clocks.
+pub const SETUP_WORDS: usize = 70;
 /// The words of a line read: an event's four numbers and a setup.
 pub const READ_WORDS: usize = 4 + SETUP_WORDS;
 /// The words of a load: steps, settling step, seed, the next step, the bytes
@@ -28,24 +28,30 @@ pub const STEP: usize = 3;
 pub const BYTES: usize = 4;
 /// Where a load keeps whether the bytes were too few.
 pub const FULL: usize = 5;
-/// Where a run keeps its faulty processors.
-pub const FAULTY: usize = 4;
+/// Where a run and a setup keep the views per leader.
+pub const PER_LEADER: usize = 4;
+/// Where a run and a setup keep the faulty processors.
+pub const FAULTY: usize = 5;
+/// Where a setup keeps its first start clock.
+pub const START: usize = 6;
 /// Where a run keeps its time.
-pub const TIME: usize = 5;
+pub const TIME: usize = 6;
 /// Where a run keeps whether it has settled.
-pub const SETTLED: usize = 6;
+pub const SETTLED: usize = 7;
+/// Where a run keeps when it settled.
+pub const GST: usize = 8;
 /// Where a run keeps how many messages are held.
-pub const HELD: usize = 8;
+pub const HELD: usize = 9;
 /// Where a run keeps its first clock.
-pub const CLOCKS: usize = 9;
+pub const CLOCKS: usize = 10;
 /// Where a run keeps its first view.
-pub const VIEWS: usize = 73;
+pub const VIEWS: usize = 74;
 /// Where a run keeps how many messages were sent, by kind.
-pub const SENT: usize = 137;
+pub const SENT: usize = 138;
 /// Where a run keeps how many messages were delivered, by kind.
-pub const DELIVERED: usize = 141;
+pub const DELIVERED: usize = 142;
 /// Where a run keeps the sum of waits.
-pub const WAITS: usize = 145;
+pub const WAITS: usize = 146;
 /// The form number of ticks.
 pub const TICK: u64 = 5;
 /// The form number of an opening that was read.
@@ -61,7 +67,20 @@ fn plan_of(words: &[u64]) -> Plan {
         delta: words[1],
         gamma: words[2],
         views: words[3],
+        k: words[PER_LEADER],
     }
+}
+
+/// The words of a plan.
+const fn plan_words(plan: Plan) -> [u64; FAULTY] {
+    let Plan {
+        n,
+        delta,
+        gamma,
+        views,
+        k,
+    } = plan;
+    [n, delta, gamma, views, k]
 }
 
 /// 64 words from a place on.
@@ -91,11 +110,11 @@ pub fn sums_of(words: &[u64]) -> Sums {
 pub fn run_of(words: &[u64]) -> Run {
     Run {
         plan: plan_of(words),
-        faulty: words[4],
-        time: words[5],
+        faulty: words[FAULTY],
+        time: words[TIME],
         settled: words[SETTLED] != 0,
-        gst: words[7],
-        held: words[8],
+        gst: words[GST],
+        held: words[HELD],
         clocks: table(words, CLOCKS),
         views: table(words, VIEWS),
         sums: sums_of(words),
@@ -104,13 +123,10 @@ pub fn run_of(words: &[u64]) -> Run {
 
 /// Writes a run over the first of these words.
 pub fn put_run(run: &Run, words: &mut [u64]) {
-    let plan = run.plan;
     let settled = u64::from(run.settled);
-    let front = [
-        plan.n, plan.delta, plan.gamma, plan.views, run.faulty, run.time, settled, run.gst,
-        run.held,
-    ];
-    words[..CLOCKS].copy_from_slice(&front);
+    let front = [run.faulty, run.time, settled, run.gst, run.held];
+    words[..FAULTY].copy_from_slice(&plan_words(run.plan));
+    words[FAULTY..CLOCKS].copy_from_slice(&front);
     words[CLOCKS..VIEWS].copy_from_slice(&run.clocks);
     words[VIEWS..SENT].copy_from_slice(&run.views);
     put_sums(&run.sums, words);
@@ -147,17 +163,17 @@ pub fn traffic_of(words: &[u64]) -> Traffic {
 pub fn setup_of(words: &[u64]) -> Setup {
     Setup {
         plan: plan_of(words),
-        faulty: words[4],
-        clocks: table(words, 5),
+        faulty: words[FAULTY],
+        clocks: table(words, START),
     }
 }
 
 /// The words of a setup.
 pub fn setup_words(setup: &Setup) -> [u64; SETUP_WORDS] {
-    let plan = setup.plan;
     let mut words = [0; SETUP_WORDS];
-    words[..5].copy_from_slice(&[plan.n, plan.delta, plan.gamma, plan.views, setup.faulty]);
-    words[5..].copy_from_slice(&setup.clocks);
+    words[..FAULTY].copy_from_slice(&plan_words(setup.plan));
+    words[FAULTY] = setup.faulty;
+    words[START..].copy_from_slice(&setup.clocks);
     words
 }
 
@@ -223,7 +239,7 @@ mod tests {
     #[test]
     fn words_and_back() {
         let words: Vec<u64> = (0..RUN_WORDS as u64)
-            .map(|word| if word == 6 { 1 } else { 1_000 + word })
+            .map(|word| if word == 7 { 1 } else { 1_000 + word })
             .collect();
         let mut again = vec![0; RUN_WORDS];
         put_run(&run_of(&words), &mut again);
@@ -241,7 +257,7 @@ mod tests {
         let held = [1, 2, 3, 4];
         let report = traffic_words(&Traffic { sums, held });
         assert_eq!(report[..8], words[SENT..WAITS]);
-        assert_eq!(report[8..], [1, 2, 3, 4, 145]);
+        assert_eq!(report[8..], [1, 2, 3, 4, 146]);
         assert_eq!(traffic_of(&report), Traffic { sums, held });
     }
 

@@ -6,16 +6,16 @@
 pub const NO_FORM: u64 = 1;
 /// "n is outside 4 to 64."
 pub const PROCESSORS: u64 = 2;
-/// "`delta` or `gamma` is outside its range."
+/// "`delta` or `gamma` is outside its range", which for `gamma` follows k.
 pub const DELAY_OR_SLOT: u64 = 3;
-/// "`views` is outside its range or no multiple of 3."
+/// k or `views` is outside its range, or `views` no multiple of k.
 pub const VIEW_LIMIT: u64 = 4;
 /// "`faulty` has a bit at n or above, or more than t ones."
 pub const TOO_FAULTY: u64 = 5;
 /// "The tally has fewer than 4 times `views` words, or the network fewer than"
 /// 4n "or more than 524,288."
 pub const BUFFERS: u64 = 6;
-/// "A correct start clock is 3 times `gamma` or more."
+/// A correct start clock is k times `gamma` or more.
 pub const START_CLOCK: u64 = 7;
 /// "A correct clock c has fewer than t+1 correct clocks c', its own counted,
 /// with c' + `gamma` ≥ c."

@@ -2,8 +2,9 @@
 //! such processors through a schedule of events.
 //!
 //! Everything here renders document 01, loads document 02's request 1/13,
-//! traffic its request 2/13, newlines its request 3/13 and the two forms of a
-//! network its request 4/13; comments quote the sentence a piece stands for.
+//! traffic its request 2/13, newlines its request 3/13, the two forms of a
+//! network its request 4/13 and k, the views per leader, its request 5/13;
+//! comments quote the sentence a piece stands for.
 //! The words of the code for the words of that page: a processor is one of the
 //! n numbered parties, the tally holds what was entered, heard and formed per
 //! view, the network holds the messages sent and not yet delivered, `faulty`

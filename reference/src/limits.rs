@@ -16,10 +16,16 @@ pub(crate) const fn plan(plan: Plan) -> Result<(), u64> {
     if plan.delta < 1 || plan.delta > 1_000 {
         return Err(check::DELAY_OR_SLOT);
     }
-    if plan.gamma < 2 * plan.delta || plan.gamma > 10_000 {
+    // "Check 3 wants `gamma` at least" 4 `delta` "for k=2," 2 `delta`
+    // "otherwise": any other k, which check 4 has not judged yet.
+    let delays = if plan.k == 2 { 4 } else { 2 };
+    if plan.gamma < delays * plan.delta || plan.gamma > 10_000 {
         return Err(check::DELAY_OR_SLOT);
     }
-    if plan.views < 3 || plan.views > 6_000 || !plan.views.is_multiple_of(3) {
+    if plan.k < 2 || plan.k > 8 {
+        return Err(check::VIEW_LIMIT);
+    }
+    if plan.views < 3 || plan.views > 6_000 || !plan.views.is_multiple_of(plan.k) {
         return Err(check::VIEW_LIMIT);
     }
     Ok(())

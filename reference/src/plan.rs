@@ -1,5 +1,6 @@
 //! The plan of a run, and what belongs to it: leader, initial views, clock
-//! times and the counts of signers a certificate takes.
+//! times and the counts of signers a certificate takes. A plan handed in may
+//! have any numbers; each function answers for all of them.
 
 /// The quantities fixed for a whole run.
 #[derive(Clone, Copy, PartialEq, Eq, Debug)]
@@ -8,15 +9,19 @@ pub struct Plan {
     pub n: u64,
     /// The delay: "1 to 1,000 ticks".
     pub delta: u64,
-    /// The slot: "2 `delta` to 10,000 ticks".
+    /// The slot: "at least" 4 `delta` "for k=2," 2 `delta` "otherwise", and at
+    /// most 10,000 ticks.
     pub gamma: u64,
-    /// The view limit: "3 to 6,000, a multiple of 3. Views are 0 to
+    /// The view limit: 3 to 6,000, a multiple of k. "Views are 0 to
     /// `views` − 1."
     pub views: u64,
+    /// "k, the views per leader, 2 to 8".
+    pub k: u64,
 }
 
 impl Plan {
-    /// "Views per leader ... belong to the plan itself: 3 views".
+    /// The views per leader of a line that does not say them: "any opening
+    /// line without it is read as k=3".
     pub const VIEWS_PER_LEADER: u64 = 3;
 
     /// "t = (n−1)/3 rounded down", and 0 for no processors at all.
@@ -34,23 +39,30 @@ impl Plan {
         self.n - self.tolerance()
     }
 
-    /// "processor (w/3 rounded down) mod n leads view w", and 0 for no
-    /// processors at all.
+    /// Processor (w/k rounded down) mod n leads view w. It is 0 for no
+    /// processors at all, and for no views per leader.
     pub const fn lead(self, view: u64) -> u64 {
-        match (view / Self::VIEWS_PER_LEADER).checked_rem(self.n) {
+        let Some(turn) = view.checked_div(self.k) else {
+            return 0;
+        };
+        match turn.checked_rem(self.n) {
             Some(leader) => leader,
             None => 0,
         }
     }
 
-    /// "A view divisible by 3 is initial."
+    /// A view divisible by k is initial; view 0 alone, if k is 0.
     pub const fn initial(self, view: u64) -> bool {
-        view.is_multiple_of(Self::VIEWS_PER_LEADER)
+        view.is_multiple_of(self.k)
     }
 
-    /// The least initial view above a view, or 2^64−1 if that is less.
+    /// The least initial view above a view, or 2^64−1 if that is less; 0, if k
+    /// is 0.
     pub const fn next_initial(self, view: u64) -> u64 {
-        (view - view % Self::VIEWS_PER_LEADER).saturating_add(Self::VIEWS_PER_LEADER)
+        match view.checked_rem(self.k) {
+            Some(into) => (view - into).saturating_add(self.k),
+            None => 0,
+        }
     }
 
     /// "its clock time is w times `gamma`", or 2^64−1 if that is less.
@@ -64,8 +76,20 @@ impl Plan {
         self.clock_time(self.views)
     }
 
-    /// The ticks from one initial view's clock time to the next one's.
+    /// The ticks from one initial view's clock time to the next one's, which
+    /// are "the limit on start clocks": k times `gamma`, or 2^64−1 if that is
+    /// less.
     pub const fn round(self) -> u64 {
-        self.clock_time(Self::VIEWS_PER_LEADER)
+        self.clock_time(self.k)
+    }
+
+    /// The ticks since settling beyond which the second sentence of demand 3
+    /// is due, with so many faulty processors: k(f+1) `gamma` + `gamma` +
+    /// 4 `delta`, or 2^64−1 if that is less.
+    pub const fn settling_bound(self, faults: u64) -> u64 {
+        self.round()
+            .saturating_mul(faults + 1)
+            .saturating_add(self.gamma)
+            .saturating_add(self.delta.saturating_mul(4))
     }
 }

@@ -124,15 +124,28 @@ impl Rest<'_> {
         Some(message(view, processor))
     }
 
-    /// What follows `(open`: "n ... and n clocks, 1 to 64 of them".
-    fn opening(&mut self) -> Option<Setup> {
-        let plan = Plan {
+    /// The numbers of an opening before its table: the plan and the faulty
+    /// processors. Of six the fifth is k; "any opening line without it is read
+    /// as k=3".
+    fn heading(&mut self) -> Option<(Plan, u64)> {
+        let mut plan = Plan {
             n: self.next_number()?,
             delta: self.next_number()?,
             gamma: self.next_number()?,
             views: self.next_number()?,
+            k: Plan::VIEWS_PER_LEADER,
         };
-        let faulty = self.next_number()?;
+        let fifth = self.next_number()?;
+        if self.bytes.starts_with(b" (") {
+            return Some((plan, fifth));
+        }
+        plan.k = fifth;
+        Some((plan, self.next_number()?))
+    }
+
+    /// What follows `(open`: "n ... and n clocks, 1 to 64 of them".
+    fn opening(&mut self) -> Option<Setup> {
+        let (plan, faulty) = self.heading()?;
         let mut clocks = [0; 64];
         let (first, others) = clocks
             .get_mut(..usize::try_from(plan.n).ok()?)?

@@ -49,6 +49,7 @@ impl Run {
             delta: 0,
             gamma: 0,
             views: 0,
+            k: 0,
         };
         Self {
             plan,

@@ -80,12 +80,9 @@ impl Watch {
         self.least_since
     }
 
-    /// The ticks since settling beyond which the second sentence is due:
-    /// (3f+4) `gamma` + 4 `delta`.
+    /// The ticks since settling beyond which the second sentence is due.
     pub const fn patience(&self) -> u64 {
-        (3 * set::size(self.faulty) + 4)
-            .saturating_mul(self.plan.gamma)
-            .saturating_add(self.plan.delta.saturating_mul(4))
+        self.plan.settling_bound(set::size(self.faulty))
     }
 
     /// Takes in an accepted event. "Ticks accepted since then, by some event,

@@ -3,15 +3,16 @@
 
 use crate::check;
 use crate::message::{Event, Message};
+use crate::plan::Plan;
 use crate::print;
 use crate::run::Setup;
 
 /// The bytes of the longest event: its words, brackets, blanks and newline,
 /// and two numbers of 20 digits.
 const LONGEST_EVENT: usize = "(deliver (view  ))\n".len() + 2 * 20;
-/// The bytes of the longest opening: as before, and 69 numbers of 20 digits
-/// with the 63 blanks between its clocks.
-const LONGEST_OPENING: usize = "(open      ())\n".len() + 69 * 20 + 63;
+/// The bytes of the longest opening: as before, n of two digits, and 69 other
+/// numbers of 20 digits with the 63 blanks between its clocks.
+const LONGEST_OPENING: usize = "(open       ())\n".len() + 2 + 69 * 20 + 63;
 
 /// A line being put together; N bytes are enough for it.
 pub(crate) struct Line<const N: usize> {
@@ -105,18 +106,25 @@ fn carry<const N: usize>(line: &mut Line<N>, word: &[u8], message: Message) {
 }
 
 /// Writes an opening and its newline, and answers how many bytes that took.
-/// Check 1 refuses one that "has no form (n is 0 or above 64)" and too few
-/// lent bytes, none of which is changed then.
+/// "Lines are written with k", whichever it is. Check 1 refuses one that "has
+/// no form (n is 0 or above 64)" and too few lent bytes, none of which is
+/// changed then.
 pub fn write_setup(setup: &Setup, out: &mut [u8]) -> Result<usize, u64> {
-    let plan = setup.plan;
-    if plan.n == 0 || plan.n > 64 {
+    let Plan {
+        n,
+        delta,
+        gamma,
+        views,
+        k,
+    } = setup.plan;
+    if n == 0 || n > 64 {
         return Err(check::NO_FORM);
     }
     let mut line = Line::<LONGEST_OPENING>::new();
     line.text(b"(open ");
-    line.numbers(&[plan.n, plan.delta, plan.gamma, plan.views, setup.faulty]);
+    line.numbers(&[n, delta, gamma, views, k, setup.faulty]);
     line.text(b" (");
-    line.numbers(&setup.clocks[..plan.n as usize]);
+    line.numbers(&setup.clocks[..n as usize]);
     line.text(b"))\n");
     line.copy_to(out)
 }

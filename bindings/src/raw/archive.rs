@@ -38,6 +38,7 @@ extern "C" {
         delta: u64,
         gamma: u64,
         views: u64,
+        k: u64,
         processor: *mut u64,
         processor_len: usize,
         input: u64,

@@ -61,6 +61,7 @@ fn the_highest_message_is_carried_over() {
         delta: 1,
         gamma: 2,
         views: 6000,
+        k: 3,
     };
     let mut simulator = Simulator::new();
     simulator.tally = vec![0; 24000];

@@ -47,6 +47,7 @@ fn setups_come_back() {
             delta: draw(&mut state),
             gamma: u64::MAX,
             views: draw(&mut state),
+            k: draw(&mut state),
         });
         setup.faulty = draw(&mut state);
         for clock in &mut setup.clocks {
@@ -65,12 +66,38 @@ fn setups_come_back() {
         delta: u64::MAX,
         gamma: u64::MAX,
         views: u64::MAX,
+        k: u64::MAX,
     });
     largest.faulty = u64::MAX;
     largest.clocks = [u64::MAX; raw::TABLE];
     let bytes = write_setup(&largest, &mut out);
-    assert!(bytes.is_some_and(|k| k <= raw::LINE_BYTES));
+    assert_eq!(bytes, Some(raw::LINE_BYTES));
+    assert_eq!(write_setup(&largest, &mut out[1..]), None);
     assert_eq!(read_line(b"(open 4 2 4 6 0 (0 0 0))"), None);
     assert_eq!(read_line(b"(tick 0)"), None);
     assert_eq!(read_line(b""), None);
+}
+
+#[test]
+fn a_line_without_views_per_leader_has_three() {
+    let mut clocked = setup(&[0, 1, 2, 3], 8);
+    let read = |line: &[u8]| read_line(line);
+    let expected = Some(Line::Open(clocked.clone()));
+    assert_eq!(read(b"(open 4 2 4 6 8 (0 1 2 3))"), expected);
+    assert_eq!(read(b"(open 4 2 4 6 3 8 (0 1 2 3))"), expected);
+    assert_eq!(PLAN.k, Plan::VIEWS_PER_LEADER);
+    let mut out = [7; 64];
+    let bytes = write_setup(&clocked, &mut out).expect("it has a form");
+    assert_eq!(&out[..bytes], b"(open 4 2 4 6 3 8 (0 1 2 3))\n");
+    clocked.plan.k = u64::MAX;
+    let expected = Some(Line::Open(clocked));
+    let line = b"(open 4 2 4 6 18446744073709551615 8 (0 1 2 3))";
+    assert_eq!(read(line), expected);
+    for line in [
+        &b"(open 4 2 4 6 (0 1 2 3))"[..],
+        b"(open 4 2 4 6 3 8 0 (0 1 2 3))",
+        b"(open 4 2 4 6 18446744073709551616 8 (0 1 2 3))",
+    ] {
+        assert_eq!(read(line), None);
+    }
 }

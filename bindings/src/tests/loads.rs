@@ -7,11 +7,13 @@ const ROOM: usize = 1 << 16;
 
 /// A setup that opens.
 fn opening(state: &mut u64) -> Setup {
+    let k = 2 + draw(state) % 7;
     let plan = Plan {
         n: 4 + draw(state) % 9,
         delta: 2,
-        gamma: 4 + draw(state) % 40,
-        views: 3 + 3 * (draw(state) % 40),
+        gamma: if k == 2 { 8 } else { 4 } + draw(state) % 40,
+        views: k * (2 + draw(state) % 12),
+        k,
     };
     let mut setup = Setup::new(plan);
     setup.faulty = draw(state) % 2;
@@ -121,7 +123,7 @@ fn the_first_lines_of_seed_1() {
     let mut load = Load::new(2, 1, 1);
     let (text, end) = Simulator::generated(&setup(&[0, 0, 0, 0], 0), &mut load);
     let expected =
-        "(open 4 2 4 6 0 (0 0 0 0))\n(deliver (vote 0 1))\n(settle)\n(deliver (view 0 3))\n";
+        "(open 4 2 4 6 3 0 (0 0 0 0))\n(deliver (vote 0 1))\n(settle)\n(deliver (view 0 3))\n";
     assert_eq!(String::from_utf8_lossy(&text), expected);
     assert_eq!((load.seed, load.step), (7_062_582_979_898_595_269, 2));
     assert_eq!((end.run.held(), end.run.settled()), (6, true));
@@ -190,9 +192,9 @@ fn short_slices_make_no_load() {
     assert_eq!((load, out), ([7; raw::LOAD_WORDS + 1], [7; 100]));
     let (t, w) = (&mut tally, &mut network);
     assert_eq!(
-        raw::generate(&words, &mut run, t, w, &mut load, &mut out[..35]),
+        raw::generate(&words, &mut run, t, w, &mut load, &mut out[..37]),
         0
     );
-    assert_eq!(load, [7, 7, 7, 0, 27, 1, 7]);
-    assert_eq!(&out[..28], b"(open 4 2 4 6 0 (0 0 0 0))\n\x07");
+    assert_eq!(load, [7, 7, 7, 0, 29, 1, 7]);
+    assert_eq!(&out[..30], b"(open 4 2 4 6 3 0 (0 0 0 0))\n\x07");
 }

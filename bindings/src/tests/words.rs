@@ -32,8 +32,9 @@ fn a_table_ends_before_what_stands_behind_it() {
     // Behind the clocks come the views, behind the views the sums.
     let words = std::array::from_fn(|place| 1000 + place as u64);
     let run = Run::from_words(words);
-    assert_eq!((run.clock(63), run.view(63)), (1072, 1136));
-    assert_eq!((run.view(0), run.sent().view), (1073, 1137));
+    assert_eq!((run.clock(63), run.view(63)), (1073, 1137));
+    assert_eq!((run.view(0), run.sent().view), (1074, 1138));
+    assert_eq!((run.plan().k, run.faulty()), (1004, 1005));
     assert_eq!((run.clock(64), run.view(64)), (0, 0));
     assert_eq!((run.clock(usize::MAX), run.view(usize::MAX)), (0, 0));
 }
@@ -44,7 +45,7 @@ fn short_slices_are_refused_and_kept() {
     let (mut run, mut tally, mut network) = ([7; raw::RUN_WORDS], [7; 24], [7; 64]);
     let short = raw::RUN_WORDS - 1;
     assert_eq!(
-        raw::open(&words[..68], &mut run, &mut tally, &mut network),
+        raw::open(&words[..69], &mut run, &mut tally, &mut network),
         1
     );
     assert_eq!(
@@ -69,15 +70,15 @@ fn short_slices_are_refused_and_kept() {
         ([7; raw::RUN_WORDS], [7; 24], [7; 64])
     );
     let mut record = [0, 2, 0];
-    assert_eq!(raw::step(4, 2, 4, 6, &mut record, 0, 0), 1);
+    assert_eq!(raw::step(4, 2, 4, 6, 3, &mut record, 0, 0), 1);
     assert_eq!(record, [0, 2, 0]);
     let mut reading = [7; raw::READING_WORDS];
-    assert_eq!(raw::read_line(b"(settle)", &mut reading[..72]), 1);
+    assert_eq!(raw::read_line(b"(settle)", &mut reading[..73]), 1);
     assert_eq!(raw::read_line(b"(settle) ", &mut reading), 1);
     assert_eq!(reading, [7; raw::READING_WORDS]);
     let mut out = [7; 9];
     assert_eq!(raw::write_event(4, 0, 0, 0, &mut out[..8]), 0);
-    assert_eq!(raw::write_setup(&words[..68], &mut out), 0);
+    assert_eq!(raw::write_setup(&words[..69], &mut out), 0);
     assert_eq!(raw::write_setup(&words, &mut out), 0);
     assert_eq!(out, [7; 9]);
 }
@@ -114,7 +115,7 @@ fn numbers_that_are_no_event() {
     assert_eq!((simulator, out), (kept.clone(), [7; 64]));
     for input in [1, 2, 5, u64::MAX] {
         let mut record = [0, 2, 0, 9];
-        assert_eq!(raw::step(4, 2, 4, 6, &mut record, input, 0), 1);
+        assert_eq!(raw::step(4, 2, 4, 6, 3, &mut record, input, 0), 1);
         assert_eq!(record, [0, 2, 0, 9]);
     }
     let (mut settled, mut other) = (kept.clone(), kept);
@@ -136,13 +137,13 @@ fn words_behind_are_untouched() {
         raw::apply(&mut run, 5, 0, 2, 0, &mut tally, &mut network),
         0
     );
-    assert_eq!((run[5], run[8]), (2, 8));
+    assert_eq!((run[raw::RUN_TIME], run[raw::RUN_HELD]), (2, 8));
     assert_eq!(
         (&run[raw::RUN_WORDS..], &tally[24..]),
         (&[7; 2][..], &[7; 2][..])
     );
     let mut record = [0, 2, 0, 9, 7];
-    assert_eq!(raw::step(4, 2, 4, 6, &mut record, 4, 0), 0);
+    assert_eq!(raw::step(4, 2, 4, 6, 3, &mut record, 4, 0), 0);
     assert_eq!(record, [0, 4, 1, 1, 7]);
     let mut reading = [7; raw::READING_WORDS + 1];
     assert_eq!(raw::read_line(b"(tick 8)", &mut reading), 0);

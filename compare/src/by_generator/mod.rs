@@ -67,6 +67,10 @@ fn load(generator: &Path, words: &[Vec<u8>], counts: &mut Counts) -> Result<Vec<
     let (out, errors, ended) = compare_one(generator, words)?;
     counts.openings += 1;
     counts.loads.begun += 1;
+    counts.turns.line(&words[0], ended == Ended::Loaded);
+    if let (Ended::Loaded, Reading::Opening(setup)) = (ended, read_line(&words[0])) {
+        counts.turns.opening(&setup, 0);
+    }
     if ended == Ended::Refused {
         let check = check_of(&errors);
         counts.call(check);
@@ -231,7 +235,7 @@ mod tests {
     fn another_program_is_found_out() {
         let mut counts = Counts::default();
         let told = load(Path::new("echo"), &words(&GOOD), &mut counts).expect_err("it echoes");
-        let apart = "reference: (open 4 2 4 6 0 (0 0 0 0)), apart from word 11";
+        let apart = "reference: (open 4 2 4 6 3 0 (0 0 0 0)), apart from word 6";
         assert!(told.what.contains(apart), "{}", told.what);
         let line = b"target/bin/generate '(open 4 2 4 6 0 (0 0 0 0))' '2' '1' '1'\n";
         assert_eq!(told.contents, line);

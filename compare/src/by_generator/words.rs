@@ -6,6 +6,7 @@ use crate::draws::Draws;
 use crate::load_counts::Loads;
 use crate::openings;
 use crate::retell::Told;
+use crate::schedules::NO_HEADINGS;
 use crate::text;
 use reference::{Load, Plan, Setup};
 
@@ -23,10 +24,11 @@ const ENDING_STEPS: u64 = 5_000;
 /// The words for a short load, or for an opening that is refused.
 pub fn short(draws: &mut Draws) -> Words {
     let setup = setup(draws);
-    let line = line(&setup);
+    let line = line(&setup, draws);
     let opening = match draws.below(20) {
         0 => damage::damaged(&line, draws),
         1 => no_opening(draws),
+        2 => text::headed(draws.one_of(&NO_HEADINGS), &setup, setup.plan.n as usize),
         _ => line,
     };
     let (few, some) = (draws.below(20), draws.below(300));
@@ -43,7 +45,9 @@ pub fn long(draws: &mut Draws) -> Words {
         delta: draws.one_of(&[1, 30, 1_000]),
         gamma: draws.one_of(&[2_000, 10_000]),
         views: MOST_VIEWS,
+        k: Plan::VIEWS_PER_LEADER,
     };
+    let plan = openings::with_turns(plan, openings::per_leader(draws));
     let mut setup = openings::accepted_of(draws, plan);
     if draws.per_mille(800) {
         // Under a faulty leader nothing is sent, so that the views last.
@@ -52,7 +56,7 @@ pub fn long(draws: &mut Draws) -> Words {
     }
     let steps = draws.between(MOST_STEPS / 4, MOST_STEPS);
     let load = load(steps, draws);
-    words(line(&setup), &load)
+    words(line(&setup, draws), &load)
 }
 
 /// The words for a load that a delivery may end: of many processors that send
@@ -73,7 +77,9 @@ pub fn ending(draws: &mut Draws) -> Words {
             draws.one_of(&[14, 16, 16, 18, 20, 20])
         },
         views: if few_views { 3 } else { 300 },
+        k: Plan::VIEWS_PER_LEADER,
     };
+    let plan = openings::with_turns(plan, openings::per_leader(draws));
     let setup = openings::accepted_of(draws, plan);
     let mut load = Load {
         steps: ENDING_STEPS,
@@ -87,7 +93,7 @@ pub fn ending(draws: &mut Draws) -> Words {
         told.begin(&setup, usize::MAX, &mut Loads::default());
         load.settle = told.load.step.saturating_sub(draws.below(30));
     }
-    words(line(&setup), &load)
+    words(line(&setup, draws), &load)
 }
 
 /// A load with a settling step below, at or above its steps.
@@ -111,9 +117,10 @@ fn words(opening: Vec<u8>, load: &Load) -> Words {
     [vec![opening], numbers.to_vec()].concat()
 }
 
-/// The line of a setup.
-fn line(setup: &Setup) -> Vec<u8> {
-    text::opening(setup, setup.plan.n as usize)
+/// The line of a setup, with k or without.
+fn line(setup: &Setup, draws: &mut Draws) -> Vec<u8> {
+    let heading = openings::heading(setup, draws);
+    text::headed(heading, setup, setup.plan.n as usize)
 }
 
 /// A setup: any that opens, one in which a load ends soon, or one that is
@@ -135,7 +142,9 @@ fn setup(draws: &mut Draws) -> Setup {
         delta,
         gamma,
         views,
+        k: Plan::VIEWS_PER_LEADER,
     };
+    let plan = openings::with_turns(plan, openings::per_leader(draws));
     openings::accepted_of(draws, plan)
 }
 
@@ -181,7 +190,7 @@ pub fn wrong(draws: &mut Draws) -> Words {
     let setup = openings::accepted(draws, MOST_VIEWS);
     let steps = draws.below(20);
     let load = load(steps, draws);
-    let mut words = words(line(&setup), &load);
+    let mut words = words(line(&setup, draws), &load);
     match draws.below(8) {
         0 => words.truncate(draws.place(words.len())),
         1 => drop(words.remove(draws.place(words.len()))),

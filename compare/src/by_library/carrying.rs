@@ -11,7 +11,7 @@ use crate::counts::Counts;
 use crate::difference::Difference;
 use crate::draws::Draws;
 use crate::lent::Lent;
-use crate::openings::accepted_of;
+use crate::openings::{accepted_of, per_leader, with_turns};
 use crate::stored::Width;
 use crate::words::{HELD, RUN_WORDS};
 use reference::{Plan, Run};
@@ -21,7 +21,7 @@ const COPIES: u64 = 30;
 /// Events before the state, at most.
 const EVENTS: u64 = 60;
 /// The views of a run with high ones.
-const HIGH_VIEWS: [u64; 3] = [4_098, 5_001, 6_000];
+const HIGH_VIEWS: [u64; 3] = [4_108, 5_001, 6_000];
 /// The most words that a target has, and one more.
 const LONGEST: [usize; 2] = [524_288, 524_289];
 
@@ -71,7 +71,9 @@ fn sound(draws: &mut Draws) -> Option<(State, Run)> {
         delta: 1,
         gamma: draws.one_of(&[2, 9, 10_000]),
         views: draws.one_of(&HIGH_VIEWS),
+        k: Plan::VIEWS_PER_LEADER,
     };
+    let plan = with_turns(plan, per_leader(draws));
     let setup = accepted_of(draws, plan);
     let state = states::lent_to(&setup, draws);
     let state = states::arbitrary_of(state, &setup, draws);

@@ -7,14 +7,27 @@ use crate::draws::Draws;
 use crate::lent::Lent;
 use crate::openings;
 use crate::reference_calls::{self, guarded};
-use crate::text;
+use crate::text::{self, Heading};
 use crate::wild;
-use crate::words::{numbers_of, setup_words, Numbers, READ_WORDS, SETUP_WORDS};
+use crate::words::{numbers_of, setup_of, setup_words, Numbers, OPENING, READ_WORDS, SETUP_WORDS};
 use fever::raw;
-use reference::Setup;
+use reference::{Plan, Setup};
 
 /// The views that openings of lines have, at most.
 const MOST_VIEWS: u64 = 6_000;
+
+/// What the lines of openings say before their clocks; the first and the last
+/// of these are no form.
+const HEADINGS: [Heading; 8] = [
+    Heading::Four,
+    Heading::Five,
+    Heading::Five,
+    Heading::Six,
+    Heading::Six,
+    Heading::Six,
+    Heading::Six,
+    Heading::Seven,
+];
 
 /// Reads one line.
 pub fn reading(draws: &mut Draws, counts: &mut Counts) -> Result<(), Difference> {
@@ -29,8 +42,12 @@ pub fn reading(draws: &mut Draws, counts: &mut Counts) -> Result<(), Difference>
     let answer = raw::read_line(&line, proved.front_mut());
     let reference = guarded(|| reference_calls::read_line(&line, expected.front_mut()));
     counts.call(answer);
+    counts.turns.line(&line, answer == 0);
     if Some(answer) == reference && proved == expected && (answer == 0 || expected == before) {
-        return Ok(());
+        return match expected.front() {
+            [OPENING, _, _, _, setup @ ..] if answer == 0 => rewritten(line, setup, draws, counts),
+            _ => Ok(()),
+        };
     }
     Err(Difference {
         what: format!(
@@ -45,13 +62,45 @@ pub fn reading(draws: &mut Draws, counts: &mut Counts) -> Result<(), Difference>
     })
 }
 
+/// Writes an opening that was read again: as it was, but with k where it was
+/// without, and read as three views per leader there.
+fn rewritten(
+    line: Vec<u8>,
+    setup: &[u64],
+    draws: &mut Draws,
+    counts: &mut Counts,
+) -> Result<(), Difference> {
+    let setup = setup_of(setup);
+    let n = setup.plan.n as usize;
+    let without = text::numbers_before_clocks(&line) == Some(Heading::Five as usize);
+    let told = text::opening(&setup, n);
+    let kept = if without {
+        setup.plan.k == Plan::VIEWS_PER_LEADER && text::headed(Heading::Five, &setup, n) == line
+    } else {
+        told == line
+    };
+    let what = Written::Setup(setup_words(&setup).to_vec());
+    let mut written = vec![b'\n'; told.len() + 1];
+    let bytes = guarded(|| what.refer(&mut written));
+    if !kept || bytes != Some(written.len() as u64) || !written.starts_with(&told) {
+        return Err(Difference {
+            what: format!("an opening is read otherwise than it is written: {setup:?}"),
+            name: "difference.line".to_owned(),
+            contents: line,
+        });
+    }
+    counts.turns.rewritten += u64::from(without);
+    both(&what, written.len(), draws, counts)
+}
+
 /// A line: good, damaged or anything.
 fn line(draws: &mut Draws) -> Vec<u8> {
     let setup = setup(draws);
     let good = if draws.per_mille(700) {
         text::event(wild::event(setup.plan, draws))
     } else {
-        text::opening(&setup, setup.plan.n.min(80) as usize)
+        let heading = draws.one_of(&HEADINGS);
+        text::headed(heading, &setup, setup.plan.n.min(80) as usize)
     };
     match draws.below(20) {
         0..=7 => good,
@@ -74,6 +123,7 @@ fn setup(draws: &mut Draws) -> Setup {
         setup.plan.delta = draws.edge();
         setup.plan.gamma = draws.edge();
         setup.plan.views = draws.edge();
+        setup.plan.k = draws.edge();
         setup.faulty = draws.edge();
     }
     if draws.per_mille(200) {

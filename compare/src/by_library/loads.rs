@@ -9,7 +9,7 @@ use crate::counts::Counts;
 use crate::difference::Difference;
 use crate::draws::Draws;
 use crate::lent::Lent;
-use crate::openings::{accepted, accepted_of};
+use crate::openings::{accepted, accepted_of, per_leader, with_turns};
 use crate::retell::Told;
 use crate::words::{load_of, run_of, setup_of, BYTES, FULL, LOAD_WORDS, SETUP_WORDS, TIME};
 use reference::{Plan, Run, Setup};
@@ -71,7 +71,7 @@ fn opening(draws: &mut Draws) -> (State, Vec<u64>) {
 
 /// A setup of such a plan, and lent words in which it opens.
 fn with_words(draws: &mut Draws, plan: fn(&mut Draws) -> Plan) -> (State, Setup) {
-    let plan = plan(draws);
+    let plan = with_turns(plan(draws), per_leader(draws));
     let setup = accepted_of(draws, plan);
     (states::lent_to(&setup, draws), setup)
 }
@@ -84,6 +84,7 @@ fn short(draws: &mut Draws) -> Plan {
         delta,
         gamma,
         views: 3,
+        k: Plan::VIEWS_PER_LEADER,
     }
 }
 
@@ -95,6 +96,7 @@ fn crowded(draws: &mut Draws) -> Plan {
         delta: draws.between(1, gamma / 2),
         gamma,
         views: 30,
+        k: Plan::VIEWS_PER_LEADER,
     }
 }
 

@@ -39,12 +39,13 @@ pub fn any(draws: &mut Draws) -> (State, Setup) {
 fn wild(draws: &mut Draws) -> Setup {
     let mut setup = openings::accepted(draws, MOST_VIEWS);
     let value = draws.edge();
-    match draws.below(7) {
+    match draws.below(9) {
         0 => setup.plan.n = value,
         1 => setup.plan.delta = value,
         2 => setup.plan.gamma = value,
         3 => setup.plan.views = value,
         4 => setup.faulty = value,
+        5 | 6 => setup.plan.k = value,
         _ => setup.clocks[draws.place(64)] = value,
     }
     setup

@@ -4,18 +4,23 @@
 
 use super::watched::{time, Watched};
 use super::{reports, states, sums};
-use crate::adversary::Style;
+use crate::adversary::{Order, Pace, Settling, Style};
 use crate::calls::{Call, State};
 use crate::counts::Counts;
 use crate::difference::Difference;
 use crate::draws::Draws;
 use crate::openings;
 use crate::wild;
+use crate::words::{setup_of, SETUP_WORDS};
 use reference::Event;
 
 /// Calls in one sequence, one of these; the longest may come under demand 3's
 /// second sentence.
 const CALLS: [u64; 4] = [60, 60, 60, 500];
+/// How many in a thousand sequences are played so that it does, and the calls
+/// of one of them.
+const PATIENT: u64 = 80;
+const PATIENT_CALLS: u64 = 700;
 /// The refusals in a row after which a sequence is given up.
 const MOST_REFUSALS: u64 = 10;
 /// How many in a thousand sequences begin with sums that are not the opening's.
@@ -27,6 +32,9 @@ const MOST_VIEWS: u64 = 30;
 
 /// One sequence.
 pub fn case(draws: &mut Draws, counts: &mut Counts) -> Result<(), Difference> {
+    if draws.per_mille(PATIENT) {
+        return patient(draws, counts);
+    }
     let mut watched = Watched::default();
     let mut state = if draws.per_mille(150) {
         let state = states::arbitrary(draws);
@@ -44,19 +52,40 @@ pub fn case(draws: &mut Draws, counts: &mut Counts) -> Result<(), Difference> {
         state
     };
     let style = Style::of(&state, draws);
-    go_on(&mut state, &style, &mut watched, draws, counts)
+    let calls = draws.one_of(&CALLS);
+    go_on(&mut state, (&style, calls), &mut watched, draws, counts)
 }
 
-/// Events in a style, with others between them.
+/// One sequence that settles at once and delivers late, with any number of
+/// views per leader.
+fn patient(draws: &mut Draws, counts: &mut Counts) -> Result<(), Difference> {
+    let mut watched = Watched::default();
+    let (mut state, setup) = states::lasting(draws);
+    let call = states::opening(&setup, draws);
+    let check = opened(&mut state, &call, counts)?;
+    watched.opened(&call, check, &state, counts)?;
+    let style = Style {
+        order: draws.one_of(&[Order::Last, Order::Last, Order::Oldest]),
+        deliveries: 900,
+        lying: 20,
+        settling: Settling::First,
+        pace: draws.one_of(&[Pace::One, Pace::Edge]),
+        ..Style::of(&state, draws)
+    };
+    let played = (&style, PATIENT_CALLS);
+    go_on(&mut state, played, &mut watched, draws, counts)
+}
+
+/// Events in a style, so many calls, with others between them.
 fn go_on(
     state: &mut State,
-    style: &Style,
+    (style, calls): (&Style, u64),
     watched: &mut Watched,
     draws: &mut Draws,
     counts: &mut Counts,
 ) -> Result<(), Difference> {
     let mut refusals = 0;
-    for _ in 0..draws.one_of(&CALLS) {
+    for _ in 0..calls {
         if refusals > MOST_REFUSALS {
             break;
         }
@@ -104,6 +133,11 @@ pub fn opened(state: &mut State, call: &Call, counts: &mut Counts) -> Result<u64
     counts.openings += 1;
     let check = state.both(call)?;
     counts.call(check);
+    if let Call::Open(words) = call {
+        if words.len() >= SETUP_WORDS {
+            counts.turns.opening(&setup_of(words), check);
+        }
+    }
     Ok(check)
 }
 

@@ -5,7 +5,8 @@ use super::sums;
 use crate::calls::State;
 use crate::draws::Draws;
 use crate::stored::Width;
-use crate::words::{CLOCKS, RUN_WORDS, SENT, SETTLED, VIEWS};
+use crate::wild;
+use crate::words::{CLOCKS, FAULTY, GST, HELD, PER_LEADER, RUN_WORDS, SENT, SETTLED, TIME, VIEWS};
 use reference::Run;
 
 /// Changes one thing of a state whose run was this one while it was sound.
@@ -44,21 +45,28 @@ fn plan(good: &Run, draws: &mut Draws) -> (usize, u64) {
     let plan = good.plan;
     let any = draws.edge();
     let wraps = (1 << 63) + draws.below(8);
-    let place = draws.place(5);
+    let place = draws.place(FAULTY + 1);
     let value = match place {
         0 => draws.one_of(&[0, 3, plan.n - 1, plan.n + 1, 64, 65, any]),
         1 => draws.one_of(&[0, 1, 1_000, 1_001, plan.gamma / 2 + 1, wraps, any]),
-        2 => draws.one_of(&[0, 2 * plan.delta - 1, plan.gamma + 1, 10_001, wraps, any]),
+        2 => {
+            let (two, four) = (2 * plan.delta, 4 * plan.delta);
+            draws.one_of(&[0, two - 1, four - 1, plan.gamma + 1, 10_001, wraps, any])
+        }
         3 => draws.one_of(&[
             0,
             1,
             plan.views + 1,
-            plan.views + 3,
+            plan.views + plan.k,
             6_000,
             6_003,
             wraps,
             any,
         ]),
+        PER_LEADER => {
+            let (other, far) = (draws.between(2, 8), plan.k + (1 << 32));
+            draws.one_of(&[0, 1, 1, 9, 9, other, other, far, wraps, u64::MAX, any])
+        }
         _ => {
             let more = good.faulty | 1 << draws.below(64);
             let fewer = good.faulty & good.faulty.wrapping_sub(1);
@@ -74,11 +82,11 @@ fn times(width: Width, state: &State, good: &Run, draws: &mut Draws) -> (usize, 
     let limit = good.plan.clock_limit();
     let fit = (state.network.front().len() / width.words()) as u64;
     let any = draws.edge();
-    let place = draws.between(5, 8) as usize;
+    let place = draws.between(TIME as u64, HELD as u64) as usize;
     let value = match place {
-        5 => draws.one_of(&[0, limit - 1, limit, good.gst.wrapping_sub(1), u64::MAX, any]),
+        TIME => draws.one_of(&[0, limit - 1, limit, good.gst.wrapping_sub(1), u64::MAX, any]),
         SETTLED => draws.one_of(&[u64::from(!good.settled), 2, 3, 1 << 32, u64::MAX]),
-        7 => draws.one_of(&[0, 1, good.time, good.time + 1, u64::MAX, any]),
+        GST => draws.one_of(&[0, 1, good.time, good.time + 1, u64::MAX, any]),
         _ => {
             let fewer = good.held.wrapping_sub(1);
             // Two or four words each, these many would wrap to few.
@@ -134,7 +142,7 @@ fn view(good: &Run, draws: &mut Draws) -> (usize, u64) {
         view.wrapping_add(1),
         plan.next_initial(view),
         at,
-        at / 3 * 3,
+        wild::initial(plan, at),
         plan.views,
         wraps,
         u64::MAX,
@@ -220,7 +228,7 @@ fn lend_less(width: Width, state: &mut State, good: &Run, draws: &mut Draws) {
     match draws.below(3) {
         0 => {
             let all = RUN_WORDS;
-            let length = draws.one_of(&[0, 1, 9, 73, SENT, all - 1, all, all + 1]);
+            let length = draws.one_of(&[0, 1, CLOCKS, VIEWS, SENT, all - 1, all, all + 1]);
             state.run.lend(length);
         }
         1 => {
@@ -248,6 +256,6 @@ pub fn unmake(state: &mut State, draws: &mut Draws) {
     if let 1 | 2 = which {
         state
             .run
-            .lend(draws.one_of(&[0, 6, 7, 73, SENT, RUN_WORDS - 1]));
+            .lend(draws.one_of(&[0, SETTLED, SETTLED + 1, VIEWS, SENT, RUN_WORDS - 1]));
     }
 }

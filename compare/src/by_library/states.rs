@@ -22,6 +22,29 @@ pub fn fresh(draws: &mut Draws) -> (State, Setup) {
     (state, setup)
 }
 
+/// A setup whose run lasts until demand 3 is due whole, with any number of
+/// views per leader and, most often, as short a slot as they allow; and lent
+/// words in which its messages have room.
+pub fn lasting(draws: &mut Draws) -> (State, Setup) {
+    let (k, delta) = (draws.between(2, 8), draws.between(1, 2));
+    let plan = Plan {
+        n: draws.one_of(&[4, 4, 5]),
+        delta,
+        gamma: 2 * delta + draws.one_of(&[0, 0, 1]),
+        views: 16 * k,
+        k,
+    };
+    let setup = openings::accepted_of(draws, openings::with_turns(plan, k));
+    let (tally, network) = (4 * setup.plan.views, 60 * setup.plan.n);
+    let state = State {
+        run: Lent::untouched(RUN_WORDS, draws),
+        tally: Lent::untouched(tally as usize, draws),
+        network: Lent::untouched(network as usize, draws),
+        ..State::default()
+    };
+    (state, setup)
+}
+
 /// Lent words in which a setup opens.
 pub fn lent_to(setup: &Setup, draws: &mut Draws) -> State {
     let Plan { n, views, .. } = setup.plan;

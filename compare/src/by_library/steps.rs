@@ -6,6 +6,7 @@ use crate::draws::Draws;
 use crate::lent::Lent;
 use crate::openings;
 use crate::reference_calls::{self, guarded};
+use crate::wild;
 use fever::raw;
 use reference::Plan;
 
@@ -18,6 +19,8 @@ pub fn case(draws: &mut Draws, counts: &mut Counts) -> Result<(), Difference> {
         1 => plan.delta = any,
         2 => plan.gamma = any,
         3 => plan.views = any,
+        4 => plan.k = draws.one_of(&[0, 1, 2, 9, any, any]),
+        5 => plan.gamma = draws.one_of(&[2 * plan.delta, 4 * plan.delta - 1, 4 * plan.delta]),
         _ => {}
     }
     let record = record(plan, draws);
@@ -52,11 +55,13 @@ fn both(
         delta,
         gamma,
         views,
+        k,
     } = plan;
     let (mut proved, mut expected) = (before.clone(), before.clone());
-    let answer = raw::step(n, delta, gamma, views, proved.front_mut(), input, view);
+    let answer = raw::step(n, delta, gamma, views, k, proved.front_mut(), input, view);
     let reference = guarded(|| reference_calls::step(plan, expected.front_mut(), input, view));
     counts.call(answer);
+    counts.turns.step(plan, answer);
     let kept = answer == 0 || *before == expected;
     if Some(answer) == reference && proved == expected && kept {
         return Ok(());
@@ -70,7 +75,7 @@ fn both(
         ),
         name: "difference.step".to_owned(),
         contents: format!(
-            "n {n}, delta {delta}, gamma {gamma}, views {views}\n\
+            "n {n}, delta {delta}, gamma {gamma}, views {views}, k {k}\n\
              {} words lent of {:?}\ninput {input}, view {view}\n",
             before.front().len(),
             before.all()
@@ -97,7 +102,7 @@ fn record(plan: Plan, draws: &mut Draws) -> [u64; 4] {
     }
     let least = plan.clock_time(view);
     let next = plan.clock_time(plan.next_initial(view));
-    let within = least.saturating_add(draws.below(plan.gamma.saturating_mul(3)));
+    let within = least.saturating_add(draws.below(plan.round()));
     let before = next.saturating_sub(1);
     let mut clock = draws.one_of(&[least, least, before, before, next.saturating_sub(2), within]);
     if draws.per_mille(80) {
@@ -120,10 +125,13 @@ fn view(plan: Plan, present: u64, draws: &mut Draws) -> u64 {
         let any = draws.edge();
         return draws.one_of(&[plan.views, plan.views.wrapping_add(2), any]);
     }
-    let near = present.saturating_add(draws.below(8)).saturating_sub(3);
-    let initial = plan.next_initial(present);
+    let turn = plan.k.min(8);
+    let near = present.saturating_add(draws.below(2 * turn + 2));
+    let near = near.saturating_sub(turn);
+    let next = plan.next_initial(present);
     let last = plan.views.wrapping_sub(1);
-    let view = draws.one_of(&[near, near, near / 3 * 3, initial, some, some / 3 * 3, last]);
+    let (nearby, initial) = (wild::initial(plan, near), wild::initial(plan, some));
+    let view = draws.one_of(&[near, near, nearby, next, some, initial, last]);
     if view < plan.views {
         view
     } else {

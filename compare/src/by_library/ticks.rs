@@ -73,12 +73,14 @@ fn long_plan(draws: &mut Draws) -> Plan {
             (1_000, 10_000, 30),
         ])
     };
-    Plan {
+    let plan = Plan {
         n: if few { n.min(7) } else { n },
         delta,
         gamma,
         views,
-    }
+        k: Plan::VIEWS_PER_LEADER,
+    };
+    openings::with_turns(plan, openings::per_leader(draws))
 }
 
 /// How many ticks: to the next entry, overdue message or end, to an entry some
@@ -90,7 +92,7 @@ fn many(state: &State, draws: &mut Draws) -> u64 {
     let plan = run.plan;
     let scene = state.scene(&run);
     let edge = adversary::edge(scene, draws);
-    let rounds = draws.below(8) * plan.clock_time(Plan::VIEWS_PER_LEADER);
+    let rounds = draws.below(8) * plan.round();
     let later = scene.ticks_to_entry() + rounds + draws.below(3);
     let second = scene.ticks_to_overdue().unwrap_or(1) + plan.delta + draws.below(3);
     let far = draws.one_of(&[1_000, 100_000, 1_000_000, 3_000_000]);

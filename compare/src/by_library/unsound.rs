@@ -9,7 +9,7 @@ use crate::draws::Draws;
 use crate::lent::Lent;
 use crate::openings;
 use crate::wild;
-use crate::words::{numbers_of, Numbers, TICK};
+use crate::words::{numbers_of, Numbers, PER_LEADER, SETUP_WORDS, START, TICK};
 use reference::{Event, Run};
 
 /// Spoilt copies of one state.
@@ -38,7 +38,8 @@ pub fn case(draws: &mut Draws, counts: &mut Counts) -> Result<(), Difference> {
             sound::opened(&mut state, &call, counts)?;
         } else {
             let call = Call::Apply(numbers(&good, &run, draws));
-            sound::applied(&mut state, &call, counts)?;
+            let check = sound::applied(&mut state, &call, counts)?;
+            counts.turns.unsound += u64::from(check == 9 && differ_in_turns(&state, &good));
         }
     }
     if draws.per_mille(15) {
@@ -47,11 +48,23 @@ pub fn case(draws: &mut Draws, counts: &mut Counts) -> Result<(), Difference> {
     Ok(())
 }
 
+/// Whether two states differ in the views per leader and in nothing else.
+fn differ_in_turns(state: &State, good: &State) -> bool {
+    let words = (state.run.front(), good.run.front());
+    let (Some(here), Some(&there)) = (words.0.get(PER_LEADER), words.1.get(PER_LEADER)) else {
+        return false;
+    };
+    let is_other = *here != there;
+    let mut state = state.clone();
+    state.run.front_mut()[PER_LEADER] = there;
+    is_other && state == *good
+}
+
 /// Some words of a setup fewer than it has, at times.
 fn shortened(call: Call, draws: &mut Draws) -> Call {
     match call {
         Call::Open(mut words) if draws.per_mille(300) => {
-            words.truncate(draws.one_of(&[0, 1, 5, 68, 69]));
+            words.truncate(draws.one_of(&[0, 1, START, SETUP_WORDS - 1, SETUP_WORDS]));
             Call::Open(words)
         }
         other => other,

@@ -124,7 +124,8 @@ mod tests {
 
     const SETTLING: Call = Call::Apply([4, 0, 0, 0]);
 
-    /// n=4, delta 2, gamma 4, 6 views, all clocks 0, opened and reported.
+    /// n=4, delta 2, gamma 4, 6 views, 3 of them per leader, all clocks 0,
+    /// opened and reported.
     fn opened() -> (State, Watched, Counts) {
         let lent = |length| Lent::new(&vec![0; length], &[5, 5]);
         let mut state = State {
@@ -134,7 +135,7 @@ mod tests {
             report: lent(TRAFFIC_WORDS),
             ..State::default()
         };
-        let mut words = vec![4, 2, 4, 6];
+        let mut words = vec![4, 2, 4, 6, 3];
         words.resize(SETUP_WORDS, 0);
         let (mut watched, mut counts) = (Watched::default(), Counts::default());
         let opening = Call::Open(words);
@@ -213,6 +214,6 @@ mod tests {
         assert!(difference.what.contains(" and not "));
         assert!(difference
             .contents
-            .starts_with(b"handed in:\nrun, 146 words"));
+            .starts_with(b"handed in:\nrun, 147 words"));
     }
 }

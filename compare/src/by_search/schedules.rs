@@ -58,7 +58,8 @@ fn schedule(draws: &mut Draws, sorts: &mut [u64; 5]) -> Trace {
         add(Sort::Near, &mut trace, draws);
     }
     let setup = openings::accepted(draws, MOST_VIEWS);
-    trace.opening(&setup);
+    let heading = openings::heading(&setup, draws);
+    trace.opening(heading, &setup);
     let style = Style::drawn(draws, setup.plan.n, setup.faulty);
     for _ in 0..LINES {
         match draws.below(40) {
@@ -84,7 +85,7 @@ fn line(sort: Sort, trace: &Trace, draws: &mut Draws) -> Vec<u8> {
         Sort::Wide if draws.per_mille(500) => {
             return near::put_in(&text::opening(&openings::longest(), 64), draws);
         }
-        Sort::Wide => draws.between(1_390, 1_440),
+        Sort::Wide => draws.between(1_411, 1_461),
         Sort::Longest => draws.between(4_790, 4_810),
         Sort::PutIn => return near::put_in(&good(trace, draws), draws),
     };
@@ -104,7 +105,8 @@ fn good(trace: &Trace, draws: &mut Draws) -> Vec<u8> {
         (0, _) => text::event(Event::Settle),
         (1, _) => {
             let setup = openings::accepted(draws, MOST_VIEWS);
-            text::opening(&setup, setup.plan.n as usize)
+            let heading = openings::heading(&setup, draws);
+            text::headed(heading, &setup, setup.plan.n as usize)
         }
         (2, _) | (_, None) => text::event(Event::Tick(1)),
         (_, Some(message)) => text::event(Event::Deliver(message)),
@@ -146,7 +148,7 @@ mod tests {
                 .iter()
                 .flat_map(|trace| trace.text().split(|&byte| byte == NEWLINE))
         };
-        let wide = lines().filter(|line| (1_390..=1_440).contains(&line.len()));
+        let wide = lines().filter(|line| (1_411..=1_461).contains(&line.len()));
         let longest = lines().filter(|line| line.len() >= 4_790);
         assert_eq!(wide.count() as u64, sorts[Sort::Wide as usize]);
         assert_eq!(longest.count() as u64, sorts[Sort::Longest as usize]);

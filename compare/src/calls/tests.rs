@@ -12,9 +12,9 @@ fn unopened() -> State {
     }
 }
 
-/// n=4, delta 2, gamma 4, 6 views, all clocks 0.
+/// n=4, delta 2, gamma 4, 6 views, 3 of them per leader, all clocks 0.
 fn opening() -> Call {
-    let mut words = vec![4, 2, 4, 6];
+    let mut words = vec![4, 2, 4, 6, 3];
     words.resize(words::SETUP_WORDS, 0);
     Call::Open(words)
 }
@@ -45,11 +45,11 @@ fn both_sides_apply_events_together() {
 fn both_sides_make_a_load() {
     let mut state = unopened();
     state.load = Lent::new(&[3, 0, 409, 7, 7, 7], &[7]);
-    state.out = Lent::new(b"xxxxxxxxxxxxxxxxxxxxxxxxxxxxxxxxxxxxxxx", b"yy");
+    state.out = Lent::new(b"xxxxxxxxxxxxxxxxxxxxxxxxxxxxxxxxxxxxxxxxx", b"yy");
     let Call::Open(setup) = opening() else { return };
     assert_eq!(state.both(&Call::Generate(setup)).ok(), Some(0));
-    let line = b"(open 4 2 4 6 0 (0 0 0 0))\n(settle)\nxxxyy";
-    assert_eq!((state.out.all(), state.load.all()[4]), (&line[..], 36));
+    let line = b"(open 4 2 4 6 3 0 (0 0 0 0))\n(settle)\nxxxyy";
+    assert_eq!((state.out.all(), state.load.all()[4]), (&line[..], 38));
     assert_eq!(state.both(&Call::GenerateMore).ok(), Some(0));
     assert_eq!(
         state.load.all()[2..],
@@ -79,7 +79,7 @@ fn a_word_that_differs_is_named() {
     let told = one.told_apart(&other).expect("they differ");
     assert!(told.contains("word 3 of the network"), "{told}");
     let difference = one.shows(&opening(), &told);
-    assert!(difference.contents.starts_with(b"Open([4, 2, 4, 6, 0"));
+    assert!(difference.contents.starts_with(b"Open([4, 2, 4, 6, 3"));
 }
 
 #[test]

@@ -112,7 +112,7 @@ mod tests {
                 refused: [times; 3],
                 edges: [times; 4],
                 behind: times,
-                clauses: [times; 16],
+                clauses: [times; 17],
                 kinds: [times; 4],
             };
             let lists = Lists {
@@ -178,7 +178,7 @@ mod tests {
     fn state(network: &[u64], target: usize) -> State {
         let held = network.len() as u64 / 2;
         State {
-            run: Lent::new(&[4, 0, 0, 0, 0, 0, 0, 0, held], &[]),
+            run: Lent::new(&[4, 0, 0, 0, 0, 0, 0, 0, 0, held], &[]),
             network: Lent::new(network, &[]),
             target: Lent::new(&vec![0; target], &[]),
             ..State::default()

@@ -63,7 +63,7 @@ pub struct Way {
     /// Those refused for the target though the run is unsound too.
     pub behind: u64,
     /// Those refused for one clause of check 9 alone, by [`Clause`].
-    pub clauses: [u64; 16],
+    pub clauses: [u64; 17],
     /// Of those refused for a kind alone, how many had kinds 5 to 8 somewhere.
     pub kinds: [u64; 4],
 }

@@ -145,11 +145,12 @@ fn stepping() -> Row {
         delta: 2,
         gamma: 8,
         views: 6_000,
+        k: Plan::VIEWS_PER_LEADER,
     };
     let mut draws = Draws::new(5);
     let inputs: Vec<(u64, u64)> = (0..STEPS)
         .map(|step| {
-            let view = step / (3 * PLAN.gamma) * 3 % PLAN.views;
+            let view = step / PLAN.round() * PLAN.k % PLAN.views;
             (draws.one_of(&[0, 0, 0, 0, 0, 0, 3, 4]), view)
         })
         .collect();
@@ -161,9 +162,19 @@ fn stepping() -> Row {
                 delta,
                 gamma,
                 views,
+                k,
             } = black_box(PLAN);
             for &(input, view) in black_box(&inputs) {
-                black_box(raw::step(n, delta, gamma, views, &mut record, input, view));
+                black_box(raw::step(
+                    n,
+                    delta,
+                    gamma,
+                    views,
+                    k,
+                    &mut record,
+                    input,
+                    view,
+                ));
             }
         })
     };

@@ -3,7 +3,7 @@
 use super::programs::told;
 use super::{in_turn, plain, timed, Row};
 use crate::schedules;
-use crate::words::{numbers_of, setup_words, READ_WORDS};
+use crate::words::{numbers_of, setup_words, READ_WORDS, SETUP_WORDS};
 use fever::raw;
 use reference::{Event, Reading, Setup};
 use std::hint::black_box;
@@ -99,7 +99,7 @@ fn writing_events(events: &[Event]) -> f64 {
 
 fn writing_setups(setups: &[Setup]) -> f64 {
     let (mut out, mut other) = ([0; BYTES], [0; BYTES]);
-    let words: Vec<[u64; 69]> = setups.iter().map(setup_words).collect();
+    let words: Vec<[u64; SETUP_WORDS]> = setups.iter().map(setup_words).collect();
     let proved = || {
         timed(|| {
             for setup in black_box(&words) {

@@ -36,6 +36,7 @@ fn words(n: u64, faulty: u64, gamma: u64) -> Vec<Vec<u8>> {
         delta: 4,
         gamma,
         views: 900,
+        k: Plan::VIEWS_PER_LEADER,
     };
     // Spread evenly over the leaders.
     let faulty = (0..faulty).map(|place| 1 << ((2 * place + 1) * n / (2 * faulty)));

@@ -131,7 +131,7 @@ mod tests {
 
     #[test]
     fn long_lines_are_what_their_rows_say() {
-        assert_eq!((opening().len(), no_form().len()), (1_439, 4_800));
+        assert_eq!((opening().len(), no_form().len()), (1_460, 4_800));
         for (line, answer) in [(opening(), "(refused 3)\n"), (no_form(), "(refused 1)\n")] {
             let printed = simulate(&[line.as_slice(), b"\n"].concat().repeat(2));
             assert_eq!(String::from_utf8_lossy(&printed), answer.repeat(2));

@@ -116,6 +116,7 @@ fn stretch(n: u64, ticks: u64) -> Times {
         delta: 1,
         gamma: 10_000,
         views: 6,
+        k: Plan::VIEWS_PER_LEADER,
     };
     ticked(&opened(plan, [0; 64], 2_048), ticks, 8)
 }
@@ -131,6 +132,7 @@ fn rounds(gamma: u64) -> Times {
         delta: 1,
         gamma,
         views: 3 * (ROUNDS + 1),
+        k: Plan::VIEWS_PER_LEADER,
     };
     let words = 2 * 8 * (ROUNDS as usize + 1);
     ticked(&opened(plan, [0; 64], words), 3 * gamma * ROUNDS, 1)
@@ -146,6 +148,7 @@ fn busy() -> Times {
         delta: 1,
         gamma: 2,
         views: 180,
+        k: Plan::VIEWS_PER_LEADER,
     };
     let mut clocks = [0; 64];
     for (number, clock) in clocks.iter_mut().enumerate() {
@@ -172,6 +175,7 @@ mod tests {
             delta: 1,
             gamma: 2,
             views: 3 * (ROUNDS + 1),
+            k: Plan::VIEWS_PER_LEADER,
         };
         let words = 2 * 8 * (ROUNDS as usize + 1);
         all(&mut opened(plan, [0; 64], words), 6 * ROUNDS);

@@ -1,6 +1,7 @@
 //! Reports of a run's traffic, check 9 included on both sides.
 
 use super::{in_turn, plain, timed, Row};
+use crate::text::Heading;
 use crate::trace::Trace;
 use crate::words::{put_run, RUN_WORDS, TRAFFIC_WORDS};
 use fever::raw;
@@ -23,13 +24,15 @@ fn run(n: u64) -> Trace {
         delta: 4,
         gamma: 16,
         views: 900,
+        k: Plan::VIEWS_PER_LEADER,
     };
     let mut trace = Trace::new();
-    trace.opening(&Setup {
+    let setup = Setup {
         plan,
         faulty: 0,
         clocks: [0; 64],
-    });
+    };
+    trace.opening(Heading::Six, &setup);
     trace.event(Event::Tick(2));
     for signer in 0..plan.view_signers() {
         trace.event(Event::Deliver(Message::View(0, signer)));

@@ -3,10 +3,10 @@
 use super::*;
 use crate::words::{BYTES, FULL, SENT, STEP, WAITS};
 
-/// n=4, delta 2, gamma 4, 6 views, all clocks 0.
+/// n=4, delta 2, gamma 4, 6 views, 3 of them per leader, all clocks 0.
 fn setup() -> Vec<u64> {
     let mut words = vec![0; SETUP_WORDS];
-    words[..4].copy_from_slice(&[4, 2, 4, 6]);
+    words[..5].copy_from_slice(&[4, 2, 4, 6, 3]);
     words
 }
 
@@ -24,14 +24,14 @@ fn openings_and_events() {
     );
     assert_eq!(open(&setup(), &mut run, &mut tally[..23], &mut network), 6);
     assert_eq!(open(&setup(), &mut run, &mut tally, &mut network), 0);
-    assert_eq!((run[0], run[8], network[2]), (4, 8, 64));
+    assert_eq!((run[0], run[HELD], network[2]), (4, 8, 64));
     let mut call = |numbers| apply(&mut run, numbers, &mut tally, &mut network);
     assert_eq!(call([1, 5, 0, 0]), 1);
     assert_eq!(call([1, 1, 0, 0]), 0);
     assert_eq!(call([1, 1, 0, 0]), 13);
     assert_eq!(call([4, 77, 0, 99]), 0);
     assert_eq!(call([5, 0, 3, 0]), 16);
-    assert_eq!((run[5], run[8]), (2, 7));
+    assert_eq!((run[TIME], run[HELD]), (2, 7));
     run[SETTLED] = 2;
     assert_eq!(apply(&mut run, [5, 0, 1, 0], &mut tally, &mut network), 9);
     assert_eq!(apply(&mut run, [5, 0, 0, 0], &mut tally, &mut network), 1);
@@ -49,7 +49,7 @@ fn events_together() {
     };
     assert_eq!(call(&mut run[..RUN_WORDS - 1]), (1, events));
     run[SETTLED] = 2;
-    assert_eq!(call(&mut run[..7]), (1, events));
+    assert_eq!(call(&mut run[..SETTLED + 1]), (1, events));
     assert_eq!(call(&mut run), (9, events));
     run[SETTLED] = 0;
     let answers = [4, 0, 0, 8, 5, 16, 2, 8, 6, 1, 0, 8, 1, 0, 0, 7, 5, 0, 9];
@@ -72,11 +72,11 @@ fn loads() {
     assert_eq!(begin(&mut run[..RUN_WORDS - 1], &mut load, 60), 1);
     assert_eq!(begin(&mut run, &mut load[..5], 60), 1);
     assert_eq!((&run, &load), (&before.0, &before.1));
-    assert_eq!(begin(&mut run, &mut load, 26), 0);
+    assert_eq!(begin(&mut run, &mut load, 28), 0);
     assert_eq!((&run, &load[..]), (&before.0, &[3, 0, 409, 0, 0, 1, 7][..]));
     assert_eq!(begin(&mut run, &mut load, 40), 0);
-    assert_eq!((load[STEP], load[BYTES], load[FULL]), (0, 36, 1));
-    assert_eq!(&out[..38], b"(open 4 2 4 6 0 (0 0 0 0))\n(settle)\nxx");
+    assert_eq!((load[STEP], load[BYTES], load[FULL]), (0, 38, 1));
+    assert_eq!(&out[..40], b"(open 4 2 4 6 3 0 (0 0 0 0))\n(settle)\nxx");
     let mut go_on = |run: &mut [u64], load: &mut [u64]| {
         generate_more(run, &mut tally, &mut network, load, &mut out)
     };
@@ -109,19 +109,21 @@ fn steps() {
 fn lines() {
     let mut words = vec![7; READ_WORDS + 1];
     assert_eq!(read_line(b"(tick 5", &mut words), 1);
-    assert_eq!(read_line(b"(tick 5)", &mut words[..72]), 1);
+    assert_eq!(read_line(b"(tick 5)", &mut words[..73]), 1);
     assert!(words.iter().all(|&word| word == 7));
     assert_eq!(read_line(b"(tick 5)", &mut words), 0);
     assert_eq!(
-        (&words[..4], words[4], words[73]),
+        (&words[..4], words[4], words[74]),
         (&[5, 0, 5, 0][..], 0, 7)
     );
     let mut bytes = [1; 10];
     assert_eq!(write_event([5, 3, 5, 3], &mut bytes), 9);
     assert_eq!(&bytes, b"(tick 5)\n\x01");
     assert_eq!(write_event([5, 0, 0, 0], &mut bytes), 0);
-    assert_eq!(write_setup(&setup()[..68], &mut bytes), 0);
-    assert_eq!(write_setup(&setup(), &mut [0; 27]), 27);
+    assert_eq!(write_setup(&setup()[..69], &mut bytes), 0);
+    assert_eq!(write_setup(&setup(), &mut [0; 29]), 29);
+    assert_eq!(read_line(b"(open 4 2 4 6 0 (0 0 0 0))", &mut words), 0);
+    assert_eq!((words[0], &words[4..74]), (OPENING, &setup()[..]));
 }
 
 #[test]
@@ -152,7 +154,7 @@ fn runs_carried_over() {
     let (mut run, mut tally, mut network) = (vec![7; RUN_WORDS], vec![0; 24], vec![0; 17]);
     open(&setup(), &mut run, &mut tally, &mut network);
     let mut wide = [7; 35];
-    assert_eq!(unpack(&run[..145], &tally, &network, &mut wide), 1);
+    assert_eq!(unpack(&run[..146], &tally, &network, &mut wide), 1);
     assert_eq!(unpack(&run, &tally, &network, &mut wide[..31]), 6);
     run[SETTLED] = 2;
     assert_eq!(unpack(&run, &tally, &network, &mut wide[..31]), 6);

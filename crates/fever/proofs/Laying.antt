@@ -25,10 +25,10 @@ pub laid : (d e w : List ℕ) (b n : ℕ) → length w ≡ n → Stamped d 0 w b
 unfolding stamp
 laid d e w b n l s = let q : 0 + length w ≡ n = omega (arith, l) in s .bytes ∙ ap (λ (k : ℕ). w ++ drop k d) q
 
--- ---- a run: nine numbers, two tables and nine sums
+-- ---- a run: its numbers, two tables and nine sums
 
-module _ (numbers clocks views sums d : List ℕ) (nine : length numbers ≡ clocksWord) (c : length clocks ≡ tableClocks) (v : length views ≡ tableClocks)
-    (nine-more : length sums ≡ 9) (fits : runLength ≤ length d) where
+module _ (numbers clocks views sums d : List ℕ) (some : length numbers ≡ clocksWord) (c : length clocks ≡ tableClocks) (v : length views ≡ tableClocks)
+    (nine : length sums ≡ 9) (fits : runLength ≤ length d) where
   abbrev words : List ℕ
   words = numbers ++ (clocks ++ (views ++ sums))
 
@@ -45,7 +45,7 @@ module _ (numbers clocks views sums d : List ℕ) (nine : length numbers ≡ clo
 
 -- the numbers of a run, with the settled word at hand
 abbrev numbersWith : Run → ℕ → List ℕ
-numbersWith r s = r .plan .n ∷ r .plan .delta ∷ r .plan .gamma ∷ r .plan .views ∷ r .faulty ∷ r .time ∷ s ∷ r .gst ∷ r .held ∷ []
+numbersWith r s = planNumbers (r .plan) ++ (r .faulty ∷ r .time ∷ s ∷ r .gst ∷ r .held ∷ [])
 
 pub run-laid : (r : Run) (s : ℕ) (clocks views d e f g h : List ℕ) (a b c k : ℕ) → clocks ≡ r .clocks → views ≡ r .views
     → length clocks ≡ tableClocks → length views ≡ tableClocks → runLength ≤ length d → s ≡ settledAs (r .settled)
@@ -55,9 +55,9 @@ run-laid r s clocks views d e f g h a b c k i j l v fits q x y z w =
     ∙ ap (λ (n : ℕ). numbersWith r n ++ (clocks ++ (views ++ sumWords (r .traffic))) ++ drop runLength d) q
     ∙ ap₂ (λ (m n : List ℕ). runNumbers r ++ (m ++ (n ++ sumWords (r .traffic))) ++ drop runLength d) i j
 
--- ---- what was read: nine numbers and a table
+-- ---- what was read: the numbers of an event or a plan, and a table
 
-module _ (numbers clocks d : List ℕ) (nine : length numbers ≡ clocksWord) (c : length clocks ≡ tableClocks) (fits : readingLength ≤ length d) where
+module _ (numbers clocks d : List ℕ) (some : length numbers ≡ clocksWord) (c : length clocks ≡ tableClocks) (fits : readingLength ≤ length d) where
   reading-length : length (numbers ++ clocks) ≡ readingLength
   reading-length = omega (arith, length-append numbers clocks)
 

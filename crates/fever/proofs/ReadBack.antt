@@ -50,7 +50,7 @@ run-back r more c v =
     sum : (j : ℕ) → getD tables (tableClocks + tableClocks + j) 0 ≡ getD behind j 0
     sum j = sym (getD-drop (tableClocks + tableClocks) tables j 0) ∙ ap (λ (l : List ℕ). getD l j 0) last
 
--- the other way: the settled word is 0 or 1; the two tables, the sums and what is behind them are all that is behind the nine numbers
+-- the other way: the settled word is 0 or 1; the two tables, the sums and what is behind them are all that is behind the numbers
 settled-same : (g : ℕ) → ltb 1 g ≡ false → settledAs (eqb g 1) ≡ g
 settled-same zero e = refl
 settled-same (suc zero) e = refl
@@ -117,8 +117,9 @@ run-words-back (a ∷ b ∷ c ∷ d ∷ e ∷ []) l s = absurd (omega arith)
 run-words-back (a ∷ b ∷ c ∷ d ∷ e ∷ f ∷ []) l s = absurd (omega arith)
 run-words-back (a ∷ b ∷ c ∷ d ∷ e ∷ f ∷ g ∷ []) l s = absurd (omega arith)
 run-words-back (a ∷ b ∷ c ∷ d ∷ e ∷ f ∷ g ∷ h ∷ []) l s = absurd (omega arith)
-run-words-back (a ∷ b ∷ c ∷ d ∷ e ∷ f ∷ g ∷ h ∷ i ∷ ws) l s =
-    ap₂ (λ (z : ℕ) (y : List ℕ). a ∷ b ∷ c ∷ d ∷ e ∷ f ∷ z ∷ h ∷ i ∷ y) (settled-same g s) (tables-same ws (omega (arith, l)))
+run-words-back (a ∷ b ∷ c ∷ d ∷ e ∷ f ∷ g ∷ h ∷ i ∷ []) l s = absurd (omega arith)
+run-words-back (a ∷ b ∷ c ∷ d ∷ e ∷ f ∷ g ∷ h ∷ i ∷ j ∷ ws) l s =
+    ap₂ (λ (z : ℕ) (y : List ℕ). a ∷ b ∷ c ∷ d ∷ e ∷ f ∷ g ∷ z ∷ i ∷ j ∷ y) (settled-same h s) (tables-same ws (omega (arith, l)))
 
 pub setup-back : SetupBack
 unfolding setupIn

@@ -36,9 +36,9 @@ wide = lentOf (openedWords .run) (openedWords .tally) wideWords
 abbrev unsorted : Lent → Lent
 unsorted x = lentOf (set (x .run) settledWord 2) (x .tally) (x .network)
 
--- a run of 145 words
+-- a word less than a run has
 abbrev short : Lent → Lent
-short x = lentOf (take 145 (x .run)) (x .tally) (x .network)
+short x = lentOf (take 146 (x .run)) (x .tally) (x .network)
 
 pub carryingRows : List Row
 carryingRows =

@@ -58,7 +58,7 @@ runLeft ws a r = cond (accepted a) (runOver ws r) ws
 abbrev pub told : List ℕ → After → Called
 told ws a = called (checkOf (a .answer)) (lentOf (runLeft ws (a .answer) (a .state .run)) (a .state .tally) (a .state .network))
 
--- `fever_open`: the model's opening of the setup in the first 69 words. The run at hand is not judged: a refusal leaves its words, whatever they are.
+-- `fever_open`: the model's opening of the setup in the first 70 words. The run at hand is not judged: a refusal leaves its words, whatever they are.
 unfoldable pub openingWords : List ℕ → Lent → Called
 openingWords setup x =
     cond (ltb (length setup) setupLength || ltb (length (x .run)) runLength) (called 1 x) (told (x .run) (opening (setupIn setup) (lentState x)))
@@ -137,7 +137,7 @@ pub record StepsWords (m : Moved) (before : List ℕ) (r : ℕ) (after : List �
 abbrev pub readingLeft : List ℕ → Reading → List ℕ
 readingLeft ws x = cond (eqb (readCheck (x .read)) 0) (readingWords x ++ drop readingLength ws) ws
 
--- `fever_read_line`: 0 where the line is one of the forms, which is then in the first 73 words; else 1
+-- `fever_read_line`: 0 where the line is one of the forms, which is then in the first 74 words; else 1
 pub record ReadsWords (line before : List ℕ) (r : ℕ) (after : List ℕ) : Type 0 where
   pub check : r ≡ cond (ltb (length before) readingLength) 1 (readCheck (reading line .read))
   pub words : after ≡ cond (ltb (length before) readingLength) before (readingLeft before (reading line))
@@ -159,7 +159,7 @@ pub record WritesLine (lacks : Bool) (form before : List ℕ) (r : ℕ) (after :
 abbrev pub WritesEvent : Event → List ℕ → ℕ → List ℕ → Type 0
 WritesEvent e before r after = WritesLine (lacksForm e) (eventForm e) before r after
 
--- `fever_write_setup`: the line of the setup in the first 69 words
+-- `fever_write_setup`: the line of the setup in the first 70 words
 abbrev pub WritesSetup : List ℕ → List ℕ → ℕ → List ℕ → Type 0
 WritesSetup ws before r after =
     WritesLine (ltb (length ws) setupLength || lacksSetupForm (setupIn ws)) (setupForm (setupIn ws)) before r after

@@ -1,4 +1,4 @@
--- The library's words computed: document 01's printed schedule and settings as calls, what refused calls leave, and the numbers of events and lines.
+-- The library's words computed: document 01's printed schedule and settings as calls, what refused calls leave, and the numbers of events and lines; a processor's steps stand in `StepExamples`.
 -- Assumes nothing.
 use mathlib.Core.Path.{_≡_, refl}
 use mathlib.Core.List.{List, [], _∷_, _++_, map}
@@ -9,7 +9,7 @@ use Rattle.types.specs.declared.Event.the-variants.{Deliver, Sign, Show, Settle
 use Rattle.types.specs.declared.Message.the-variants.{View, Vote, Vc, Qc}
 use Rattle.model.specs.Traffic.{totals}
 use Rattle.model.specs.Lists.{sinceSettling, ticksDone, ticksSince}
-use Rattle.model.specs.Rows.{definitions, standard, table, zeroes, setupOf, fieldsOf, Row, agreeing, number, words}
+use Rattle.model.specs.Rows.{definitions, planWith, standard, table, zeroes, setupOf, Row, agreeing, number, words}
 use Rattle.lines.specs.Decimal.{decimal}
 use Rattle.lines.specs.Forms.{messageForm, eventForm, setupForm}
 use Rattle.lines.specs.Promises.{scheduleOf}
@@ -20,8 +20,8 @@ use Rattle.liveness.specs.Live as live
 use Rattle.words.specs.declared.Numbers.{Numbers}
 use Rattle.words.specs.Events.{eventOf, eventAs, fourNumbers, eventNumbers}
 use Rattle.words.specs.Batches.{wordsApplied}
-use Rattle.fever.specs.Layout.{setupIn, setupWords, runIn, timeWord, heldWord}
-use Rattle.fever.specs.Contracts.{Lent, lentOf, lentState, Called, openingWords, applyingWords, CalledAll, applyingAll, moveOf, recordLeft, messagesTold, readingLeft, writtenBy}
+use Rattle.fever.specs.Layout.{setupIn, setupWords, runIn, timeWord, settledWord, heldWord, sentWord}
+use Rattle.fever.specs.Contracts.{Lent, lentOf, lentState, Called, openingWords, applyingWords, CalledAll, applyingAll, readingLeft, writtenBy}
 use Rattle.fever.specs.Loads.{CalledLoad, generatingWords, generatingMore}
 use Rattle.fever.specs.Traffic.{CalledReport, reporting}
 use Rattle.fever.specs.Promises.{one, eventsOf}
@@ -34,9 +34,9 @@ sevens run tally network = lentOf (replicate run 7) (replicate tally 7) (replica
 
 -- two words more than a run has, and two more than the tally of 6 views
 abbrev pub enough : Lent
-enough = sevens 148 26 64
+enough = sevens 149 26 64
 
--- "(open 4 2 4 6 mask (c0 c1 ..))"
+-- "(open 4 2 4 6 3 mask (c0 c1 ..))"
 abbrev pub opensAt : ℕ → List ℕ → List ℕ
 opensAt faulty clocks = setupWords (setupOf standard faulty clocks)
 
@@ -62,7 +62,7 @@ openedWords = openingWords (opensAt 0 zeroes) enough .lent
 
 -- the same with another settled word
 abbrev pub oddly : Lent
-oddly = lentOf (take 6 (openedWords .run) ++ (2 ∷ []) ++ drop 7 (openedWords .run)) (openedWords .tally) (openedWords .network)
+oddly = lentOf (take settledWord (openedWords .run) ++ (2 ∷ []) ++ drop (settledWord + 1) (openedWords .run)) (openedWords .tally) (openedWords .network)
 
 -- document 01's printed schedule, after its opening
 abbrev pub printed : List Numbers
@@ -75,14 +75,14 @@ callRows =
       telling (openingWords (opensAt 0 zeroes) enough) printed,
       (0 ∷ 0 ∷ 8 ∷ []) ∷ (0 ∷ 0 ∷ 7 ∷ []) ∷ (0 ∷ 0 ∷ 10 ∷ []) ∷ (0 ∷ 3 ∷ 10 ∷ []) ∷ (0 ∷ 3 ∷ 10 ∷ []) ∷ (16 ∷ 5 ∷ 10 ∷ []) ∷ [],
     )
-    -- the run's words after an opening, settling and two ticks: the clock of the faulty one is 0, three view messages and three votes were sent, what stands behind the 146 words stays
+    -- the run's words after an opening, settling and two ticks: the clock of the faulty one is 0, three view messages and three votes were sent, what stands behind the 147 words stays
     ∷ words (applyingWords ((Tick 2)) (applyingWords Settle (openingWords (opensAt 8 (1 ∷ 2 ∷ 3 ∷ 9 ∷ [])) enough .lent) .lent) .lent .run)
-    (4 ∷ 2 ∷ 4 ∷ 6 ∷ 8 ∷ 2 ∷ 1 ∷ 0 ∷ 6 ∷ [] ++ table (3 ∷ 4 ∷ 5 ∷ []) ++ table [] ++ (3 ∷ 3 ∷ 0 ∷ 0 ∷ 0 ∷ 0 ∷ 0 ∷ 0 ∷ 0 ∷ 7 ∷ 7 ∷ []))
+    (4 ∷ 2 ∷ 4 ∷ 6 ∷ 3 ∷ 8 ∷ 2 ∷ 1 ∷ 0 ∷ 6 ∷ [] ++ table (3 ∷ 4 ∷ 5 ∷ []) ++ table [] ++ (3 ∷ 3 ∷ 0 ∷ 0 ∷ 0 ∷ 0 ∷ 0 ∷ 0 ∷ 0 ∷ 7 ∷ 7 ∷ []))
     -- refused calls: a start clock too high; a word too few; no run; numbers that are no event, no such message, 0 ticks; a settled word that is of no run
     ∷ leaves enough 7 (openingWords (opensAt 0 (12 ∷ 12 ∷ 12 ∷ 12 ∷ [])) enough)
-    ∷ leaves enough 1 (openingWords (take 68 (opensAt 0 zeroes)) enough)
-    ∷ leaves (sevens 145 24 64) 1 (openingWords (opensAt 0 zeroes) (sevens 145 24 64))
-    ∷ leaves (sevens 145 24 64) 1 (applyingWords Settle (sevens 145 24 64))
+    ∷ leaves enough 1 (openingWords (take 69 (opensAt 0 zeroes)) enough)
+    ∷ leaves (sevens 146 24 64) 1 (openingWords (opensAt 0 zeroes) (sevens 146 24 64))
+    ∷ leaves (sevens 146 24 64) 1 (applyingWords Settle (sevens 146 24 64))
     ∷ leaves enough 9 (applyingWords (Settle) enough)
     ∷ leaves openedWords 1 (applyingWords (eventAs (fourNumbers 6 1 0 0)) openedWords)
     ∷ leaves openedWords 1 (applyingWords (eventAs (fourNumbers 1 5 0 0)) openedWords)
@@ -135,7 +135,7 @@ allRows =
     -- no event
     ∷ allLeaves 0 openedWords (1 ∷ 1 ∷ 0 ∷ []) (applyingAll (1 ∷ 1 ∷ 0 ∷ []) openedWords)
     -- refused as a whole: a word too few, a settled word that is of no run
-    ∷ allLeaves 1 (sevens 145 24 64) (inWords printed) (applyingAll (inWords printed) (sevens 145 24 64))
+    ∷ allLeaves 1 (sevens 146 24 64) (inWords printed) (applyingAll (inWords printed) (sevens 146 24 64))
     ∷ allLeaves 9 oddly (inWords printed) (applyingAll (inWords printed) oddly)
     ∷ []
 
@@ -167,8 +167,8 @@ noMore r x load = loadLeaves r x load (replicate 60 7) (generatingMore x load (r
 pub loadRows : List Row
 loadRows =
     -- what the calls for its lines leave; its seed, its step, the bytes written, and that more are needed
-    loadLeaves 0 (leftInTurn openedWords (map eventNumbers (Deliver (Vote 0 1) ∷ []))) (8 ∷ 3 ∷ 9396908728118811419 ∷ 1 ∷ 48 ∷ 1 ∷ 7 ∷ [])
-    (scheduleOf (setupForm (setupOf standard 0 zeroes) ∷ eventForm (Deliver (Vote 0 1)) ∷ []) ++ replicate 12 7) firstPiece
+    loadLeaves 0 (leftInTurn openedWords (map eventNumbers (Deliver (Vote 0 1) ∷ []))) (8 ∷ 3 ∷ 9396908728118811419 ∷ 1 ∷ 50 ∷ 1 ∷ 7 ∷ [])
+    (scheduleOf (setupForm (setupOf standard 0 zeroes) ∷ eventForm (Deliver (Vote 0 1)) ∷ []) ++ replicate 10 7) firstPiece
     -- and it goes on
     ∷ loadLeaves 0 (leftInTurn openedWords (map eventNumbers (Deliver (Vote 0 1) ∷ Deliver (View 0 3) ∷ Deliver (Vote 0 2) ∷ Settle ∷ [])))
     (8 ∷ 3 ∷ 9232803539723513983 ∷ 3 ∷ 51 ∷ 1 ∷ 7 ∷ []) (scheduleOf (map eventForm (Deliver (View 0 3) ∷ Deliver (Vote 0 2) ∷ Settle ∷ [])) ++ replicate 9 7)
@@ -176,15 +176,15 @@ loadRows =
     -- no step is left: nothing is written but the load's words
     ∷ loadLeaves 0 openedWords (8 ∷ 3 ∷ 1 ∷ 8 ∷ 0 ∷ 0 ∷ []) (replicate 60 7) (generatingMore openedWords (8 ∷ 3 ∷ 1 ∷ 8 ∷ 7 ∷ 7 ∷ []) (replicate 60 7))
     -- a byte too few for the setup's line: words of no run stay
-    ∷ loadLeaves 0 enough (8 ∷ 3 ∷ 1 ∷ 0 ∷ 0 ∷ 1 ∷ 7 ∷ []) (replicate 26 7) (generatingWords (opensAt 0 zeroes) enough eightSteps (replicate 26 7))
+    ∷ loadLeaves 0 enough (8 ∷ 3 ∷ 1 ∷ 0 ∷ 0 ∷ 1 ∷ 7 ∷ []) (replicate 28 7) (generatingWords (opensAt 0 zeroes) enough eightSteps (replicate 28 7))
     -- refused: a word too few of the setup, the run or the load; a start clock too high; no run; a settled word that is of no run
-    ∷ noLoad 1 (take 68 (opensAt 0 zeroes)) enough eightSteps
-    ∷ noLoad 1 (opensAt 0 zeroes) (sevens 145 24 64) eightSteps
+    ∷ noLoad 1 (take 69 (opensAt 0 zeroes)) enough eightSteps
+    ∷ noLoad 1 (opensAt 0 zeroes) (sevens 146 24 64) eightSteps
     ∷ noLoad 1 (opensAt 0 zeroes) enough (take 5 eightSteps)
     ∷ noLoad 7 (opensAt 0 (12 ∷ 12 ∷ 12 ∷ 12 ∷ [])) enough eightSteps
-    ∷ noMore 1 (sevens 145 24 64) eightSteps
+    ∷ noMore 1 (sevens 146 24 64) eightSteps
     ∷ noMore 1 openedWords (take 5 eightSteps)
-    ∷ noMore 9 (lentOf (replicate 146 1) (openedWords .tally) (openedWords .network)) eightSteps
+    ∷ noMore 9 (lentOf (replicate 147 1) (openedWords .tally) (openedWords .network)) eightSteps
     ∷ noMore 9 oddly eightSteps
     ∷ []
 
@@ -195,7 +195,7 @@ load-rows-hold = refl
 -- The settling half of the library's demand 3 speaks of something: the run past the bound of `liveness`, as calls, none of which is refused.
 
 abbrev pub liveOpening : Called
-liveOpening = openingWords (setupWords live.setup) (sevens 146 48 64)
+liveOpening = openingWords (setupWords live.setup) (sevens 147 48 64)
 
 abbrev pub liveCalls : List Numbers
 liveCalls = map eventNumbers live.events
@@ -228,9 +228,9 @@ trafficRows =
     (reporting (leftInTurn openedWords (map eventNumbers (Tick 2 ∷ Deliver (Vote 0 1) ∷ []))) (replicate 13 7))
     -- sums handed in, no number twice: each is told from its own word
     ∷ reportLeaves 0 (11 ∷ 12 ∷ 13 ∷ 14 ∷ 15 ∷ 16 ∷ 17 ∷ 18 ∷ 4 ∷ 4 ∷ 0 ∷ 0 ∷ 19 ∷ [])
-    (reporting (lentOf (take 137 (openedWords .run) ++ (11 ∷ 12 ∷ 13 ∷ 14 ∷ 15 ∷ 16 ∷ 17 ∷ 18 ∷ 19 ∷ [])) (openedWords .tally) (openedWords .network)) (replicate 13 7))
+    (reporting (lentOf (take sentWord (openedWords .run) ++ (11 ∷ 12 ∷ 13 ∷ 14 ∷ 15 ∷ 16 ∷ 17 ∷ 18 ∷ 19 ∷ [])) (openedWords .tally) (openedWords .network)) (replicate 13 7))
     -- refused: a word too few of the run or of the report; no run; a settled word that is of no run; 1 before 9
-    ∷ noReport 1 (sevens 145 24 64) 13
+    ∷ noReport 1 (sevens 146 24 64) 13
     ∷ noReport 1 openedWords 12
     ∷ noReport 9 enough 13
     ∷ noReport 9 oddly 13
@@ -240,35 +240,6 @@ trafficRows =
 pub traffic-rows-hold : agreeing 0 trafficRows ≡ length trafficRows
 unfolding trafficRows reporting totals openingWords applyingWords setupIn runIn eventOf definitions
 traffic-rows-hold = refl
-
--- ---- one processor
-
--- the check, the record's words and the messages that they tell
-abbrev pub stepTold : ℕ → ℕ → List ℕ → List (List ℕ)
-stepTold input view ws =
-    let m = moveOf standard input view ws in (m .check ∷ []) ∷ recordLeft ws m ∷ map fieldsOf (messagesTold (recordLeft ws m))
-
-pub stepRows : List Row
-stepRows =
-    -- "View 0, clock 2, quorum certificate 2: view 3, clock 12, two messages."
-    (stepTold 4 2 (1 ∷ 2 ∷ 0 ∷ 7 ∷ 7 ∷ []), (0 ∷ []) ∷ (1 ∷ 12 ∷ 3 ∷ 2 ∷ 7 ∷ []) ∷ (1 ∷ 3 ∷ 1 ∷ []) ∷ (2 ∷ 3 ∷ 1 ∷ []) ∷ [])
-    -- "View 0, clock 6, quorum certificate 0: view 1, clock 6, one message."
-    ∷ (stepTold 4 0 (1 ∷ 6 ∷ 0 ∷ 7 ∷ []), (0 ∷ []) ∷ (1 ∷ 6 ∷ 1 ∷ 1 ∷ []) ∷ (2 ∷ 1 ∷ 1 ∷ []) ∷ [])
-    -- "View 3, view certificate 3: nothing."
-    ∷ (stepTold 3 3 (1 ∷ 12 ∷ 3 ∷ 7 ∷ []), (0 ∷ []) ∷ (1 ∷ 12 ∷ 3 ∷ 0 ∷ []) ∷ [])
-    -- "Quorum certificate 5: check 17.", and the record's words stay
-    ∷ (take 2 (stepTold 4 5 (1 ∷ 2 ∷ 0 ∷ 7 ∷ [])), (17 ∷ []) ∷ (1 ∷ 2 ∷ 0 ∷ 7 ∷ []) ∷ [])
-    -- a view certificate for a view that is not initial, which only a quorum certificate may name
-    ∷ (take 2 (stepTold 3 2 (1 ∷ 2 ∷ 0 ∷ 7 ∷ [])), (11 ∷ []) ∷ (1 ∷ 2 ∷ 0 ∷ 7 ∷ []) ∷ [])
-    -- a tick; an input that is none; a word too few
-    ∷ (stepTold 0 9 (1 ∷ 2 ∷ 0 ∷ 7 ∷ []), (0 ∷ []) ∷ (1 ∷ 3 ∷ 0 ∷ 0 ∷ []) ∷ [])
-    ∷ (take 2 (stepTold 1 0 (1 ∷ 2 ∷ 0 ∷ 7 ∷ [])), (1 ∷ []) ∷ (1 ∷ 2 ∷ 0 ∷ 7 ∷ []) ∷ [])
-    ∷ (take 2 (stepTold 0 0 (1 ∷ 2 ∷ 0 ∷ [])), (1 ∷ []) ∷ (1 ∷ 2 ∷ 0 ∷ []) ∷ [])
-    ∷ []
-
-pub step-rows-hold : agreeing 0 stepRows ≡ length stepRows
-unfolding stepRows moveOf definitions
-step-rows-hold = refl
 
 -- ---- numbers of events and lines
 
@@ -281,10 +252,10 @@ numberRows = (
       ∷ (3 ∷ 4 ∷ 4 ∷ 2 ∷ []) ∷ (4 ∷ 0 ∷ 0 ∷ 0 ∷ []) ∷ (5 ∷ 0 ∷ 9 ∷ 0 ∷ []) ∷ [],
 )
     -- a line of an opening, of an event, and one that is none of the forms, in a word more than it takes
-    ∷ words (readingLeft (replicate 74 7) (openingReading (setupOf standard 8 (1 ∷ 2 ∷ 3 ∷ 9 ∷ []))))
-    (6 ∷ 0 ∷ 0 ∷ 0 ∷ 4 ∷ 2 ∷ 4 ∷ 6 ∷ 8 ∷ [] ++ table (1 ∷ 2 ∷ 3 ∷ 9 ∷ []) ++ (7 ∷ []))
-    ∷ words (readingLeft (replicate 74 7) (eventReading (Show (Qc 4 2)))) (3 ∷ 4 ∷ 4 ∷ 2 ∷ 0 ∷ 0 ∷ 0 ∷ 0 ∷ 0 ∷ [] ++ table [] ++ (7 ∷ []))
-    ∷ words (readingLeft (replicate 74 7) noForm) (replicate 74 7)
+    ∷ words (readingLeft (replicate 75 7) (openingReading (setupOf (planWith 4 2 8 6 2) 8 (1 ∷ 2 ∷ 3 ∷ 9 ∷ []))))
+    (6 ∷ 0 ∷ 0 ∷ 0 ∷ 4 ∷ 2 ∷ 8 ∷ 6 ∷ 2 ∷ 8 ∷ [] ++ table (1 ∷ 2 ∷ 3 ∷ 9 ∷ []) ++ (7 ∷ []))
+    ∷ words (readingLeft (replicate 75 7) (eventReading (Show (Qc 4 2)))) (3 ∷ 4 ∷ 4 ∷ 2 ∷ 0 ∷ 0 ∷ 0 ∷ 0 ∷ 0 ∷ 0 ∷ [] ++ table [] ++ (7 ∷ []))
+    ∷ words (readingLeft (replicate 75 7) noForm) (replicate 75 7)
     -- what a function that writes answers
     ∷ number (writtenCheck (writtenBy 0)) 1
     ∷ number (writtenCheck (writtenBy 9)) 0

@@ -23,7 +23,7 @@ use Rattle.words.specs.Events.{fourNumbers, eventNumbers}
 -- ---- the first words of a run and of a setup: the plan's numbers, then the faulty set
 
 abbrev pub faultyWord : ℕ
-faultyWord = 4
+faultyWord = 5
 
 -- a table of 64 words from a place on
 abbrev pub tableIn : ℕ → List ℕ → List ℕ
@@ -32,10 +32,10 @@ tableIn at ws = take tableClocks (drop at ws)
 -- ---- a setup: the plan, the faulty set, 64 start clocks
 
 abbrev pub setupLength : ℕ
-setupLength = 69
+setupLength = 70
 
 abbrev pub startWord : ℕ
-startWord = 5
+startWord = 6
 
 unfoldable pub setupIn : List ℕ → Setup
 setupIn ws = record { plan = planIn ws; faulty = getD ws faultyWord 0; clocks = tableIn startWord ws }
@@ -47,34 +47,34 @@ setupWords u = planNumbers (u .plan) ++ (u .faulty ∷ u .clocks)
 -- messages sent and those delivered, four kinds each, and the sum of waits
 
 abbrev pub runLength : ℕ
-runLength = 146
+runLength = 147
 
 abbrev pub timeWord : ℕ
-timeWord = 5
+timeWord = 6
 
 abbrev pub settledWord : ℕ
-settledWord = 6
+settledWord = 7
 
 abbrev pub gstWord : ℕ
-gstWord = 7
+gstWord = 8
 
 abbrev pub heldWord : ℕ
-heldWord = 8
+heldWord = 9
 
 abbrev pub clocksWord : ℕ
-clocksWord = 9
+clocksWord = 10
 
 abbrev pub viewsWord : ℕ
-viewsWord = 73
+viewsWord = 74
 
 abbrev pub sentWord : ℕ
-sentWord = 137
+sentWord = 138
 
 abbrev pub deliveredWord : ℕ
-deliveredWord = 141
+deliveredWord = 142
 
 abbrev pub waitSumWord : ℕ
-waitSumWord = 145
+waitSumWord = 146
 
 abbrev pub countsAt : ℕ → List ℕ → Counts
 countsAt at ws = countsOf (getD ws at 0) (getD ws (at + 1) 0) (getD ws (at + 2) 0) (getD ws (at + 3) 0)
@@ -115,7 +115,7 @@ recordIn ws = record { number = getD ws 0 0; clock = getD ws 1 0; view = getD ws
 -- ---- what a line is read as: the numbers of its event, or form 6 for an opening; then its setup, 0 everywhere beside an event
 
 abbrev pub readingLength : ℕ
-readingLength = 73
+readingLength = 74
 
 abbrev pub readNumbers : Read → Numbers
 readNumbers (Read.Event e) = eventNumbers e

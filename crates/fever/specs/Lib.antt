@@ -6,4 +6,5 @@ pub mod Traffic
 pub mod Carrying
 pub mod Promises
 pub mod Examples
+pub mod StepExamples
 pub mod CarryingExamples

@@ -20,7 +20,7 @@ pub(crate) const SEED: usize = 2;
 
 pub(crate) const STEP: usize = 3;
 
-// The run in the first 146 words.
+// The run in the first 147 words.
 pub(crate) fn run_in(words: &[u64]) -> Run
     requires { ⌜ runLength ≤ length (now words) ⌝ }
     ensures { λ r. ⌜ r ≡ runIn (now (words .entry)) ⌝ }

@@ -19,34 +19,34 @@ ghost use Rattle.writer.specs.Stamps.{Room, Stamped};
 ghost use Rattle.fever.specs.Layout.{tableIn, countsAt, setupLength, setupIn, runLength, runIn, runOver, readingLength};
 ghost use Rattle.fever.specs.Contracts.{runLeft, readingLeft};
 
-pub(crate) const SETUP_WORDS: usize = 69;
+pub(crate) const SETUP_WORDS: usize = 70;
 
-pub(crate) const RUN_WORDS: usize = 146;
+pub(crate) const RUN_WORDS: usize = 147;
 
-pub(crate) const READING_WORDS: usize = 73;
+pub(crate) const READING_WORDS: usize = 74;
 
-// Which word of a run or a setup holds what, from the plan's four on.
-const FAULTY: usize = 4;
+// Which word of a run or a setup holds what, from the plan's five on.
+const FAULTY: usize = 5;
 
-const START_CLOCKS: usize = 5;
+const START_CLOCKS: usize = 6;
 
-const TIME: usize = 5;
+const TIME: usize = 6;
 
-pub(crate) const SETTLED: usize = 6;
+pub(crate) const SETTLED: usize = 7;
 
-const GST: usize = 7;
+const GST: usize = 8;
 
-const HELD: usize = 8;
+const HELD: usize = 9;
 
-pub(crate) const CLOCKS: usize = 9;
+pub(crate) const CLOCKS: usize = 10;
 
-pub(crate) const VIEWS: usize = 73;
+pub(crate) const VIEWS: usize = 74;
 
-const SENT: usize = 137;
+const SENT: usize = 138;
 
-const DELIVERED: usize = 141;
+const DELIVERED: usize = 142;
 
-const WAITS: usize = 145;
+const WAITS: usize = 146;
 
 // The clocks of a table.
 const TABLE: usize = 64;
@@ -70,7 +70,7 @@ pub(crate) fn table_in(words: &[u64], at: usize) -> [u64; 64]
 
 // The plan of a run or a setup.
 fn plan_in(words: &[u64]) -> Plan
-    requires { ⌜ 4 ≤ length (now words) ⌝ }
+    requires { ⌜ 5 ≤ length (now words) ⌝ }
     ensures { λ r. ⌜ r ≡ planIn (now (words .entry)) ⌝ }
 {
     Plan {
@@ -78,10 +78,11 @@ fn plan_in(words: &[u64]) -> Plan
         delta: words[1],
         gamma: words[2],
         views: words[3],
+        k: words[4],
     }
 }
 
-// The setup in the first 69 words.
+// The setup in the first 70 words.
 pub(crate) fn setup_in(words: &[u64]) -> Setup
     requires { ⌜ setupLength ≤ length (now words) ⌝ }
     ensures { λ r. ⌜ r ≡ setupIn (now (words .entry)) ⌝ }
@@ -108,7 +109,7 @@ fn counts_in(words: &[u64], at: usize) -> Counts
     }
 }
 
-// The run in the first 146 words, but for its tables.
+// The run in the first 147 words, but for its tables.
 pub(crate) fn head_in(words: &[u64]) -> Head
     requires { ⌜ runLength ≤ length (now words) ⌝ }
     ensures { λ r. ⌜ r ≡ headOf (runIn (now (words .entry))) ⌝ }
@@ -149,7 +150,7 @@ fn own_table(table: &[u64; 64]) -> [u64; 64]
     *table
 }
 
-// The first 146 words become those of the run whose tables are lent beside its head.
+// The first 147 words become those of the run whose tables are lent beside its head.
 pub(crate) fn put_run(words: &mut [u64], head: Head, clocks: &[u64; 64], views: &[u64; 64])
     requires { ⌜ runLength ≤ length (now words) ⌝ }
     ensures { λ r. ⌜ now (words .exit) ≡ runOver (now (words .entry)) (runFrom head (now (clocks .entry)) (now (views .entry))) ⌝ }
@@ -159,6 +160,7 @@ pub(crate) fn put_run(words: &mut [u64], head: Head, clocks: &[u64; 64], views: 
         head.plan.delta,
         head.plan.gamma,
         head.plan.views,
+        head.plan.k,
         head.faulty,
         head.time,
         types::settled_as(head.settled == 1),
@@ -210,7 +212,7 @@ pub(crate) fn put_outcome(
     }
 }
 
-// The first 73 words become those of the line of an event.
+// The first 74 words become those of the line of an event.
 pub(crate) fn put_event(words: &mut [u64], event: Event) -> u64
     requires { ⌜ readingLength ≤ length (now words) ⌝ }
     ensures { λ r. ⌜ (r ≡ 0) × (now (words .exit) ≡ readingLeft (now (words .entry)) (eventReading event)) ⌝ }
@@ -225,7 +227,7 @@ pub(crate) fn put_event(words: &mut [u64], event: Event) -> u64
     0
 }
 
-// The first 73 words become those of the line of a setup; where it has no processors, the line was none of the forms. Answers the check, or 0.
+// The first 74 words become those of the line of a setup; where it has no processors, the line was none of the forms. Answers the check, or 0.
 pub(crate) fn put_setup(words: &mut [u64], setup: Setup) -> u64
     requires { ⌜ readingLength ≤ length (now words) ⌝ }
     ensures { λ r. ⌜ (r ≡ readCheck (openingOr setup .read)) × (now (words .exit) ≡ readingLeft (now (words .entry)) (openingOr setup)) ⌝ }
@@ -242,6 +244,7 @@ pub(crate) fn put_setup(words: &mut [u64], setup: Setup) -> u64
         setup.plan.delta,
         setup.plan.gamma,
         setup.plan.views,
+        setup.plan.k,
         setup.faulty,
     ];
     let clocks = setup.clocks;

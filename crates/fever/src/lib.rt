@@ -107,17 +107,19 @@ pub extern "C" fn fever_step(
     delta: u64,
     gamma: u64,
     views: u64,
+    k: u64,
     processor: &mut [u64],
     input: u64,
     view: u64,
 ) -> u64
-    ensures { λ r. ⌜ StepsWords (moveOf (planIn (n ∷ delta ∷ gamma ∷ views ∷ [])) input view (now (processor .entry))) (now (processor .entry)) r (now (processor .exit)) ⌝ }
+    ensures { λ r. ⌜ StepsWords (moveOf (planIn (n ∷ delta ∷ gamma ∷ views ∷ k ∷ [])) input view (now (processor .entry))) (now (processor .entry)) r (now (processor .exit)) ⌝ }
 {
     let plan = Plan {
         n: n,
         delta: delta,
         gamma: gamma,
         views: views,
+        k: k,
     };
     steps::step_record(plan, processor, input, view)
 }

@@ -1,6 +1,6 @@
 -- No form has a newline in it, so a schedule of forms is cut into just these. Assumes nothing.
 use mathlib.Core.Path.{_≡_, refl, sym, ap, _∙_}
-use mathlib.Core.Logic.{⊎-elim}
+use mathlib.Core.Logic.{inl, inr, ⊎-elim}
 use mathlib.Core.Bool.{Bool, true, false, not, _&&_, cond}
 use Prim.Native.Nat.{ℕ, zero, suc, _/_, _%_}
 use native.Mathlib.Omega.{arith}
@@ -14,9 +14,9 @@ use Rattle.types.specs.declared.Message.the-variants.{View, Vote, Vc, Qc}
 use Rattle.types.specs.declared.Event.{Event}
 use Rattle.types.specs.declared.Event.the-variants.{Deliver, Sign, Show, Settle, Tick}
 use Rattle.types.specs.declared.Setup.{Setup}
-use Rattle.types.specs.Runs.{planNumbers}
+use Rattle.types.specs.Runs.{planNumbers, usualNumbers}
 use Rattle.lines.specs.Decimal.{digit, digitsIn, decimal}
-use Rattle.lines.specs.Forms.{newline, closeBracket, messageForm, eventForm, furtherClocks, clocksForm, lineClocks, setForm, setupForm, EventLine, SetupLine, oneBlank, openBracket, joined, spaced, messageFields}
+use Rattle.lines.specs.Forms.{newline, closeBracket, messageForm, eventForm, furtherClocks, clocksForm, lineClocks, setForm, planForm, setupForm, usualForm, SetupBytes, EventLine, SetupLine, oneBlank, openBracket, joined, spaced, messageFields}
 use Rattle.lines.specs.Contracts.{line}
 use Rattle.lines.specs.Splitting.{beforeNewline, ended, linesAfter, inputLines}
 use Rattle.lines.specs.Promises.{Formed, scheduleOf, CutsBack}
@@ -76,15 +76,19 @@ clean-clocks : (l : List ℕ) → T (clean (clocksForm l))
 clean-clocks [] = tt
 clean-clocks (c ∷ l) = clean-number c (furtherClocks l) (clean-further l)
 
-clean-setup : (u : Setup) → T (clean (setupForm u))
-unfolding setupForm
-clean-setup u =
+clean-plan : (ns : List ℕ) (u : Setup) → T (clean (planForm ns u))
+clean-plan ns u =
     let table : List (List ℕ) = oneBlank ∷ openBracket ∷ clocksForm (lineClocks u) ∷ closeBracket ∷ closeBracket ∷ [] in
-    clean-spaced (planNumbers (u .plan)) (setForm (u .faulty) ∷ table)
+    clean-spaced ns (setForm (u .faulty) ∷ table)
     (clean-number (u .faulty) (joined table) (clean-append (clocksForm (lineClocks u)) (joined (closeBracket ∷ closeBracket ∷ [])) (clean-clocks (lineClocks u)) tt))
 
+clean-setup : (s : List ℕ) (u : Setup) → SetupBytes s u → T (clean s)
+unfolding setupForm usualForm
+clean-setup s u (inl e) = rw e (clean-plan (planNumbers (u .plan)) u)
+clean-setup s u (inr e) = rw (e .0) (clean-plan (usualNumbers (u .plan)) u)
+
 clean-form : (s : List ℕ) → Formed s → T (clean s)
-clean-form s = ⊎-elim (λ (x : (e : Event) × EventLine s e). rw (x .1 .bytes) (clean-event (x .0))) (λ (x : (u : Setup) × SetupLine s u). rw (x .1 .bytes) (clean-setup (x .0)))
+clean-form s = ⊎-elim (λ (x : (e : Event) × EventLine s e). rw (x .1 .bytes) (clean-event (x .0))) (λ (x : (u : Setup) × SetupLine s u). clean-setup s (x .0) (x .1 .bytes))
 
 -- ---- the newline behind a form is the first
 

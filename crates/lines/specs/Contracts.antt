@@ -26,7 +26,7 @@ readAs r u = record { read = r; setup = u }
 
 -- what stands beside anything but an opening
 abbrev pub noSetup : Setup
-noSetup = record { plan = record { n = 0; delta = 0; gamma = 0; views = 0 }; faulty = 0; clocks = replicate tableClocks 0 }
+noSetup = record { plan = record { n = 0; delta = 0; gamma = 0; views = 0; k = 0 }; faulty = 0; clocks = replicate tableClocks 0 }
 
 abbrev pub eventReading : Event → Reading
 eventReading e = readAs (Read.Event e) noSetup

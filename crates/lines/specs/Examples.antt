@@ -7,7 +7,7 @@ use lib.ListN.{replicate}
 use Rattle.types.specs.declared.Answer.the-variants as Answer
 use Rattle.types.specs.declared.Message.the-variants.{View, Vote, Vc, Qc}
 use Rattle.types.specs.declared.Event.the-variants.{Deliver, Sign, Show, Settle, Tick}
-use Rattle.model.specs.Rows.{planOf, standard, setupOf}
+use Rattle.model.specs.Rows.{planOf, planWith, standard, setupOf}
 use Rattle.types.specs.declared.Setup.{Setup}
 use Rattle.types.specs.declared.Counts.{Counts}
 use Rattle.types.specs.declared.Totals.{Totals}
@@ -18,7 +18,7 @@ use Rattle.lines.specs.declared.Read.the-variants as Read
 use Rattle.lines.specs.declared.Next.{Next}
 use Rattle.lines.specs.declared.Next.the-variants.{Line, Long, Unfinished, Endless}
 use Rattle.lines.specs.Decimal.{decimal}
-use Rattle.lines.specs.Forms.{newline, joined, messageForm, eventForm, setupForm, lacksSetupForm, trimmed}
+use Rattle.lines.specs.Forms.{newline, joined, messageForm, eventForm, setupForm, usualForm, lacksSetupForm, trimmed}
 use Rattle.lines.specs.Printout.{answerForm, processorForm, totalsText}
 use Rattle.lines.specs.Contracts.{Reading, eventReading, noForm, readCheck, writtenAs, writtenIn, writtenCheck}
 use Rattle.lines.specs.Splitting.{beforeNewline, nextLine, Cut, ended, left, inputLines, cutRead}
@@ -39,7 +39,9 @@ formRows =
     ∷ eventForm (Tick 3)
     ∷ eventForm (Tick 18446744073709551615)
     ∷ setupForm (setupOf standard 0 (0 ∷ 0 ∷ 0 ∷ 0 ∷ []))
-    ∷ setupForm (setupOf (planOf 1 7 80 999) 1 (10 ∷ []))
+    ∷ setupForm (setupOf (planWith 1 7 80 999 8) 1 (10 ∷ []))
+    ∷ usualForm (setupOf standard 0 (0 ∷ 0 ∷ 0 ∷ 0 ∷ []))
+    ∷ usualForm (setupOf (planOf 1 7 80 999) 1 (10 ∷ []))
     ∷ []
 
 pub formBytes : List (List ℕ)
@@ -66,6 +68,10 @@ formBytes =
     ∷ (40 ∷ 116 ∷ 105 ∷ 99 ∷ 107 ∷ 32 ∷ 51 ∷ 41 ∷ [])
     -- "(tick 18446744073709551615)"
     ∷ (40 ∷ 116 ∷ 105 ∷ 99 ∷ 107 ∷ 32 ∷ 49 ∷ 56 ∷ 52 ∷ 52 ∷ 54 ∷ 55 ∷ 52 ∷ 52 ∷ 48 ∷ 55 ∷ 51 ∷ 55 ∷ 48 ∷ 57 ∷ 53 ∷ 53 ∷ 49 ∷ 54 ∷ 49 ∷ 53 ∷ 41 ∷ [])
+    -- "(open 4 2 4 6 3 0 (0 0 0 0))"
+    ∷ (40 ∷ 111 ∷ 112 ∷ 101 ∷ 110 ∷ 32 ∷ 52 ∷ 32 ∷ 50 ∷ 32 ∷ 52 ∷ 32 ∷ 54 ∷ 32 ∷ 51 ∷ 32 ∷ 48 ∷ 32 ∷ 40 ∷ 48 ∷ 32 ∷ 48 ∷ 32 ∷ 48 ∷ 32 ∷ 48 ∷ 41 ∷ 41 ∷ [])
+    -- "(open 1 7 80 999 8 1 (10))"
+    ∷ (40 ∷ 111 ∷ 112 ∷ 101 ∷ 110 ∷ 32 ∷ 49 ∷ 32 ∷ 55 ∷ 32 ∷ 56 ∷ 48 ∷ 32 ∷ 57 ∷ 57 ∷ 57 ∷ 32 ∷ 56 ∷ 32 ∷ 49 ∷ 32 ∷ 40 ∷ 49 ∷ 48 ∷ 41 ∷ 41 ∷ [])
     -- "(open 4 2 4 6 0 (0 0 0 0))"
     ∷ (40 ∷ 111 ∷ 112 ∷ 101 ∷ 110 ∷ 32 ∷ 52 ∷ 32 ∷ 50 ∷ 32 ∷ 52 ∷ 32 ∷ 54 ∷ 32 ∷ 48 ∷ 32 ∷ 40 ∷ 48 ∷ 32 ∷ 48 ∷ 32 ∷ 48 ∷ 32 ∷ 48 ∷ 41 ∷ 41 ∷ [])
     -- "(open 1 7 80 999 1 (10))"
@@ -73,7 +79,7 @@ formBytes =
     ∷ []
 
 pub formRows-hold : formRows ≡ formBytes
-unfolding formRows formBytes eventForm messageForm setupForm decimal
+unfolding formRows formBytes eventForm messageForm setupForm usualForm decimal
 formRows-hold = refl
 
 -- ---- printed lines

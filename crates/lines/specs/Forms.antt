@@ -2,6 +2,7 @@
 use Prim.Native.Nat.{ℕ, _-_, _<_}
 use mathlib.Core.Path.{_≡_}
 use mathlib.Core.Bool.{Bool, false, _||_}
+use mathlib.Core.Logic.{_⊎_}
 use mathlib.Core.List.{List, [], _∷_, _++_}
 use lib.ListN.{length, take, replicate}
 use lib.Dec.{eqb, ltb}
@@ -11,8 +12,8 @@ use Rattle.types.specs.declared.Message.the-variants.{View, Vote, Vc, Qc}
 use Rattle.types.specs.declared.Event.{Event}
 use Rattle.types.specs.declared.Event.the-variants.{Deliver, Sign, Show, Settle, Tick}
 use Rattle.types.specs.declared.Setup.{Setup}
-use Rattle.types.specs.Quantities.{nMost, tableClocks}
-use Rattle.types.specs.Runs.{planNumbers}
+use Rattle.types.specs.Quantities.{nMost, tableClocks, perLeader, perLeaderUsual}
+use Rattle.types.specs.Runs.{planNumbers, usualNumbers}
 use Rattle.types.specs.Messages.{viewIn, processorIn, lacksForm}
 use Rattle.lines.specs.Decimal.{decimal, fieldLimit}
 
@@ -147,9 +148,17 @@ openingForm w ns set table = joined (
 abbrev pub setForm : ℕ → List ℕ
 setForm faulty = oneBlank ++ decimal faulty
 
--- "(open n Δ Γ V mask (c0 c1 ..))"
+-- the opening of a setup, with these numbers before its set
+abbrev pub planForm : List ℕ → Setup → List ℕ
+planForm ns u = openingForm openWord ns (setForm (u .faulty)) (clocksForm (lineClocks u))
+
+-- "(open n Δ Γ V mask (c0 c1 ..))", with k "after V": "Lines are written with k"
 unfoldable pub setupForm : Setup → List ℕ
-setupForm u = openingForm openWord (planNumbers (u .plan)) (setForm (u .faulty)) (clocksForm (lineClocks u))
+setupForm u = planForm (planNumbers (u .plan)) u
+
+-- the "opening line without it"
+unfoldable pub usualForm : Setup → List ℕ
+usualForm u = planForm (usualNumbers (u .plan)) u
 
 -- ---- what has a form
 
@@ -178,12 +187,16 @@ pub record EventLine (s : List ℕ) (e : Event) : Type 0 where
   pub below : Below (eventFields e)
   pub bytes : s ≡ eventForm e
 
--- the line s is the form of the setup u, which has a whole table
+-- "any opening line without it is read as k=3": the bytes of the setup u are those that are written, or those without k where it is 3
+abbrev pub SetupBytes : List ℕ → Setup → Type 0
+SetupBytes s u = (s ≡ setupForm u) ⊎ ((s ≡ usualForm u) × (perLeader (u .plan) ≡ perLeaderUsual))
+
+-- the line s is a form of the setup u, which has a whole table
 pub record SetupLine (s : List ℕ) (u : Setup) : Type 0 where
   pub formed : lacksSetupForm u ≡ false
   pub below : Below (setupFields u)
   pub table : length (u .clocks) ≡ tableClocks
-  pub bytes : s ≡ setupForm u
+  pub bytes : SetupBytes s u
 
 -- "tables that differ only from n on are the same event": the setup with those clocks 0
 unfoldable pub trimmed : Setup → Setup

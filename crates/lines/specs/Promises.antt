@@ -1,4 +1,4 @@
--- What is promised of lines: one for each event, which words are reported where their ends are looked for, and how an input is cut into them.
+-- What is promised of lines: one is written for each event, which words are reported where their ends are looked for, and how an input is cut into them.
 use Prim.Native.Nat.{ℕ, suc, _/_, _%_, _^_, _≤_, _<_}
 use mathlib.Core.Path.{_≡_}
 use mathlib.Core.Bool.{Bool, true, false}
@@ -10,9 +10,11 @@ use Rattle.types.specs.declared.Answer.{Answer}
 use Rattle.types.specs.declared.Event.{Event}
 use Rattle.types.specs.declared.Setup.{Setup}
 use Rattle.types.specs.declared.Totals.{Totals}
+use Rattle.types.specs.Quantities.{tableClocks}
+use Rattle.types.specs.Runs.{setupWith, usualNumbers, usualPlanIn}
 use Rattle.lines.specs.declared.Next.{Next}
 use Rattle.lines.specs.declared.Next.the-variants.{Line, Long, Unfinished, Endless}
-use Rattle.lines.specs.Forms.{newline, EventLine, SetupLine, trimmed}
+use Rattle.lines.specs.Forms.{newline, setupForm, usualForm, lacksSetupForm, setupFields, Below, EventLine, SetupLine, trimmed}
 use Rattle.lines.specs.Printout.{answerForm, processorForm, printedMost, totalsText, totalsMost}
 use Rattle.lines.specs.declared.Written.{Written}
 use Rattle.lines.specs.Contracts.{Reading, eventReading, openingReading, readCheck, Reads, line, Writes, writtenCheck}
@@ -55,13 +57,22 @@ OneEvent = (s : List ℕ) (e e' : Event) → EventLine s e → EventLine s e' �
 abbrev pub OneSetup : Type 0
 OneSetup = (s : List ℕ) (u u' : Setup) → SetupLine s u → SetupLine s u' → trimmed u ≡ trimmed u'
 
+-- the setup with k = 3
+abbrev pub withUsual : Setup → Setup
+withUsual u = setupWith (usualPlanIn (usualNumbers (u .plan))) (u .faulty) (u .clocks)
+
+-- the line that is written is read as the setup; "any opening line without it is read as k=3"
+abbrev pub ReadsSetups : (List ℕ → Reading) → Type 0
+ReadsSetups f = (u : Setup) → lacksSetupForm u ≡ false → Below (setupFields u) → length (u .clocks) ≡ tableClocks
+    → (f (setupForm u) ≡ openingReading (trimmed u)) × (f (usualForm u) ≡ openingReading (trimmed (withUsual u)))
+
 -- no line is the form of an event and of a setup
 abbrev pub NeverBoth : Type 0
 NeverBoth = (s : List ℕ) (e : Event) (u : Setup) → EventLine s e → SetupLine s u → ⊥
 
 -- "a line is at most 4,800 bytes": every form is far shorter
 abbrev pub formMost : ℕ
-formMost = 1439
+formMost = 1460
 
 abbrev pub ShortForms : Type 0
 ShortForms = (s : List ℕ) → Formed s → length s ≤ formMost

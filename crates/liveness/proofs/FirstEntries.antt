@@ -3,9 +3,9 @@ use mathlib.Core.Path.{_≡_, refl, sym, ap, _∙_, subst}
 use mathlib.Core.Bool.{Bool, true, false, _&&_, _||_}
 use mathlib.Core.Logic.{⊎-elim}
 use mathlib.Core.List.{List, [], _∷_, _++_}
-use Prim.Native.Nat.{ℕ, zero, suc, _*_, _%_, _^_, _≤_, _<_}
+use Prim.Native.Nat.{ℕ, zero, suc, _*_, _^_, _≤_, _<_}
 use native.Mathlib.Omega.{arith}
-use native.Mathlib.Nat.{zero-mod, zero-mul}
+use native.Mathlib.Nat.{zero-mul}
 use lib.Dec.{T, eqb, eqb→eq}
 use lib.ListN.{length, getD, set, drop, replicate, length-append, length-drop, length-replicate, getD-replicate, List·getD-append}
 use lib.Pow.{pow-pos}
@@ -19,7 +19,8 @@ use Rattle.types.specs.declared.Message.{Message}
 use Rattle.types.specs.declared.Message.the-variants.{View, Vote}
 use Rattle.types.specs.declared.Run.{Run}
 use Rattle.types.specs.declared.Setup.{Setup}
-use Rattle.types.specs.Quantities.{tableClocks, rowWords, perLeader, lead, initial, correct}
+use Rattle.types.proofs.PlanLaws.{zero-starts}
+use Rattle.types.specs.Quantities.{tableClocks, rowWords, lead, initial, correct}
 use Rattle.model.specs.State.{clockOf, isCorrect, enteredWord, slot, word, added}
 use Rattle.model.specs.Moves.{Change, changed, still, also, Entry, stay, into, toCorrect, entryClock, entryMessages, entering, taking, entries}
 use Rattle.model.specs.Opening.{startClocks, blankRun, firstEntry}
@@ -73,7 +74,7 @@ module _ (u : Setup) (t : List ℕ) (ok : Planned (u .plan) (u .faulty)) (long :
   views-positive = omega (arith, ok .views-least)
 
   pub at-zero : (d : Bool) → At plan d 0
-  at-zero false = eq→eqb (0 % perLeader plan) 0 (zero-mod (perLeader plan))
+  at-zero false = rw (zero-starts plan) tt
   at-zero true = tt
 
   -- when the correct processors below k have entered view 0

@@ -20,8 +20,8 @@ use Rattle.types.specs.declared.Plan.{Plan}
 use Rattle.types.specs.declared.Message.{Message}
 use Rattle.types.specs.declared.Form.{Form}
 use Rattle.types.specs.declared.Run.{Run}
-use Rattle.types.specs.Quantities.{deltaLeast, gammaMost, nLeast, nMost, viewsLeast, viewsMost, rowWords, width, tolerated, perLeader, turnStart, lead, initial, nextInitial, clockTime, endTime, correct}
-use Rattle.types.proofs.PlanLaws.{per-leader-positive}
+use Rattle.types.specs.Quantities.{deltaLeast, gammaLeast, gammaMost, nLeast, nMost, viewsLeast, viewsMost, rowWords, width, tolerated, perLeader, perLeaderLeast, turnStart, lead, initial, nextInitial, clockTime, endTime, correct}
+use Rattle.types.proofs.PlanLaws.{per-leader-positive, gamma-twice, turn-roomy}
 use Rattle.model.specs.State.{State, isCorrect, enteredWord, heardWord, marksWord, markBit, word, posted, removed, capacity}
 use Rattle.model.specs.FormLaws.{words-of-room}
 use Rattle.model.specs.Moves.{Change, certificate}
@@ -37,18 +37,14 @@ pub record Planned (plan : Plan) (faulty : ℕ) : Type 0 where
   pub n-least : nLeast ≤ plan .n
   pub n-most : plan .n ≤ nMost
   pub delta-least : deltaLeast ≤ plan .delta
-  pub gamma-twice : 2 * plan .delta ≤ plan .gamma
+  pub gamma-least : gammaLeast plan ≤ plan .gamma
   pub gamma-most : plan .gamma ≤ gammaMost
+  pub per-leader-least : perLeaderLeast ≤ perLeader plan
   pub views-least : viewsLeast ≤ plan .views
   pub views-most : plan .views ≤ viewsMost
   pub views-multiple : T (turnStart plan (plan .views))
   pub faulty-below : faulty < 2 ^ plan .n
   pub faulty-few : size faulty ≤ tolerated plan
-
--- a leader's turn is long enough
-pub per-leader-roomy : (plan : Plan) (faulty : ℕ) → Planned plan faulty → 3 * plan .delta + plan .gamma < perLeader plan * plan .gamma
-unfolding perLeader
-per-leader-roomy plan faulty ok = omega (arith, ok .delta-least, ok .gamma-twice)
 
 module _ (plan : Plan) (faulty : ℕ) where
   pub correct-below : (p : ℕ) → T (correct plan faulty p) → p < plan .n
@@ -65,7 +61,7 @@ module _ (plan : Plan) (faulty : ℕ) where
   third ok = omega (arith, ok .n-least)
 
   pub gamma-positive : Planned plan faulty → 0 < plan .gamma
-  gamma-positive ok = omega (arith, ok .delta-least, ok .gamma-twice)
+  gamma-positive ok = omega (arith, ok .delta-least, gamma-twice plan (ok .gamma-least))
 
   abbrev pub params : Planned plan faulty → Params
   params ok = record {
@@ -81,9 +77,9 @@ module _ (plan : Plan) (faulty : ℕ) where
     few-faulty = ok .faulty-few;
     enough = third ok;
     delta-positive = ok .delta-least;
-    k-positive = per-leader-positive plan;
+    k-positive = per-leader-positive plan (ok .per-leader-least);
     gamma-positive = gamma-positive ok;
-    roomy = per-leader-roomy plan faulty ok;
+    roomy = turn-roomy plan (ok .delta-least) (ok .per-leader-least) (ok .gamma-least);
   }
 
   -- the leader, the initial views and the stages are the protocol's

@@ -18,12 +18,12 @@ use Rattle.protocol.specs.Opening.{Open, open-holds}
 use Rattle.types.specs.declared.Plan.{Plan}
 use Rattle.types.specs.declared.Run.{Run}
 use Rattle.types.specs.declared.Setup.{Setup}
-use Rattle.types.specs.Quantities.{nLeast, nMost, deltaLeast, deltaMost, gammaLeast, gammaMost, viewsLeast, viewsMost, width, tableClocks, rowWords, perLeader, tolerated, lead, turnStart, startLimit, correct}
-use Rattle.types.proofs.PlanLaws.{gamma-twice, next-least, next-of-zero}
+use Rattle.types.specs.Quantities.{nLeast, nMost, deltaLeast, deltaMost, gammaLeast, gammaMost, viewsLeast, viewsMost, width, tableClocks, rowWords, perLeader, perLeaderLeast, perLeaderMost, tolerated, lead, turnStart, startLimit, correct}
+use Rattle.types.proofs.PlanLaws.{next-least, next-of-zero}
 use Rattle.model.specs.State.{State, After, capacity, accepted, refused, done, enteredWord, heardWord, marksWord, markBit, word}
 use Rattle.model.specs.FormLaws.{room-of-words}
 use Rattle.model.specs.Moves.{Change, entries, certificate, made}
-use Rattle.model.specs.Checks.{supporting, startTooHigh, tooFarAhead, nOutside, delaysOutside, viewsOutside, faultyOutside, planOutside, lengthsOutside}
+use Rattle.model.specs.Checks.{supporting, startTooHigh, tooFarAhead, nOutside, delaysOutside, perLeaderOutside, viewsOutside, faultyOutside, planOutside, lengthsOutside}
 use Rattle.model.specs.Opening.{blankRun, blank, firstEntry, opened, openingChecks, opening}
 use Rattle.liveness.proofs.TallyLaws.{heard-low}
 use Rattle.liveness.proofs.Forms.{least-twice}
@@ -43,16 +43,19 @@ planned-within p faulty inside few =
     let b = neither (ltb (p .delta) deltaLeast || ltb deltaMost (p .delta) || ltb (p .gamma) (gammaLeast p)) (ltb gammaMost (p .gamma)) (d .1) in
     let b' = neither (ltb (p .delta) deltaLeast || ltb deltaMost (p .delta)) (ltb (p .gamma) (gammaLeast p)) (b .0) in
     let b'' = neither (ltb (p .delta) deltaLeast) (ltb deltaMost (p .delta)) (b' .0) in
-    let w = neither (ltb (p .views) viewsLeast || ltb viewsMost (p .views)) (not (turnStart p (p .views))) (v .1) in
-    let w' = neither (ltb (p .views) viewsLeast) (ltb viewsMost (p .views)) (w .0) in
+    let w = neither (perLeaderOutside p || ltb (p .views) viewsLeast || ltb viewsMost (p .views)) (not (turnStart p (p .views))) (v .1) in
+    let w' = neither (perLeaderOutside p || ltb (p .views) viewsLeast) (ltb viewsMost (p .views)) (w .0) in
+    let k = neither (perLeaderOutside p) (ltb (p .views) viewsLeast) (w' .0) in
+    let k' = neither (ltb (perLeader p) perLeaderLeast) (ltb perLeaderMost (perLeader p)) (k .0) in
     let f = neither (leb (2 ^ p .n) faulty) (ltb (tolerated p) (size faulty)) few in
     record {
       n-least = not-ltb (p .n) nLeast (a .0);
       n-most = not-ltb nMost (p .n) (a .1);
       delta-least = not-ltb (p .delta) deltaLeast (b'' .0);
-      gamma-twice = gamma-twice p (not-ltb (p .gamma) (gammaLeast p) (b' .1));
+      gamma-least = not-ltb (p .gamma) (gammaLeast p) (b' .1);
       gamma-most = not-ltb gammaMost (p .gamma) (b .1);
-      views-least = not-ltb (p .views) viewsLeast (w' .0);
+      per-leader-least = not-ltb (perLeader p) perLeaderLeast (k' .0);
+      views-least = not-ltb (p .views) viewsLeast (k .1);
       views-most = not-ltb viewsMost (p .views) (w' .1);
       views-multiple = not-not (turnStart p (p .views)) (w .1);
       faulty-below = not-leb (2 ^ p .n) faulty (f .0);

@@ -28,7 +28,7 @@ use Rattle.model.specs.Lists.{after, ClockCondition, Since, sinceSettling, hasS
 
 -- ---- demand 3
 
--- k(f+1)Γ + Γ + 4Δ, k being the views per leader and f how many are faulty; as k is 3, "(3f+4)Γ+4Δ" (`usual-bound`, in Live)
+-- "The settling bound becomes k(f+1)Γ + Γ + 4Δ", "f is the mask's ones"; where k is 3 that is (3f+4)Γ + 4Δ (`usual-bound`, in Live)
 abbrev pub settlingBound : Setup → ℕ
 settlingBound u = perLeader (u .plan) * (size (u .faulty) + 1) * u .plan .gamma + u .plan .gamma + 4 * u .plan .delta
 

@@ -43,7 +43,7 @@ loadRow u steps settle seed room left es = (tells (made u steps settle seed room
 abbrev noLine : Setup → ℕ → ℕ → Row
 noLine u room full = (tells (made u 8 3 1 room), (1 ∷ 0 ∷ full ∷ []) ∷ [])
 
--- "(open 4 2 4 6 0 (0 0 0 0))": its line has 27 bytes, and that of the first delivery 21
+-- "(open 4 2 4 6 3 0 (0 0 0 0))": its line has 29 bytes, and that of the first delivery 21
 abbrev usual : Setup
 usual = setupOf standard 0 zeroes
 
@@ -70,11 +70,11 @@ loads =
     ∷ loadRow usual 1 0 1 1000 (9396908728118811419 ∷ 1 ∷ 0 ∷ []) (Settle ∷ Deliver (Vote 0 1) ∷ [])
     ∷ loadRow usual 1 1 1 1000 (9396908728118811419 ∷ 1 ∷ 0 ∷ []) (Deliver (Vote 0 1) ∷ [])
     -- a byte too few for the opening, for the line of a delivery, and for a settling
-    ∷ noLine usual 26 1
-    ∷ loadRow usual 8 3 1 47 (1 ∷ 0 ∷ 1 ∷ []) []
-    ∷ loadRow usual 8 3 1 48 (9396908728118811419 ∷ 1 ∷ 1 ∷ []) (Deliver (Vote 0 1) ∷ [])
-    ∷ loadRow usual 8 0 1 35 (1 ∷ 0 ∷ 1 ∷ []) []
-    ∷ loadRow usual 8 0 1 36 (1 ∷ 0 ∷ 1 ∷ []) (Settle ∷ [])
+    ∷ noLine usual 28 1
+    ∷ loadRow usual 8 3 1 49 (1 ∷ 0 ∷ 1 ∷ []) []
+    ∷ loadRow usual 8 3 1 50 (9396908728118811419 ∷ 1 ∷ 1 ∷ []) (Deliver (Vote 0 1) ∷ [])
+    ∷ loadRow usual 8 0 1 37 (1 ∷ 0 ∷ 1 ∷ []) []
+    ∷ loadRow usual 8 0 1 38 (1 ∷ 0 ∷ 1 ∷ []) (Settle ∷ [])
     -- refused by 7, and then no bytes are asked
     ∷ noLine (setupOf standard 0 (12 ∷ 0 ∷ 0 ∷ 0 ∷ [])) 0 0
     ∷ []

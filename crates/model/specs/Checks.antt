@@ -11,7 +11,7 @@ use Rattle.types.specs.declared.Plan.{Plan}
 use Rattle.types.specs.declared.Message.{Message}
 use Rattle.types.specs.declared.Form.{Form}
 use Rattle.types.specs.declared.Run.{Run}
-use Rattle.types.specs.Quantities.{nLeast, nMost, deltaLeast, deltaMost, gammaLeast, gammaMost, viewsLeast, viewsMost, rowWords, width, networkLeast, networkMost, tolerated, lead, initial, nextInitial, clockTime, endTime, startLimit, correct, turnStart}
+use Rattle.types.specs.Quantities.{nLeast, nMost, deltaLeast, deltaMost, gammaLeast, gammaMost, viewsLeast, viewsMost, perLeader, perLeaderLeast, perLeaderMost, rowWords, width, networkLeast, networkMost, tolerated, lead, initial, nextInitial, clockTime, endTime, startLimit, correct, turnStart}
 use Rattle.types.specs.Messages.{kindOf, viewIn, processorIn, kindLeast, kindMost, stageOf, addressee}
 use Rattle.model.specs.State.{State, isCorrect, Held, enteredWord, marksWord, markBit, word, heldAt, heldIn, roomIn}
 use Rattle.model.specs.Moves.{Change, needed}
@@ -42,9 +42,13 @@ nOutside p = ltb (p .n) nLeast || ltb nMost (p .n)
 abbrev pub delaysOutside : Plan → Bool
 delaysOutside p = ltb (p .delta) deltaLeast || ltb deltaMost (p .delta) || ltb (p .gamma) (gammaLeast p) || ltb gammaMost (p .gamma)
 
--- 4. "V is outside its range or no multiple of 3."
+-- "k, the views per leader, 2 to 8 (check 4)"
+abbrev pub perLeaderOutside : Plan → Bool
+perLeaderOutside p = ltb (perLeader p) perLeaderLeast || ltb perLeaderMost (perLeader p)
+
+-- 4. "V is outside its range or no multiple of 3."; "the multiple in check 4 follow[s] k"
 abbrev pub viewsOutside : Plan → Bool
-viewsOutside p = ltb (p .views) viewsLeast || ltb viewsMost (p .views) || not (turnStart p (p .views))
+viewsOutside p = perLeaderOutside p || ltb (p .views) viewsLeast || ltb viewsMost (p .views) || not (turnStart p (p .views))
 
 -- 2 to 4
 abbrev pub planOutside : Plan → Bool
@@ -65,7 +69,7 @@ lengthsOutside form p tally network = ltb tally (rowWords * p .views) || network
 abbrev pub buffersOutside : State → Bool
 buffersOutside s = lengthsOutside (s .form) (s .run .plan) (length (s .tally)) (length (s .network))
 
--- 7. "A correct start clock is 3Γ or more."
+-- 7. "A correct start clock is 3Γ or more."; "the limit on start clocks (kΓ)"
 abbrev pub highAt : Plan → ℕ → List ℕ → ℕ → Bool
 highAt p faulty clocks q = correct p faulty q && leb (startLimit p) (getD clocks q 0)
 

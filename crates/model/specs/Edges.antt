@@ -17,9 +17,9 @@ use Rattle.types.specs.Traffic.{noTraffic}
 use Rattle.model.specs.State.{State, stateOf, withNetwork, runOf, checkOf, heldOf, accepted}
 use Rattle.model.specs.Checks.{lengthsOutside, unsoundForGood}
 use Rattle.model.specs.Opening.{opening}
-use Rattle.model.specs.Processors.{sentIn, checkIn, stepped}
+use Rattle.model.specs.Processors.{sentIn, checkIn}
 use Rattle.model.specs.Lists.{after}
-use Rattle.model.specs.Rows.{definitions, planOf, standard, zeroes, copies, setupOf, lent, buffers, handedIn, Row, agreeing, truth, words, schedule, handedRow, fieldsOf, movedNumbers}
+use Rattle.model.specs.Rows.{definitions, planOf, standard, zeroes, copies, setupOf, lent, buffers, handedIn, Row, agreeing, truth, words, schedule, handedRow, fieldsOf, moveBy}
 
 -- ---- limits
 
@@ -44,12 +44,12 @@ limits =
     -- a faulty clock above VΓ is not read by 17
     ∷ handedRow (handedIn standard 8 5 false 0 0 (5 ∷ 5 ∷ 5 ∷ 999 ∷ []) (0 ∷ 0 ∷ 0 ∷ 50 ∷ []) [] []) (Tick 1 ∷ []) (Done 1 0 ∷ [])
     -- one processor whose plan has Γ below 2Δ
-    ∷ (movedNumbers (stepped (planOf 4 2 3 6) (record { number = 2; clock = 2; view = 0 }) input.Tick), (9 ∷ []) ∷ (2 ∷ 0 ∷ 2 ∷ []) ∷ [])
-    ∷ (movedNumbers (stepped (planOf 4 2 3 6) (record { number = 2; clock = 2; view = 0 }) (input.Vc 3)), (9 ∷ []) ∷ (2 ∷ 0 ∷ 2 ∷ []) ∷ [])
-    ∷ (movedNumbers (stepped (planOf 4 2 3 6) (record { number = 2; clock = 2; view = 0 }) (input.Qc 0)), (9 ∷ []) ∷ (2 ∷ 0 ∷ 2 ∷ []) ∷ [])
+    ∷ moveBy (planOf 4 2 3 6) 2 0 2 input.Tick ((9 ∷ []) ∷ (2 ∷ 0 ∷ 2 ∷ []) ∷ [])
+    ∷ moveBy (planOf 4 2 3 6) 2 0 2 (input.Vc 3) ((9 ∷ []) ∷ (2 ∷ 0 ∷ 2 ∷ []) ∷ [])
+    ∷ moveBy (planOf 4 2 3 6) 2 0 2 (input.Qc 0) ((9 ∷ []) ∷ (2 ∷ 0 ∷ 2 ∷ []) ∷ [])
     -- or n below 4, or V no multiple of 3
-    ∷ (movedNumbers (stepped (planOf 3 2 4 6) (record { number = 2; clock = 2; view = 0 }) input.Tick), (9 ∷ []) ∷ (2 ∷ 0 ∷ 2 ∷ []) ∷ [])
-    ∷ (movedNumbers (stepped (planOf 4 2 4 7) (record { number = 2; clock = 2; view = 0 }) input.Tick), (9 ∷ []) ∷ (2 ∷ 0 ∷ 2 ∷ []) ∷ [])
+    ∷ moveBy (planOf 3 2 4 6) 2 0 2 input.Tick ((9 ∷ []) ∷ (2 ∷ 0 ∷ 2 ∷ []) ∷ [])
+    ∷ moveBy (planOf 4 2 4 7) 2 0 2 input.Tick ((9 ∷ []) ∷ (2 ∷ 0 ∷ 2 ∷ []) ∷ [])
     ∷ []
 
 -- ---- the order of two checks whose sentences both hold

@@ -16,3 +16,4 @@ pub mod Refusals
 pub mod Edges
 pub mod Sums
 pub mod Packing
+pub mod Turns

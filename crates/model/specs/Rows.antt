@@ -18,7 +18,7 @@ use lib.Count.{ones, onesIn}
 use Rattle.base.specs.Count.{count}
 use Rattle.base.specs.Scan.{some, first, listed}
 use Rattle.base.specs.Sets.{member}
-use Rattle.types.specs.Quantities.{tableClocks, perLeader, width}
+use Rattle.types.specs.Quantities.{tableClocks, perLeader, perLeaderUsual, width}
 use Rattle.types.specs.Traffic.{countNumbers, noTraffic, countsMore}
 use Rattle.types.specs.Messages.{kindOf, viewIn, processorIn}
 use Rattle.model.specs.State.{State, After, stateOf, runOf, clockOf, viewOf, isCorrect, posted, removed}
@@ -32,13 +32,17 @@ use Rattle.model.specs.Carrying.{carriedOver}
 
 -- names all that has to unfold for a row to compute
 unfoldable pub definitions : ℕ
-unfolding carriedOver countsMore stepped applied checks effect tickRun ticks tickOnce nowSettled signing delivering without after opening opened blank reachesEnd overdue exists unsound unsoundForGood messageUnsound tooFarAhead startTooHigh made arrivals clocksOn handling hearing toEach ripe entries taking entering toCorrect removed posted perLeader count some first listed member ones onesIn
+unfolding carriedOver countsMore stepped applied checks effect tickRun ticks tickOnce nowSettled signing delivering without after opening opened blank reachesEnd overdue exists unsound unsoundForGood messageUnsound tooFarAhead startTooHigh made arrivals clocksOn handling hearing toEach ripe entries taking entering toCorrect removed posted count some first listed member ones onesIn
 definitions = 0
 
 -- ---- what is put in
 
+abbrev pub planWith : ℕ → ℕ → ℕ → ℕ → ℕ → Plan
+planWith n delta gamma views k = record { n = n; delta = delta; gamma = gamma; views = views; k = k }
+
+-- with document 01's views per leader
 abbrev pub planOf : ℕ → ℕ → ℕ → ℕ → Plan
-planOf n delta gamma views = record { n = n; delta = delta; gamma = gamma; views = views }
+planOf n delta gamma views = planWith n delta gamma views perLeaderUsual
 
 -- "n=4, Δ=2, Γ=4, V=6, mask 0 unless said."
 abbrev pub standard : Plan
@@ -109,7 +113,7 @@ trafficNumbers x = countNumbers (x .sent) ∷ countNumbers (x .delivered) ∷ (x
 abbrev pub everything : State → List (List ℕ)
 everything s =
     let r = s .run in
-    (r .plan .n ∷ r .plan .delta ∷ r .plan .gamma ∷ r .plan .views ∷ r .faulty ∷ r .time ∷ cond (r .settled) 1 0 ∷ r .gst ∷ r .held ∷ [])
+    (r .plan .n ∷ r .plan .delta ∷ r .plan .gamma ∷ r .plan .views ∷ perLeader (r .plan) ∷ r .faulty ∷ r .time ∷ cond (r .settled) 1 0 ∷ r .gst ∷ r .held ∷ [])
     ∷ r .clocks ∷ r .views ∷ s .tally ∷ s .network ∷ (width (s .form) ∷ []) ∷ trafficNumbers (r .traffic)
 
 -- kind, view and processor of a message
@@ -178,5 +182,8 @@ abbrev pub refusedOpening : State → Setup → ℕ → Row
 refusedOpening s u r = unchanged s (opening u s) r
 
 -- one processor with a number, a view and a clock, and what reaches it
+abbrev pub moveBy : Plan → ℕ → ℕ → ℕ → Input → List (List ℕ) → Row
+moveBy plan p view clock i xs = (movedNumbers (stepped plan (record { number = p; clock = clock; view = view }) i), xs)
+
 abbrev pub oneMove : ℕ → ℕ → ℕ → Input → List (List ℕ) → Row
-oneMove p view clock i xs = (movedNumbers (stepped standard (record { number = p; clock = clock; view = view }) i), xs)
+oneMove p view clock i xs = moveBy standard p view clock i xs

@@ -11,9 +11,9 @@ use Rattle.base.specs.Tests.{le?}
 use Rattle.base.specs.Choice.{or-first, or-second, or-neither, or-rest, or-parts}
 use Rattle.types.specs.declared.Plan.{Plan}
 use Rattle.types.specs.declared.Processor.{Processor}
-use Rattle.types.specs.Quantities.{nLeast, nMost, deltaLeast, deltaMost, gammaLeast, gammaMost, viewsLeast, viewsMost, perLeader, turnStart, nextInitial, clockTime, endTime}
+use Rattle.types.specs.Quantities.{nLeast, nMost, deltaLeast, deltaMost, gammaLeast, gammaMost, viewsLeast, viewsMost, perLeader, perLeaderLeast, perLeaderMost, turnStart, nextInitial, clockTime, endTime}
 use Rattle.types.specs.PlanFunctions.{nextInitialWord, clockTimeWord}
-use Rattle.model.specs.Checks.{nOutside, delaysOutside, viewsOutside, planOutside, atEnd, clockOutside}
+use Rattle.model.specs.Checks.{nOutside, delaysOutside, perLeaderOutside, viewsOutside, planOutside, atEnd, clockOutside}
 use Rattle.model.specs.Processors.{processorUnsound}
 use Rattle.types.proofs.PlanWords.{time-fits, next-fits}
 use Rattle.types.proofs.PlanLaws.{gamma-twice, next-least, next-of-zero}
@@ -47,8 +47,10 @@ within p e =
     let d = or-parts (ltb (p .delta) deltaLeast || ltb deltaMost (p .delta) || ltb (p .gamma) (gammaLeast p)) (ltb gammaMost (p .gamma)) (b .1) in
     let g = or-parts (ltb (p .delta) deltaLeast || ltb deltaMost (p .delta)) (ltb (p .gamma) (gammaLeast p)) (d .0) in
     let h = or-parts (ltb (p .delta) deltaLeast) (ltb deltaMost (p .delta)) (g .0) in
-    let v = or-parts (ltb (p .views) viewsLeast || ltb viewsMost (p .views)) (not (turnStart p (p .views))) (a .1) in
-    let w = or-parts (ltb (p .views) viewsLeast) (ltb viewsMost (p .views)) (v .0) in
+    let v = or-parts (perLeaderOutside p || ltb (p .views) viewsLeast || ltb viewsMost (p .views)) (not (turnStart p (p .views))) (a .1) in
+    let w = or-parts (perLeaderOutside p || ltb (p .views) viewsLeast) (ltb viewsMost (p .views)) (v .0) in
+    let u = or-parts (perLeaderOutside p) (ltb (p .views) viewsLeast) (w .0) in
+    let k = or-parts (ltb (perLeader p) perLeaderLeast) (ltb perLeaderMost (perLeader p)) (u .0) in
     record {
       n-least = ltb-false _ _ (n .0);
       n-most = ltb-false _ _ (n .1);
@@ -56,7 +58,8 @@ within p e =
       delta-most = ltb-false _ _ (h .1);
       gamma-twice = gamma-twice p (ltb-false _ _ (g .1));
       gamma-most = ltb-false _ _ (d .1);
-      views-least = ltb-false _ _ (w .0);
+      per-leader-least = ltb-false _ _ (k .0);
+      views-least = ltb-false _ _ (u .1);
       views-most = ltb-false _ _ (w .1);
       views-multiple = not-false _ (v .1);
     }

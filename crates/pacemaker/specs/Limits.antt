@@ -5,7 +5,7 @@ use mathlib.Core.List.{[], _∷_}
 use Prim.Native.Nat.{ℕ, _*_, _≤_, _<_}
 use Rattle.types.specs.declared.Plan.{Plan}
 use Rattle.types.specs.declared.Processor.{Processor}
-use Rattle.types.specs.Quantities.{nLeast, nMost, deltaLeast, deltaMost, gammaMost, viewsLeast, viewsMost, turnStart, nextInitial, clockTime, endTime}
+use Rattle.types.specs.Quantities.{nLeast, nMost, deltaLeast, deltaMost, gammaMost, viewsLeast, viewsMost, perLeader, perLeaderLeast, turnStart, nextInitial, clockTime, endTime}
 use Rattle.model.specs.Checks.{judged, nOutside, delaysOutside, viewsOutside}
 
 -- the first of checks 2 to 4 whose sentence holds, or 0
@@ -24,6 +24,7 @@ pub record Within (p : Plan) : Type 0 where
   pub delta-most : p .delta ≤ deltaMost
   pub gamma-twice : 2 * p .delta ≤ p .gamma
   pub gamma-most : p .gamma ≤ gammaMost
+  pub per-leader-least : perLeaderLeast ≤ perLeader p
   pub views-least : viewsLeast ≤ p .views
   pub views-most : p .views ≤ viewsMost
   pub views-multiple : turnStart p (p .views) ≡ true

@@ -8,7 +8,7 @@ ghost use mathlib.Core.Path.{_≡_};
 ghost use mathlib.Core.Bool.{cond};
 ghost use Prim.Native.Nat.{_≤_, _<_};
 ghost use lib.Dec.{ltb};
-ghost use Rattle.types.specs.Quantities.{initial, nextInitial, clockTime};
+ghost use Rattle.types.specs.Quantities.{deltaMost, gammaLeast, initial, nextInitial, clockTime};
 ghost use Rattle.model.specs.Checks.{nOutside, delaysOutside, viewsOutside, clockOutside};
 ghost use Rattle.model.specs.Processors.{Gives, messagesOf, sending, processorUnsound, refusing, stepped};
 ghost use Rattle.pacemaker.specs.Limits.{planCheck, Within, Sound};
@@ -24,6 +24,17 @@ fn n_outside(plan: Plan) -> bool
     Plan::N_MOST < plan.n
 }
 
+// The least slot: four delays where a leader has two views, else two.
+fn gamma_least(plan: Plan) -> u64
+    requires { ⌜ plan .delta ≤ deltaMost ⌝ }
+    ensures { λ r. ⌜ r ≡ gammaLeast plan ⌝ }
+{
+    if plan.k == 2 {
+        return 4 * plan.delta;
+    }
+    2 * plan.delta
+}
+
 // Check 3.
 fn delays_outside(plan: Plan) -> bool
     ensures { λ r. ⌜ r ≡ delaysOutside plan ⌝ }
@@ -34,7 +45,7 @@ fn delays_outside(plan: Plan) -> bool
     if Plan::DELTA_MOST < plan.delta {
         return true;
     }
-    if plan.gamma < 2 * plan.delta {
+    if plan.gamma < gamma_least(plan) {
         return true;
     }
     Plan::GAMMA_MOST < plan.gamma
@@ -44,6 +55,12 @@ fn delays_outside(plan: Plan) -> bool
 fn views_outside(plan: Plan) -> bool
     ensures { λ r. ⌜ r ≡ viewsOutside plan ⌝ }
 {
+    if plan.k < Plan::PER_LEADER_LEAST {
+        return true;
+    }
+    if Plan::PER_LEADER_MOST < plan.k {
+        return true;
+    }
     if plan.views < Plan::VIEWS_LEAST {
         return true;
     }

@@ -29,6 +29,7 @@ impl Session {
                     delta: 0,
                     gamma: 0,
                     views: 0,
+                    k: 0,
                 },
                 faulty: 0,
                 time: 0,

@@ -15,13 +15,14 @@ use Rattle.types.specs.declared.Message.the-variants.{View, Vote, Vc, Qc}
 use Rattle.types.specs.declared.Event.{Event}
 use Rattle.types.specs.declared.Event.the-variants.{Deliver, Sign, Show, Settle, Tick}
 use Rattle.types.specs.declared.Setup.{Setup}
-use Rattle.types.specs.Quantities.{nMost}
-use Rattle.types.specs.Runs.{planNumbers}
+use Rattle.types.specs.Quantities.{nMost, perLeader, perLeaderUsual}
+use Rattle.types.specs.Runs.{planNumbers, usualNumbers}
 use Rattle.lines.specs.Decimal.{decimal}
-use Rattle.lines.specs.Forms.{openBracket, closeBracket, oneBlank, furtherClocks, clocksForm, lineClocks, messageForm, eventForm, setupForm, lacksSetupForm}
+use Rattle.lines.specs.Forms.{openBracket, closeBracket, openWord, furtherClocks, clocksForm, lineClocks, messageForm, eventForm, setupForm, usualForm, lacksSetupForm, SetupLine}
 use Rattle.lines.specs.Promises.{formMost}
 use Rattle.lines.proofs.Decimals.{length-small, length-large, length-most}
 use Rattle.reader.proofs.Series.{spacedBefore, spaced-before}
+use Rattle.reader.proofs.Tables.{tableBefore}
 
 -- numbers, each behind a blank, have 21 bytes at most
 spaced-length : (ns r : List ℕ) → length (spacedBefore ns r) ≤ 21 * length ns + length r
@@ -59,13 +60,12 @@ number-length n h =
     (λ (g : n < 10). omega (arith, length-small n g))
     (le? 10 n)
 
-pub setup-length : (u : Setup) → lacksSetupForm u ≡ false → length (setupForm u) ≤ formMost
-unfolding setupForm
-setup-length u f =
+-- an opening with n and at most five numbers behind it before its table
+others-length : (u : Setup) (others : List ℕ) → lacksSetupForm u ≡ false → length others ≤ 5
+    → length (openBracket ++ (openWord ++ spacedBefore (u .plan .n ∷ others) (tableBefore (lineClocks u) []))) ≤ formMost
+others-length u others f few =
     let h : u .plan .n ≤ nMost = ltb-false nMost (u .plan .n) (or-parts (eqb (u .plan .n) 0) (ltb nMost (u .plan .n)) f .1) in
-    let clocks : List ℕ = clocksForm (lineClocks u) in
-    let table : List ℕ = oneBlank ++ (openBracket ++ (clocks ++ (closeBracket ++ closeBracket))) in
-    let others : List ℕ = drop 1 (planNumbers (u .plan) ++ (u .faulty ∷ [])) in
+    let table : List ℕ = tableBefore (lineClocks u) [] in
     let c : length (lineClocks u) ≤ nMost = omega (arith, length-take (u .plan .n) (u .clocks)) in
     omega (
       arith,
@@ -73,5 +73,18 @@ setup-length u f =
       length-append (decimal (u .plan .n)) (spacedBefore others table),
       spaced-length others table,
       clocks-length (lineClocks u) c,
-      length-append clocks (closeBracket ++ closeBracket),
+      length-append (clocksForm (lineClocks u)) (closeBracket ++ closeBracket),
     )
+
+pub setup-length : (u : Setup) → lacksSetupForm u ≡ false → length (setupForm u) ≤ formMost
+unfolding setupForm
+setup-length u f = others-length u (drop 1 (planNumbers (u .plan) ++ (u .faulty ∷ []))) f (omega arith)
+
+usual-length : (u : Setup) → lacksSetupForm u ≡ false → length (usualForm u) ≤ formMost
+unfolding usualForm
+usual-length u f = others-length u (drop 1 (usualNumbers (u .plan) ++ (u .faulty ∷ []))) f (omega arith)
+
+pub opening-length : (s : List ℕ) (u : Setup) → SetupLine s u → length s ≤ formMost
+opening-length s u l =
+    ⊎-elim (λ (e : s ≡ setupForm u). rw e (setup-length u (l .formed)))
+    (λ (e : (s ≡ usualForm u) × (perLeader (u .plan) ≡ perLeaderUsual)). rw (e .0) (usual-length u (l .formed))) (l .bytes)

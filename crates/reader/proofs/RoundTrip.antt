@@ -10,20 +10,22 @@ use lib.Dec.{leb, ltb}
 use borrow.Author.Tests.{le-leb, lt-ltb}
 use Rattle.types.specs.declared.Event.{Event}
 use Rattle.types.specs.declared.Setup.{Setup}
+use Rattle.types.specs.Quantities.{perLeader, perLeaderUsual}
+use Rattle.types.specs.Runs.{usualNumbers}
 use Rattle.lines.specs.declared.Read.{Read}
 use Rattle.lines.specs.declared.Read.the-variants as Read
 use Rattle.lines.specs.declared.Read.the-variants.{NoForm}
-use Rattle.lines.specs.Forms.{newline, openBracket, openWord, EventLine, SetupLine, trimmed}
+use Rattle.lines.specs.Forms.{newline, openBracket, openWord, lineClocks, setupForm, usualForm, Below, EventLine, SetupLine, trimmed}
 use Rattle.lines.specs.Contracts.{Reading, readAs, noSetup, eventReading, openingReading, noForm, line}
 use Rattle.lines.specs.Splitting.{lineMost, nextLine, ended, cutRead}
-use Rattle.lines.specs.Promises.{NextForm, Formed, ReadsLines, JudgesLines, OneEvent, OneSetup, NeverBoth, ShortForms, AllFormed, readingOf, readingsOf, ReadsBack}
+use Rattle.lines.specs.Promises.{NextForm, Formed, ReadsLines, JudgesLines, OneEvent, OneSetup, withUsual, ReadsSetups, NeverBoth, ShortForms, AllFormed, readingOf, readingsOf, ReadsBack}
 use Rattle.lines.proofs.Readings.{judges}
 use Rattle.lines.proofs.Schedules.{before-form, cuts-back}
 use Rattle.reader.specs.Lines.{eventAt, openingAt, reading}
 use Rattle.reader.proofs.Words.{left-all, by-word, word-there, word-away}
 use Rattle.reader.proofs.Events.{EventRead, event-only, inside, inside-form, inside-no-opening, event-there}
-use Rattle.reader.proofs.Openings.{ReadAs, LineRead, opening-only, behindOpen, behind-open, opening-there}
-use Rattle.reader.proofs.Lengths.{event-length, setup-length}
+use Rattle.reader.proofs.Openings.{ReadAs, LineRead, below-with, below-without, opening-only, behindOpen, Headed, setup-headed, opening-there}
+use Rattle.reader.proofs.Lengths.{event-length, opening-length}
 
 event-line : (s : List ℕ) (r : Read) → EventRead s r → ReadAs s r noSetup
 event-line s (Read.Event e) h = h
@@ -51,8 +53,9 @@ setup-back : (s : List ℕ) (u : Setup) → SetupLine s u → reading s ≡ open
 unfolding reading
 setup-back s u l =
     let P : Reading → Type 0 = λ (x : Reading). x ≡ openingReading (trimmed u) in
-    word-there P s 0 openBracket _ noForm (openWord ++ behindOpen u) (left-all s _ (behind-open s u l))
-    (λ a h. word-there P s a openWord _ _ (behindOpen u) h (λ b m. opening-there s b u l m))
+    let h : Headed s u = setup-headed s u l in
+    word-there P s 0 openBracket _ noForm (openWord ++ behindOpen (h .numbers) u) (left-all s _ (h .bytes))
+    (λ a m. word-there P s a openWord _ _ (behindOpen (h .numbers) u) m (λ b n. opening-there s b u l h n))
 
 -- every line reads as what it is the form of, and as nothing else
 pub reading-reads : ReadsLines reading
@@ -82,6 +85,23 @@ one-event s e e' l l' =
 pub one-setup : OneSetup
 one-setup s u u' l l' = ap (λ (x : Reading). x .setup) (sym (setup-back s u l) ∙ setup-back s u' l')
 
+-- written with k, and "read as k=3" without it
+pub reads-setups : ReadsSetups reading
+unfolding usualForm
+reads-setups u f b t = (
+  setup-back (setupForm u) u (record { formed = f; below = b; table = t; bytes = inl refl }),
+  setup-back (usualForm u) (withUsual u) (record { formed = f; below = usual-below; table = t; bytes = inr (refl, refl) }),
+)
+  where
+    numbers : List ℕ
+    numbers = usualNumbers (u .plan)
+
+    others : List ℕ
+    others = u .faulty ∷ lineClocks u
+
+    usual-below : Below (numbers ++ (perLeaderUsual ∷ others))
+    usual-below = below-with numbers others perLeaderUsual (omega arith) (below-without numbers others (perLeader (u .plan)) b)
+
 -- no line is the form of an event and of a setup
 pub never-both : NeverBoth
 never-both s e u l m =
@@ -93,7 +113,7 @@ never-both s e u l m =
 pub short-forms : ShortForms
 short-forms s =
     ⊎-elim (λ (x : (e : Event) × EventLine s e). rw (x .1 .bytes) (event-length (x .0)))
-    (λ (x : (u : Setup) × SetupLine s u). rw (x .1 .bytes) (setup-length (x .0) (x .1 .formed)))
+    (λ (x : (u : Setup) × SetupLine s u). opening-length s (x .0) (x .1))
 
 -- ---- what is written
 

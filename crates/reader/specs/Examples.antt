@@ -5,7 +5,7 @@ use Prim.Native.Nat.{ℕ, _^_}
 use lib.ListN.{replicate}
 use Rattle.types.specs.declared.Message.the-variants.{View, Vote, Vc, Qc}
 use Rattle.types.specs.declared.Event.the-variants.{Deliver, Sign, Show, Settle, Tick}
-use Rattle.model.specs.Rows.{standard, setupOf}
+use Rattle.model.specs.Rows.{planWith, standard, setupOf}
 use Rattle.lines.specs.Decimal.{decimal}
 use Rattle.lines.specs.Forms.{openBracket, closeBracket, oneBlank, openWord, tickWord, joined, spaced, carryingForm, signWord, showWord, clocksForm, openingForm, messageForm, eventForm}
 use Rattle.lines.specs.Contracts.{eventReading, openingReading, noForm}
@@ -30,24 +30,30 @@ openingWith ns clocks = openingForm openWord ns [] (clocksForm clocks)
 abbrev openingLine : ℕ → List ℕ → List ℕ
 openingLine n clocks = openingWith (n ∷ 2 ∷ 4 ∷ 6 ∷ 0 ∷ []) clocks
 
+abbrev four : List ℕ
+four = 1 ∷ 2 ∷ 3 ∷ 4 ∷ []
+
+-- the openings: without k, with k = 3, with k = 8
 pub good : List (List ℕ)
 good =
     eventForm (Deliver (View 0 0)) ∷ eventForm (Sign (Vote 10 2)) ∷ eventForm (Show (Qc 100 0)) ∷ settled ∷ ticking (decimal 18446744073709551615)
-    ∷ openingLine 4 (1 ∷ 2 ∷ 3 ∷ 4 ∷ []) ∷ []
+    ∷ openingWith (4 ∷ 2 ∷ 4 ∷ 6 ∷ 8 ∷ []) four ∷ openingWith (4 ∷ 2 ∷ 4 ∷ 6 ∷ 3 ∷ 8 ∷ []) four ∷ openingWith (4 ∷ 2 ∷ 4 ∷ 6 ∷ 8 ∷ 3 ∷ []) four ∷ []
 
 pub good-read : map reading good ≡ (
     eventReading (Deliver (View 0 0)) ∷ eventReading (Sign (Vote 10 2)) ∷ eventReading (Show (Qc 100 0)) ∷ eventReading Settle ∷ eventReading (Tick 18446744073709551615)
-    ∷ openingReading (setupOf standard 0 (1 ∷ 2 ∷ 3 ∷ 4 ∷ [])) ∷ [])
+    ∷ openingReading (setupOf standard 8 four) ∷ openingReading (setupOf standard 8 four) ∷ openingReading (setupOf (planWith 4 2 4 6 8) 3 four) ∷ [])
 unfolding good reading eventAt openingAt headingAt tableAt firstClockAt tableEndAt deliverAt signAt showAt ticksAt endingAt messageAt kindFoundAt nextNumberAt numberAt afterWord classOf classAt decimal eventForm messageForm
 good-read = refl
 
+-- the last openings: four and seven numbers before the table, a k and a mask of 2^64
 pub bad : List (List ℕ)
 bad =
     [] ∷ (settled ++ oneBlank) ∷ (oneBlank ++ settled) ∷ (settled ++ (13 ∷ [])) ∷ (settled ++ settled)
     ∷ ticking (decimal 0) ∷ ticking (48 ∷ 51 ∷ []) ∷ ticking (oneBlank ++ decimal 3) ∷ ticking (9 ∷ 51 ∷ []) ∷ ticking (43 ∷ 51 ∷ []) ∷ ticking [] ∷ ticking (decimal (2 ^ 64))
     ∷ carryingForm signWord (Vc 0 0) ∷ carryingForm showWord (Vote 0 0)
-    ∷ openingLine 0 [] ∷ openingLine 3 (1 ∷ 2 ∷ 3 ∷ 4 ∷ []) ∷ openingLine 5 (1 ∷ 2 ∷ 3 ∷ 4 ∷ []) ∷ openingLine 65 (replicate 65 0)
-    ∷ openingWith (4 ∷ 2 ∷ 4 ∷ 6 ∷ []) (1 ∷ 2 ∷ 3 ∷ 4 ∷ []) ∷ openingWith (4 ∷ 2 ∷ 4 ∷ 6 ∷ 0 ∷ 0 ∷ []) (1 ∷ 2 ∷ 3 ∷ 4 ∷ []) ∷ []
+    ∷ openingLine 0 [] ∷ openingLine 3 four ∷ openingLine 5 four ∷ openingLine 65 (replicate 65 0)
+    ∷ openingWith (4 ∷ 2 ∷ 4 ∷ 6 ∷ []) four ∷ openingWith (4 ∷ 2 ∷ 4 ∷ 6 ∷ 3 ∷ 0 ∷ 0 ∷ []) four
+    ∷ openingWith (4 ∷ 2 ∷ 4 ∷ 6 ∷ 2 ^ 64 ∷ 0 ∷ []) four ∷ openingWith (4 ∷ 2 ∷ 4 ∷ 6 ∷ 3 ∷ 2 ^ 64 ∷ []) four ∷ []
 
 -- "a line that fails check 1"
 pub bad-read : map reading bad ≡ map (λ s. noForm) bad

@@ -11,7 +11,7 @@ use Rattle.types.specs.declared.Event.{Event}
 use Rattle.types.specs.declared.Event.the-variants.{Deliver, Sign, Show, Settle, Tick}
 use Rattle.types.specs.declared.Setup.{Setup}
 use Rattle.types.specs.Quantities.{nMost, tableClocks}
-use Rattle.types.specs.Runs.{planIn}
+use Rattle.types.specs.Runs.{planIn, usualPlanIn}
 use Rattle.types.specs.Messages.{lacksForm}
 use Rattle.lines.specs.declared.Read.{Read}
 use Rattle.lines.specs.declared.Read.the-variants as Read
@@ -98,12 +98,20 @@ eventAt s at =
 
 -- ---- the opening
 
--- "n Δ Γ V mask": which numbers stand before the table, their count tells
+-- "n Δ Γ V mask" with k "after V": which numbers stand before the table, their count tells
 abbrev pub headingMost : ℕ
-headingMost = 5
+headingMost = 6
 
+-- those of an "opening line without it"
+abbrev pub headingUsual : ℕ
+headingUsual = 5
+
+-- the mask comes last; "any opening line without it is read as k=3"
 abbrev pub headingSeries : Series → Heading
-headingSeries x = cond (eqb (length (x .numbers)) headingMost) (Parameters (planIn (x .numbers)) (getD (x .numbers) 4 0) (x .end)) NoHeading
+headingSeries x =
+    let ns = x .numbers in
+    cond (eqb (length ns) headingMost) (Parameters (planIn ns) (getD ns 5 0) (x .end))
+    (cond (eqb (length ns) headingUsual) (Parameters (usualPlanIn ns) (getD ns 4 0) (x .end)) NoHeading)
 
 unfoldable pub headingAt : List ℕ → ℕ → Heading
 headingAt s at = headingSeries (seriesAt headingMost s at)

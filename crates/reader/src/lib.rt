@@ -376,20 +376,32 @@ struct Table {
     clocks: [u64; 64],
 }
 
-// The numbers before the table: which they are, their count tells.
+// The numbers before the table: which they are, their count tells, six with k and five without it.
 fn read_heading(s: &[u8], at: usize) -> Heading
     ensures { λ r. ⌜ r ≡ headingAt (now (s .entry)) at ⌝ }
 {
-    let mut numbers = [0; 5];
+    let mut numbers = [0; 6];
     let several = read_several(s, at, &mut numbers);
     let count = several.count;
     match count {
+        6 => Heading::Parameters(
+            Plan {
+                n: numbers[0],
+                delta: numbers[1],
+                gamma: numbers[2],
+                views: numbers[3],
+                k: numbers[4],
+            },
+            numbers[5],
+            several.end,
+        ),
         5 => Heading::Parameters(
             Plan {
                 n: numbers[0],
                 delta: numbers[1],
                 gamma: numbers[2],
                 views: numbers[3],
+                k: Plan::VIEWS_PER_LEADER,
             },
             numbers[4],
             several.end,
@@ -464,6 +476,7 @@ fn no_setup() -> Setup
             delta: 0,
             gamma: 0,
             views: 0,
+            k: 0,
         },
         faulty: 0,
         clocks: [0; 64],

@@ -3,9 +3,8 @@ use mathlib.Core.Path.{_≡_, refl, sym, ap, ap₂, _∙_, subst}
 use mathlib.Core.Bool.{Bool, true, false, cond}
 use mathlib.Core.Logic.{_⊎_, inl, inr, _≢_}
 use mathlib.Core.List.{List}
-use Prim.Native.Nat.{ℕ, suc, _+_, _*_, _/_, _%_, _≤_, _<_}
+use Prim.Native.Nat.{ℕ, suc, _+_, _*_, _/_, _≤_, _<_}
 use native.Mathlib.Omega.{arith}
-use native.Mathlib.Nat.{zero-mod}
 use lib.Dec.{eqb, ltb}
 use lib.ListN.{length, getD, set, length-set}
 use lib.Seq.{getD-set-same, getD-set-other, ext-getD}
@@ -20,7 +19,8 @@ use Rattle.types.specs.declared.Traffic.{Traffic}
 use Rattle.types.specs.declared.Sends.{Sends}
 use Rattle.types.specs.declared.Sends.the-variants.{Nothing, ViewAndVote}
 use Rattle.types.specs.declared.Form.the-variants.{Packed}
-use Rattle.types.specs.Quantities.{nMost, networkLeast, networkMost, tableClocks, rowWords, perLeader, initial, correct}
+use Rattle.types.proofs.PlanLaws.{zero-starts}
+use Rattle.types.specs.Quantities.{nMost, networkLeast, networkMost, tableClocks, rowWords, initial, correct}
 use Rattle.types.specs.Runs.{head-back}
 use Rattle.types.specs.Traffic.{noTraffic, trafficSent}
 use Rattle.model.specs.State.{stateOf, runOf, withHeld, withTraffic, clockOf, viewOf, posted, capacity, refused, done, runFrom, headOf}
@@ -95,9 +95,6 @@ first-packs plan faulty q low = go (correct plan faulty q)
     go true = pair-packs plan faulty 0 q (omega arith) low
     go false = none-packs plan faulty
 
-zero-initial : (plan : Plan) → initial plan 0 ≡ true
-zero-initial plan = eq-eqb (0 % perLeader plan) 0 (zero-mod (perLeader plan))
-
 module _ (u : Setup) (t : List ℕ) where
   abbrev below : ℕ → Change
   below = enteredFirst u t
@@ -114,7 +111,7 @@ module _ (u : Setup) (t : List ℕ) where
     first-messages = go (correct (u .plan) (u .faulty) k)
       where
         go : (b : Bool) → messagesOf k (cond b (ViewAndVote 0) Nothing) ≡ moving (u .plan) k (clockOf r k) (viewOf r k) (cond b (into 0) stay) .sent
-        go true = rw (zero-initial (u .plan)) refl
+        go true = rw (zero-starts (u .plan)) refl
         go false = refl
 
     abbrev pub reaction : Reaction
@@ -143,7 +140,7 @@ first-room u ws ws' l e = let h : length ws' ≡ length ws = ap length e ∙ cle
 -- view 0 is initial
 first-paired : (u : Setup) (t : List ℕ) (k : ℕ) → Paired (enteredFirst u t k .sent)
 first-paired u t k = paired-entries (firstEntry u) (blankRun u) t k
-    (λ p. by-cond (Initially (u .plan)) (correct (u .plan) (u .faulty) p) (into 0) stay (λ _. zero-initial (u .plan)) (λ _. tt))
+    (λ p. by-cond (Initially (u .plan)) (correct (u .plan) (u .faulty) p) (into 0) stay (λ _. zero-starts (u .plan)) (λ _. tt))
 
 -- the first entries, made on the blank tally t₁ and network ws₁, leave clocks and views as they are: the opened state
 pub start-made : (u : Setup) (t ws : List ℕ) → Ready u (length t) (length ws) → (run : Run) (held : ℕ) (traffic : Traffic) (t₁ t' ws₁ ws' : List ℕ) → run ≡ blankRun u

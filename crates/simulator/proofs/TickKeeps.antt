@@ -14,6 +14,7 @@ use Rattle.base.specs.Tests.{fails, T-left, le?}
 use Rattle.base.specs.Choice.{and-both}
 use Rattle.base.specs.Scan.{some}
 use Rattle.base.specs.ScanLaws.{some-not}
+use Rattle.pacemaker.specs.Limits.{Within}
 use Rattle.pacemaker.proofs.LimitLaws.{within, gamma-positive}
 use Rattle.types.specs.declared.Plan.{Plan}
 use Rattle.types.specs.declared.Run.{Run}
@@ -67,7 +68,7 @@ module _ (e : ℕ → Entry) (r : Run) (t : List ℕ) where
 
 -- ---- a clock inside its view, one tick on
 
-module _ (plan : Plan) (positive : 0 < plan .gamma) (clock view : ℕ) (was : clockOutside plan clock view ≡ false) (on : atEnd plan (clock + 1) ≡ false) where
+module _ (plan : Plan) (limits : Within plan) (clock view : ℕ) (was : clockOutside plan clock view ≡ false) (on : atEnd plan (clock + 1) ≡ false) where
   bounds : (clockTime plan view ≤ clock) × (clock < clockTime plan (nextInitial plan view))
   bounds =
       let o = neither (atEnd plan clock || ltb clock (clockTime plan view)) (leb (clockTime plan (nextInitial plan view)) clock) (fails (clockOutside plan clock view) was) in
@@ -85,7 +86,7 @@ module _ (plan : Plan) (positive : 0 < plan .gamma) (clock view : ℕ) (was : cl
       let w : ℕ = (clock + 1) / plan .gamma in
       let m : (clock + 1) % plan .gamma ≡ 0 = eqb→eq _ _ (T-left (eqb ((clock + 1) % plan .gamma) 0) (initial plan w) t) in
       let g : w * plan .gamma ≡ clock + 1 = omega (arith, div-add-mod' (clock + 1) (plan .gamma)) in
-      let n : (w + 1) * plan .gamma ≤ nextInitial plan w * plan .gamma = mul-le-mul-right (plan .gamma) (next-above plan w (per-leader-positive plan)) in
+      let n : (w + 1) * plan .gamma ≤ nextInitial plan w * plan .gamma = mul-le-mul-right (plan .gamma) (next-above plan w (per-leader-positive plan (limits .per-leader-least))) in
       clock-inside plan (clock + 1) w before-end (omega arith) (omega arith)
 
   -- it has not, and is still below the next
@@ -101,7 +102,7 @@ module _ (plan : Plan) (positive : 0 < plan .gamma) (clock view : ℕ) (was : cl
       at-next : clock + 1 ≡ next * plan .gamma → T due
       at-next e =
           let m : (clock + 1) % plan .gamma ≡ 0 = ap (λ (x : ℕ). x % plan .gamma) e ∙ mul-mod-left next (plan .gamma) in
-          let d : (clock + 1) / plan .gamma ≡ next = ap (λ (x : ℕ). x / plan .gamma) e ∙ mul-div-cancel next positive in
+          let d : (clock + 1) / plan .gamma ≡ next = ap (λ (x : ℕ). x / plan .gamma) e ∙ mul-div-cancel next (gamma-positive plan limits) in
           rw (and-both (eqb ((clock + 1) % plan .gamma) 0) (initial plan ((clock + 1) / plan .gamma)) (eq-eqb _ _ m)
           (ap (initial plan) d ∙ next-initial plan view)) tt
 
@@ -146,7 +147,7 @@ module _ (s : State) (long-clocks : s .run .plan .n ≤ length (s .run .clocks))
   fit-ticked = record {
     plan = fit .plan;
     faulty = fit .faulty;
-    clocks = λ p c. rw (clock-ticked p c, view-ticked p c) (stays-inside (s .run .plan) (gamma-positive (s .run .plan) (within (s .run .plan) (fit .plan)))
+    clocks = λ p c. rw (clock-ticked p c, view-ticked p c) (stays-inside (s .run .plan) (within (s .run .plan) (fit .plan))
         (clockOf (s .run) p) (viewOf (s .run) p) (fit .clocks p c) (still-on p c));
   }
     where

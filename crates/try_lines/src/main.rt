@@ -17,7 +17,7 @@ ghost use Rattle.lines.specs.Contracts.{line};
 const INPUT_BYTES: usize = 131072;
 
 // Room for the longest form and its newline.
-const LINE_BYTES: usize = 1440;
+const LINE_BYTES: usize = 1461;
 
 fn say(text: &[u8]) {
     io::write_all(STDOUT_FILENO, text);
@@ -65,6 +65,7 @@ fn say_setup(setup: Setup) {
     say_number(plan.delta);
     say_number(plan.gamma);
     say_number(plan.views);
+    say_number(plan.k);
     say_number(setup.faulty);
     let clocks = setup.clocks;
     say_clocks(&clocks);
@@ -87,7 +88,15 @@ fn is_line(out: &[u8], k: usize, form: &[u8]) -> bool
     check::same(&out[..end], form)
 }
 
-// What writing answered, where it wrote the line that was read.
+// The first k bytes, if there are as many.
+fn say_first(out: &[u8], k: usize) {
+    if out.len() < k {
+        return;
+    }
+    say(&out[..k]);
+}
+
+// What writing answered: as many bytes of the line that was read, or the line that it wrote, if that is another.
 fn say_written(answer: Written, out: &[u8], line: &[u8]) {
     let Written::Bytes(k) = answer else {
         say(b" not written\n");
@@ -99,7 +108,8 @@ fn say_written(answer: Written, out: &[u8], line: &[u8]) {
         say(b"\n");
         return;
     }
-    say(b" written otherwise\n");
+    say(b" written otherwise: ");
+    say_first(out, k);
 }
 
 fn say_refused() {

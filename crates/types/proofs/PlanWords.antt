@@ -2,15 +2,16 @@
 use mathlib.Core.Path.{_≡_, refl, sym, ap, _∙_}
 use mathlib.Core.Bool.{cond}
 use mathlib.Core.Logic.{_≢_}
-use Prim.Native.Nat.{ℕ, _-_, _*_, _/_, _^_, _≤_, _<_}
+use Prim.Native.Nat.{ℕ, _-_, _*_, _/_, _%_, _^_, _≤_, _<_}
 use native.Mathlib.Omega.{arith}
-use native.Mathlib.Nat.{mul-zero, mul-le-mul, div-lt-iff-lt-mul, le-div-iff-mul-le}
-use lib.Dec.{leb, ltb}
+use native.Mathlib.Nat.{div-zero, div-add-mod', mul-zero, mul-le-mul, div-lt-iff-lt-mul, le-div-iff-mul-le}
+use lib.Dec.{eqb, leb, ltb, eqb→eq}
 use borrow.Author.Tests.{lt-ltb, le-ltb, ne-eqb}
+use Rattle.base.specs.Tests.{T-iff, eq→eqb}
 use Rattle.base.specs.Choice.{cond-yes, cond-no}
 use Rattle.types.specs.declared.Plan.{Plan}
 use Rattle.types.specs.declared.Message.{Message}
-use Rattle.types.specs.Quantities.{lead, nextInitial, clockTime}
+use Rattle.types.specs.Quantities.{perLeader, turnsOver, lead, turnStart, nextInitial, clockTime}
 use Rattle.types.specs.Messages.{kindOf, viewIn, processorIn, lastSignatureKind, addressee}
 use Rattle.types.specs.PlanFunctions.{leadWord, addresseeWord, nextInitialWord, clockTimeWord}
 
@@ -46,3 +47,29 @@ lead-fits plan w l = let ne : plan .n ≢ 0 = λ e. absurd (omega (arith, e)) in
 
 pub addressee-fits : (plan : Plan) (m : Message) → 0 < plan .n → addresseeWord plan m ≡ addressee plan (kindOf m) (viewIn m) (processorIn m)
 addressee-fits plan m l = ap (λ (q : ℕ). cond (leb (kindOf m) lastSignatureKind) q (processorIn m)) (lead-fits plan (viewIn m) l)
+
+-- ---- turns
+
+pub turn-none : (plan : Plan) (w : ℕ) → perLeader plan ≡ 0 → 0 ≡ turnsOver plan w
+turn-none plan w e = sym (ap (λ (k : ℕ). w / k) e ∙ div-zero w)
+
+-- the first view of a view's turn is not above it
+pub turn-below : (plan : Plan) (w : ℕ) → turnsOver plan w * perLeader plan ≤ w
+turn-below plan w = omega (arith, div-add-mod' w (perLeader plan))
+
+-- and a turn starts where it is the view itself
+pub turn-starts : (plan : Plan) (w : ℕ) → eqb (turnsOver plan w * perLeader plan) w ≡ turnStart plan w
+turn-starts plan w = T-iff _ _ (λ t. eq→eqb _ _ (rest (eqb→eq _ _ t))) (λ t. eq→eqb _ _ (whole (eqb→eq _ _ t)))
+  where
+    rest : turnsOver plan w * perLeader plan ≡ w → w % perLeader plan ≡ 0
+    rest e = omega (arith, div-add-mod' w (perLeader plan))
+
+    whole : w % perLeader plan ≡ 0 → turnsOver plan w * perLeader plan ≡ w
+    whole e = omega (arith, div-add-mod' w (perLeader plan))
+
+-- what the code multiplies
+pub start-is : (plan : Plan) (w t : ℕ) → t ≡ turnsOver plan w → t * perLeader plan ≡ turnsOver plan w * perLeader plan
+start-is plan w t e = ap (λ (x : ℕ). x * perLeader plan) e
+
+pub start-below : (plan : Plan) (w t : ℕ) → t ≡ turnsOver plan w → t * perLeader plan ≤ w
+start-below plan w t e = omega (arith, start-is plan w t e, turn-below plan w)

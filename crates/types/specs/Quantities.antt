@@ -1,5 +1,5 @@
 -- "Quantities": the limits, the plan's own functions, and who is correct.
-use mathlib.Core.Bool.{Bool, not, _&&_}
+use mathlib.Core.Bool.{Bool, not, _&&_, cond}
 use Prim.Native.Nat.{ℕ, _+_, _-_, _*_, _/_, _%_}
 use lib.Dec.{eqb, ltb}
 use Rattle.base.specs.Sets.{member}
@@ -14,6 +14,20 @@ nLeast = 4
 abbrev pub nMost : ℕ
 nMost = 64
 
+-- "The plan gets k, the views per leader, 2 to 8"
+abbrev pub perLeader : Plan → ℕ
+perLeader p = p .k
+
+abbrev pub perLeaderLeast : ℕ
+perLeaderLeast = 2
+
+abbrev pub perLeaderMost : ℕ
+perLeaderMost = 8
+
+-- "any opening line without it is read as k=3", document 01's number
+abbrev pub perLeaderUsual : ℕ
+perLeaderUsual = 3
+
 -- "Δ, the delay: 1 to 1,000 ticks. Γ, the slot: 2Δ to 10,000 ticks."
 abbrev pub deltaLeast : ℕ
 deltaLeast = 1
@@ -21,8 +35,9 @@ deltaLeast = 1
 abbrev pub deltaMost : ℕ
 deltaMost = 1000
 
+-- check 3 "wants Γ at least 4Δ for k=2, 2Δ otherwise"
 abbrev pub gammaLeast : Plan → ℕ
-gammaLeast p = 2 * p .delta
+gammaLeast p = cond (eqb (perLeader p) 2) (4 * p .delta) (2 * p .delta)
 
 abbrev pub gammaMost : ℕ
 gammaMost = 10000
@@ -59,25 +74,25 @@ tableClocks = 64
 abbrev pub tolerated : Plan → ℕ
 tolerated p = (p .n - 1) / 3
 
--- "Views per leader .. belong to the plan itself: 3 views"
-unfoldable pub perLeader : Plan → ℕ
-perLeader p = 3
+-- the turns that are over at view w, k views each
+abbrev pub turnsOver : Plan → ℕ → ℕ
+turnsOver p w = w / perLeader p
 
--- "cabinet (w/3 rounded down) mod n leads view w"
+-- "cabinet (w/3 rounded down) mod n leads view w"; "Leader, initial view, the limit on start clocks .. and the multiple in check 4 follow k"
 abbrev pub lead : Plan → ℕ → ℕ
-lead p w = w / perLeader p % p .n
+lead p w = turnsOver p w % p .n
 
 -- a multiple of the views per leader, which a leader's first view is
 abbrev pub turnStart : Plan → ℕ → Bool
 turnStart p w = eqb (w % perLeader p) 0
 
--- "A view divisible by 3 is initial."
+-- "A view divisible by 3 is initial."; by k
 abbrev pub initial : Plan → ℕ → Bool
 initial p w = turnStart p w
 
 -- the first such multiple above w: the next initial view
 abbrev pub nextInitial : Plan → ℕ → ℕ
-nextInitial p w = w / perLeader p * perLeader p + perLeader p
+nextInitial p w = turnsOver p w * perLeader p + perLeader p
 
 -- "its clock time is wΓ"
 abbrev pub clockTime : Plan → ℕ → ℕ
@@ -87,7 +102,7 @@ clockTime p w = w * p .gamma
 abbrev pub endTime : Plan → ℕ
 endTime p = clockTime p (p .views)
 
--- 3Γ, which no correct start clock reaches (check 7)
+-- "the limit on start clocks (kΓ)" (check 7)
 abbrev pub startLimit : Plan → ℕ
 startLimit p = clockTime p (perLeader p)
 

@@ -1,7 +1,7 @@
 -- A run and its parts: the head, which goes by value, and the two tables, which are lent beside it; a setup of its parts; and a plan as numbers.
 use mathlib.Core.Path.{_≡_, refl, ap}
 use mathlib.Core.Bool.{Bool, true, false, cond}
-use mathlib.Core.List.{List, [], _∷_}
+use mathlib.Core.List.{List, [], _∷_, _++_}
 use Prim.Native.Nat.{ℕ}
 use lib.Dec.{eqb}
 use lib.ListN.{getD}
@@ -9,6 +9,7 @@ use Rattle.types.specs.declared.Head.{Head}
 use Rattle.types.specs.declared.Plan.{Plan}
 use Rattle.types.specs.declared.Run.{Run}
 use Rattle.types.specs.declared.Setup.{Setup}
+use Rattle.types.specs.Quantities.{perLeader, perLeaderUsual}
 
 -- whether the network has settled, as a number and back: a head has a number for it, since a flag among numbers is slow to copy
 abbrev pub settledAs : Bool → ℕ
@@ -55,9 +56,20 @@ head-back r = ap (λ (b : Bool). record {
 abbrev pub setupWith : Plan → ℕ → List ℕ → Setup
 setupWith plan faulty clocks = record { plan = plan; faulty = faulty; clocks = clocks }
 
--- "n Δ Γ V": the numbers of a plan, and the plan that the first numbers of a list are
+-- "any opening line without it is read as k=3": the numbers of a plan without k
+abbrev pub usualNumbers : Plan → List ℕ
+usualNumbers p = p .n ∷ p .delta ∷ p .gamma ∷ p .views ∷ []
+
+-- "k, the views per leader, .. written in the opening form after V": all of them
 abbrev pub planNumbers : Plan → List ℕ
-planNumbers p = p .n ∷ p .delta ∷ p .gamma ∷ p .views ∷ []
+planNumbers p = usualNumbers p ++ (perLeader p ∷ [])
+
+-- the plan with this k whose other numbers are the first four of a list; the one of the first five; and the one of four without k
+abbrev pub planBy : ℕ → List ℕ → Plan
+planBy k ns = record { n = getD ns 0 0; delta = getD ns 1 0; gamma = getD ns 2 0; views = getD ns 3 0; k = k }
 
 abbrev pub planIn : List ℕ → Plan
-planIn ns = record { n = getD ns 0 0; delta = getD ns 1 0; gamma = getD ns 2 0; views = getD ns 3 0 }
+planIn ns = planBy (getD ns 4 0) ns
+
+abbrev pub usualPlanIn : List ℕ → Plan
+usualPlanIn ns = planBy perLeaderUsual ns

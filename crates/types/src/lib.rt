@@ -1,26 +1,28 @@
 // The types of the product, declared once, and their own functions.
 ghost use mathlib.Core.Path.{_≡_};
-ghost use Rattle.types.specs.Quantities.{tolerated, perLeader, turnStart, initial, correct, width};
+ghost use Rattle.types.specs.Quantities.{tolerated, perLeader, turnsOver, turnStart, initial, correct, width};
 ghost use Rattle.types.specs.Messages.{kindOf, viewIn, processorIn, stageOf, isSignature, lacksForm};
 ghost use Rattle.types.specs.Traffic.{noCounts, noTraffic};
 ghost use Rattle.types.specs.Runs.{settledAs, runFrom, headOf};
 ghost use Rattle.types.specs.PlanFunctions.{leadWord, nextInitialWord, clockTimeWord, addresseeWord};
 
-// The protocol's parameters (document 01: the plan): processors, delay, slot, view limit.
+// The protocol's parameters (document 01: the plan): processors, delay, slot, view limit, views per leader.
 pub struct Plan {
     pub n: u64,
     pub delta: u64,
     pub gamma: u64,
     pub views: u64,
+    pub k: u64,
 }
 
 impl Plan {
+    // The views per leader where a line names none.
     pub const VIEWS_PER_LEADER: u64 = 3;
     // What `lead` answers where there are no processors.
     const NO_LEADER: u64 = 0;
     // What `clock_time` and `next_initial` answer where their number does not fit.
     const LARGEST: u64 = 18446744073709551615;
-    // Two numbers below this have a product that fits.
+    // Two numbers below this, 2^32, have a product that fits.
     const HALF: u64 = 4294967296;
     // The limits of checks 2 to 4.
     pub const N_LEAST: u64 = 4;
@@ -37,6 +39,20 @@ impl Plan {
 
     pub const VIEWS_MOST: u64 = 6000;
 
+    pub const PER_LEADER_LEAST: u64 = 2;
+
+    pub const PER_LEADER_MOST: u64 = 8;
+
+    // The turns that are over at view w.
+    fn turns_over(self, w: u64) -> u64
+        ensures { λ r. ⌜ r ≡ turnsOver self w ⌝ }
+    {
+        if self.k == 0 {
+            return 0;
+        }
+        w / self.k
+    }
+
     // The leader of view w.
     pub fn lead(self, w: u64) -> u64
         ensures { λ r. ⌜ r ≡ leadWord self w ⌝ }
@@ -44,14 +60,14 @@ impl Plan {
         if self.n == 0 {
             return Plan::NO_LEADER;
         }
-        w / Plan::VIEWS_PER_LEADER % self.n
+        self.turns_over(w) % self.n
     }
 
     // Whether w is a multiple of the views per leader.
     pub fn turn_start(self, w: u64) -> bool
         ensures { λ r. ⌜ r ≡ turnStart self w ⌝ }
     {
-        w % Plan::VIEWS_PER_LEADER == 0
+        self.turns_over(w) * self.k == w
     }
 
     // Whether view w is initial.
@@ -83,11 +99,11 @@ impl Plan {
     pub fn next_initial(self, w: u64) -> u64
         ensures { λ r. ⌜ r ≡ nextInitialWord self w ⌝ }
     {
-        let row = w / Plan::VIEWS_PER_LEADER * Plan::VIEWS_PER_LEADER;
-        if Plan::LARGEST - Plan::VIEWS_PER_LEADER < row {
+        let start = self.turns_over(w) * self.k;
+        if Plan::LARGEST - self.k < start {
             return Plan::LARGEST;
         }
-        row + Plan::VIEWS_PER_LEADER
+        start + self.k
     }
 
     // The clock time that no correct clock reaches.
@@ -101,7 +117,7 @@ impl Plan {
     pub fn start_limit(self) -> u64
         ensures { λ r. ⌜ r ≡ clockTimeWord self (perLeader self) ⌝ }
     {
-        self.clock_time(Plan::VIEWS_PER_LEADER)
+        self.clock_time(self.k)
     }
 
     // t, the faulty processors that the protocol tolerates.

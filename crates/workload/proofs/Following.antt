@@ -143,7 +143,7 @@ module _ (u : Setup) (before : State) (table : length (u .clocks) ≡ tableClock
         formed = setup-formed u before reached;
         below = below;
         table = table;
-        bytes = refl;
+        bytes = inl refl;
       }
 
   module _ (x : Standing) (long : AsLong before (x .state)) where

@@ -14,7 +14,7 @@ use Rattle.types.specs.declared.Setup.{Setup}
 use Rattle.types.specs.Quantities.{nMost}
 use Rattle.lines.specs.declared.Written.{Written}
 use Rattle.lines.specs.declared.Written.the-variants.{Bytes, Refused}
-use Rattle.lines.specs.Forms.{newline, openWord, clocksForm, lineClocks, openingForm, setForm, setupForm, lacksSetupForm}
+use Rattle.lines.specs.Forms.{newline, planForm, setupForm, lacksSetupForm}
 use Rattle.lines.specs.Contracts.{line, notWritten, writtenAs, writtenIn, Writes}
 use Rattle.types.specs.Runs.{planNumbers}
 use Rattle.writer.specs.Stamps.{stamp, Room, Stamped}
@@ -69,7 +69,7 @@ pub refused-many : (u : Setup) (d : List ℕ) → nMost < u .plan .n → Writes 
 refused-many u d h = refused-form (lacksSetupForm u) (setupForm u) d (or-second (eqb (u .plan .n) 0) _ (lt-ltb _ _ h))
 
 pub written-setup : (u : Setup) (d : List ℕ) (r : Written) (e : List ℕ) → u .plan .n ≢ 0 → u .plan .n ≤ nMost
-    → Writes false (openingForm openWord (planNumbers (u .plan)) (setForm (u .faulty)) (clocksForm (lineClocks u))) d r e → Writes (lacksSetupForm u) (setupForm u) d r e
+    → Writes false (planForm (planNumbers (u .plan)) u) d r e → Writes (lacksSetupForm u) (setupForm u) d r e
 unfolding setupForm
 written-setup u d r e some few x =
     let l : lacksSetupForm u ≡ false = or-neither (eqb (u .plan .n) 0) (ltb nMost (u .plan .n)) (ne-eqb _ _ some) (le-ltb _ _ few) in

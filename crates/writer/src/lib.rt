@@ -86,7 +86,7 @@ pub fn write_setup(setup: Setup, out: &mut [u8]) -> Written
     if Plan::N_MOST < plan.n {
         return Written::Refused(1);
     }
-    let numbers = [plan.n, plan.delta, plan.gamma, plan.views];
+    let numbers = [plan.n, plan.delta, plan.gamma, plan.views, plan.k];
     let table = setup.clocks;
     let n = plan.n as usize;
     write_opening(b"open", &numbers, setup.faulty, &table[..n], out)

@@ -2,12 +2,13 @@
 
 use reference::{apply, is_sound, open, Answer, Event, Plan, Run, Setup};
 
-/// n=4, delta 2, gamma 4, 6 views: "unless said".
+/// n=4, delta 2, gamma 4, 6 views: "unless said"; 3 views per leader.
 pub const USUAL: Plan = Plan {
     n: 4,
     delta: 2,
     gamma: 4,
     views: 6,
+    k: 3,
 };
 
 /// A run and its lent words.

@@ -9,7 +9,9 @@ fn called(words: &[&[u8]]) -> (Ended, Vec<u8>, String) {
     (ended, out, String::from_utf8_lossy(&errors).into_owned())
 }
 
+/// An opening without k, and the same as a load begins with it.
 const OPENING: &[u8] = b"(open 4 2 4 6 0 (0 0 0 0))";
+const WRITTEN: &[u8] = b"(open 4 2 4 6 3 0 (0 0 0 0))\n";
 
 #[test]
 fn a_load_of_several_pieces_is_accepted_whole() {
@@ -32,7 +34,7 @@ fn a_load_of_several_pieces_is_accepted_whole() {
 fn a_short_load() {
     let (ended, load, errors) = called(&[OPENING, b"2", b"1", b"1"]);
     let expected =
-        "(open 4 2 4 6 0 (0 0 0 0))\n(deliver (vote 0 1))\n(settle)\n(deliver (view 0 3))\n";
+        "(open 4 2 4 6 3 0 (0 0 0 0))\n(deliver (vote 0 1))\n(settle)\n(deliver (view 0 3))\n";
     assert_eq!(String::from_utf8_lossy(&load), expected);
     assert_eq!((ended, errors.as_str()), (Ended::Loaded, ""));
 }
@@ -42,12 +44,16 @@ fn refused_openings_are_told() {
     for (opening, check) in [
         (&b"(open 3 2 4 6 0 (0 0 0))"[..], 2),
         (b"(open 4 2 3 6 0 (0 0 0 0))", 3),
+        (b"(open 4 2 7 6 2 0 (0 0 0 0))", 3),
         (b"(open 4 2 4 7 0 (0 0 0 0))", 4),
+        (b"(open 4 2 4 9 9 0 (0 0 0 0))", 4),
         (b"(open 4 2 4 6 16 (0 0 0 0))", 5),
         (b"(open 4 2 4 903 0 (0 0 0 0))", 6),
         (b"(open 4 2 4 6 0 (12 0 0 0))", 7),
         (b"(open 4 2 4 6 0 (5 0 0 0))", 8),
         (b"(open 4 2 4 6 0 (0 0 0))", 1),
+        (b"(open 4 2 4 6 (0 0 0 0))", 1),
+        (b"(open 4 2 4 6 3 0 0 (0 0 0 0))", 1),
         (b"(open 4 2 4 6 0 (0 0 0 0))\n", 1),
         (b"(tick 1)", 1),
         (b"\xFF", 1),
@@ -92,5 +98,5 @@ fn wrong_words_are_told() {
     misused(&[OPENING, b"0", b"0", b"0", b"0"]);
     let most = b"18446744073709551615";
     let (ended, load, _) = called(&[OPENING, b"0", most, most]);
-    assert_eq!((ended, &load[..26]), (Ended::Loaded, OPENING));
+    assert_eq!((ended, &load[..]), (Ended::Loaded, WRITTEN));
 }

@@ -81,6 +81,7 @@ fn the_first_failing_check_is_the_one_answered() {
         delta: 0,
         gamma: 0,
         views: 0,
+        k: 0,
     };
     assert_eq!(refusal(all_wrong, u64::MAX, 0, 0), 2);
     assert_eq!(refusal(Plan { n: 4, ..all_wrong }, u64::MAX, 0, 0), 3);

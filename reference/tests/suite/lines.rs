@@ -64,19 +64,82 @@ fn the_longest_lines() {
         delta: u64::MAX,
         gamma: u64::MAX,
         views: u64::MAX,
+        k: u64::MAX,
     };
     let line = setup_line(&setup(plan, u64::MAX, &[u64::MAX; 64]));
-    assert_eq!(line.len(), 6 + 3 + 4 * 21 + 1 + 64 * 21 - 1 + 2);
+    assert_eq!(line.len(), 6 + 3 + 5 * 21 + 1 + 64 * 21 - 1 + 2);
+    assert_eq!(line.len(), 1_460);
 }
 
 #[test]
 fn the_forms_of_openings() {
     assert_eq!(
         setup_line(&usual(&[0, 10, 2, 3])),
-        "(open 4 2 4 6 0 (0 10 2 3))"
+        "(open 4 2 4 6 3 0 (0 10 2 3))"
     );
-    let one = Plan { n: 1, ..USUAL };
-    assert_eq!(setup_line(&setup(one, 9, &[5, 6])), "(open 1 2 4 6 9 (5))");
+    let one = Plan {
+        n: 1,
+        k: 70,
+        ..USUAL
+    };
+    let line = setup_line(&setup(one, 9, &[5, 6]));
+    assert_eq!(line, "(open 1 2 4 6 70 9 (5))");
+}
+
+/// What a line is read as: its plan and faulty processors.
+fn read(line: &str) -> Option<(Plan, u64)> {
+    match read_line(line.as_bytes()) {
+        Reading::Opening(setup) => Some((setup.plan, setup.faulty)),
+        _ => None,
+    }
+}
+
+#[test]
+fn a_line_without_k_has_three() {
+    assert_eq!(read("(open 4 2 4 6 8 (0 0 0 0))"), Some((USUAL, 8)));
+    assert_eq!(read("(open 4 2 4 6 3 8 (0 0 0 0))"), Some((USUAL, 8)));
+    let five = Plan { k: 5, ..USUAL };
+    assert_eq!(read("(open 4 2 4 6 5 8 (0 0 0 0))"), Some((five, 8)));
+    // A line says nothing about its limits.
+    for k in [0, 1, 9, u64::MAX] {
+        let line = format!("(open 4 2 4 6 {k} 8 (0 0 0 0))");
+        assert_eq!(read(&line), Some((Plan { k, ..USUAL }, 8)));
+    }
+    for line in [
+        "(open 4 2 4 6 (0 0 0 0))",
+        "(open 4 2 4 6 3 8 0 (0 0 0 0))",
+        "(open 4 2 4 6 3 8 0 0 (0 0 0 0))",
+        "(open 4 2 4 6 03 8 (0 0 0 0))",
+        "(open 4 2 4 6 18446744073709551616 8 (0 0 0 0))",
+        "(open 4 2 4 6 3 18446744073709551616 (0 0 0 0))",
+        "(open 4 2 4 6 18446744073709551616 (0 0 0 0))",
+        "(open 4 2 4 6 3  8 (0 0 0 0))",
+        "(open 4 2 4 6 3 8(0 0 0 0))",
+        "(open 4 2 4 6 3 8  (0 0 0 0))",
+        "(open 4 2 4 6 (3) 8 (0 0 0 0))",
+        "(open 4 2 4 6 3 8)",
+        "(open 4 2 4 6 3",
+        "(open 4 2 4 6 3 ",
+    ] {
+        assert_eq!(read(line), None, "{line}");
+    }
+}
+
+#[test]
+fn lines_are_written_with_k() {
+    let written = |line: &str| {
+        let Reading::Opening(setup) = read_line(line.as_bytes()) else {
+            panic!("{line}");
+        };
+        let mut bytes = [0; 100];
+        let length = write_setup(&setup, &mut bytes).expect("room enough");
+        String::from_utf8_lossy(&bytes[..length]).into_owned()
+    };
+    let three = "(open 4 2 4 6 3 0 (0 1 2 3))";
+    assert_eq!(written("(open 4 2 4 6 0 (0 1 2 3))").trim_end(), three);
+    assert_eq!(written(three).trim_end(), three);
+    let eight = "(open 4 2 4 8 8 1 (0 1 2 3))";
+    assert_eq!(written(eight).trim_end(), eight);
 }
 
 #[test]
@@ -134,6 +197,7 @@ fn drawn_setups_come_back() {
             delta: number(&mut draws),
             gamma: number(&mut draws),
             views: number(&mut draws),
+            k: number(&mut draws),
         };
         let faulty = number(&mut draws);
         let clocks: Vec<u64> = (0..64).map(|_| number(&mut draws)).collect();

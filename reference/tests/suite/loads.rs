@@ -62,7 +62,7 @@ fn lines(setup: &Setup, mut load: Load) -> (Vec<String>, Load, World) {
 }
 
 pub fn opening(setup: &Setup) -> String {
-    let mut out = [0; 1_440];
+    let mut out = [0; 1_461];
     let length = write_setup(setup, &mut out).expect("it has a form");
     String::from_utf8_lossy(&out[..length]).into_owned()
 }
@@ -172,14 +172,15 @@ fn a_refused_delivery_ends_the_load() {
 /// A setup that opens with the program's words.
 pub fn drawn(draws: &mut Draws) -> Setup {
     let n = draws.one_of(&[4, 5, 7, 10, 16, 64]);
-    let gamma = draws.one_of(&[2, 4, 30, 500]);
-    let delta = 1 + draws.below(gamma / 2);
-    let views = draws.one_of(&[3, 6, 30, 900]);
+    let k = 2 + draws.below(7);
+    let gamma = draws.one_of(&[4, 8, 30, 500]);
+    let delta = 1 + draws.below(gamma / if k == 2 { 4 } else { 2 });
     let plan = Plan {
         n,
         delta,
         gamma,
-        views,
+        views: k * draws.one_of(&[2, 6, 30, 112]),
+        k,
     };
     let faulty = (1 << draws.below(plan.tolerance() + 1)) - 1;
     let mut clocks = [0; 64];

@@ -17,5 +17,6 @@ mod schedules;
 mod settings;
 mod stream;
 mod traffic;
+mod turns;
 mod watching;
 mod wild;

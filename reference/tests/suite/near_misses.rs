@@ -7,8 +7,11 @@ fn no_form(line: &[u8]) {
     assert_eq!(read_line(line), Reading::NoForm, "{shown}");
 }
 
-const GOOD: [&str; 7] = [
+const WITH_K: &str = "(open 4 2 8 6 2 0 (0 10 2 3))";
+
+const GOOD: [&str; 8] = [
     "(open 4 2 4 6 0 (0 10 2 3))",
+    WITH_K,
     "(deliver (view 0 1))",
     "(deliver (vc 3 12))",
     "(sign (vote 1 2))",
@@ -30,8 +33,12 @@ fn any_byte_left_out() {
         for place in 0..line.len() {
             let mut bytes = line.as_bytes().to_vec();
             let gone = bytes.remove(place);
-            // A digit less may be another number of the same form.
-            if !gone.is_ascii_digit() {
+            // Two numbers behind n made one: an opening without k.
+            let joined = line == WITH_K && (9..16).contains(&place);
+            if joined && gone == b' ' {
+                assert!(matches!(read_line(&bytes), Reading::Opening(_)));
+            } else if !gone.is_ascii_digit() {
+                // A digit less may be another number of the same form.
                 no_form(&bytes);
             }
         }

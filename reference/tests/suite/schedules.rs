@@ -11,17 +11,20 @@ use reference::{Answer, Event, Setup, Watch};
 /// A setup that is accepted.
 fn drawn_setup(draws: &mut Draws) -> Setup {
     let delta = 1 + draws.below(3);
+    let k = 2 + draws.below(7);
+    let least = if k == 2 { 4 * delta } else { 2 * delta };
     let plan = Plan {
         n: draws.one_of(&[4, 5, 6, 7, 10]),
         delta,
-        gamma: 2 * delta + draws.below(3),
-        views: 3 * (1 + draws.below(300)),
+        gamma: least + draws.below(3),
+        views: k * (1 + draws.below(900 / k)),
+        k,
     };
     let mut faulty = 0;
     for _ in 0..draws.below(plan.tolerance() + 1) {
         faulty |= 1 << draws.below(plan.n);
     }
-    let base = draws.below(2 * plan.gamma);
+    let base = draws.below((k - 1) * plan.gamma);
     let clocks: Vec<u64> = (0..plan.n)
         .map(|_| base + draws.below(plan.gamma + 1))
         .collect();
@@ -47,7 +50,7 @@ fn drawn_event(world: &World, draws: &mut Draws, eager: bool) -> Event {
     let processor = draws.below(world.run.plan.n);
     let around = world.run.views[processor as usize];
     let view = (around + draws.below(4)).saturating_sub(draws.below(4));
-    let initial = view - view % 3;
+    let initial = view - view % world.run.plan.k;
     let chosen = draws.below(if eager { 16 } else { 40 });
     match chosen {
         0 => Sign(View(initial, processor)),

@@ -14,13 +14,16 @@ fn unsound_as_written(world: &World) -> bool {
         delta,
         gamma,
         views,
+        k,
     } = run.plan;
     let limits = !(4..=64).contains(&n)
         || !(1..=1_000).contains(&delta)
+        || k == 2 && wide(gamma) < 4 * wide(delta)
         || wide(gamma) < 2 * wide(delta)
         || gamma > 10_000
         || !(3..=6_000).contains(&views)
-        || views % 3 != 0
+        || !(2..=8).contains(&k)
+        || views % k != 0
         || (0..64).any(|p| p >= n && run.faulty >> p & 1 == 1)
         || u64::from(run.faulty.count_ones()) > (n - 1) / 3
         || (world.tally.len() as u128) < 4 * wide(views)
@@ -35,7 +38,8 @@ fn unsound_as_written(world: &World) -> bool {
         .collect();
     let clocks = correct.iter().any(|&p| {
         let (clock, view) = (wide(run.clocks[p]), wide(run.views[p]));
-        clock >= last || clock < view * wide(gamma) || clock >= (view / 3 + 1) * 3 * wide(gamma)
+        let next = (view / wide(k) + 1) * wide(k);
+        clock >= last || clock < view * wide(gamma) || clock >= next * wide(gamma)
     });
     let times = wide(run.time) >= last || run.gst > run.time || (!run.settled && run.gst != 0);
     let fit = world.network.len() as u128 / 2;
@@ -45,7 +49,7 @@ fn unsound_as_written(world: &World) -> bool {
     let used = run.held as usize * 2;
     world.network[used..].iter().any(|&word| word != 0)
         || world.held().iter().any(|&[kind, view, processor, sent]| {
-            let to = if kind < 3 { view / 3 % n } else { processor };
+            let to = if kind < 3 { view / k % n } else { processor };
             !(1..=4).contains(&kind)
                 || view >= views
                 || processor >= n
@@ -65,8 +69,15 @@ fn edge(draws: &mut Draws) -> u64 {
 /// A sound run after some events, with a word beyond a multiple of 2.
 fn sound(draws: &mut Draws) -> World {
     let faulty = draws.one_of(&[0, 1, 2, 4, 8]);
+    let shorter = Plan {
+        gamma: 8,
+        k: 2,
+        ..USUAL
+    };
+    let plan = draws.one_of(&[USUAL, shorter]);
+    let last = plan.k * plan.gamma - 1;
     let mut world = World::lent(30, 37);
-    let answer = world.open(&setup(USUAL, faulty, &[11, 11, 11, 10]));
+    let answer = world.open(&setup(plan, faulty, &[last, last, last, last - 1]));
     assert!(matches!(answer, Answer::Done { .. }));
     world.apply(Event::Tick(1 + draws.below(4)));
     if draws.below(2) == 0 {
@@ -88,7 +99,8 @@ fn spoil(world: &mut World, draws: &mut Draws) {
     let place = draws.below(64) as usize;
     let some = draws.below(8) as usize;
     let run: &mut Run = &mut world.run;
-    match draws.below(16) {
+    match draws.below(17) {
+        16 => run.plan.k = draws.one_of(&[value, 1, 2, 3, 6, 9]),
         0 => run.plan.n = value,
         1 => run.plan.delta = value,
         2 => run.plan.gamma = value,
@@ -192,12 +204,13 @@ fn wild_openings_are_refused_unchanged_or_sound() {
     for _ in 0..20_000 {
         let mut opening = setup(USUAL, 0, &[0, 1, 2, 3]);
         let value = edge(&mut draws);
-        match draws.below(7) {
+        match draws.below(8) {
             0 => opening.plan.n = value,
             1 => opening.plan.delta = value,
             2 => opening.plan.gamma = value,
             3 => opening.plan.views = value,
             4 => opening.faulty = value,
+            5 => opening.plan.k = value,
             _ => opening.clocks[draws.below(6) as usize] = value,
         }
         let mut world = World::lent(
@@ -223,11 +236,12 @@ fn wild_steps() {
     for _ in 0..50_000 {
         let mut plan = USUAL;
         let value = edge(&mut draws);
-        match draws.below(8) {
+        match draws.below(10) {
             0 => plan.n = value,
             1 => plan.delta = value,
             2 => plan.gamma = value,
             3 => plan.views = value,
+            4 | 5 => plan.k = value,
             _ => {}
         }
         let before = Processor {
@@ -244,8 +258,8 @@ fn wild_steps() {
                 assert_eq!(after, before);
             }
             Stepped::Nothing => assert_eq!(after.view, before.view),
-            Stepped::Vote(view) => assert!(after.view == view && view % 3 != 0),
-            Stepped::ViewAndVote(view) => assert!(after.view == view && view % 3 == 0),
+            Stepped::Vote(view) => assert!(after.view == view && view % plan.k != 0),
+            Stepped::ViewAndVote(view) => assert!(after.view == view && view % plan.k == 0),
         }
         assert!(after.clock >= before.clock && after.view >= before.view);
     }

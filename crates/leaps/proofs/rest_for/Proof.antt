@@ -22,7 +22,7 @@ clock-time-requires : tie.Need-clock-time-requires
 clock-time-requires c κs = search needs
 
 returns : tie.Need-returns
-returns c = rest-correct _ _ _ _ _ _ _ _ _ (sym (c .before .before .before .before .before .correct .ensures) ∙ c .before .before .before .before .if1 .taken) (c .before .before .before .next-initial .ensures) (c .before .before .clock-time .ensures) (omega (arith, c .if2 .taken))
+returns c = let a = c .before .before .before .before .before .before .args in rest-correct (a .plan) _ _ _ (a .processor .view) _ _ _ _ (sym (c .before .before .before .before .before .correct .ensures) ∙ c .before .before .before .before .if1 .taken) (c .before .before .before .next-initial .ensures) (c .before .before .clock-time .ensures) (omega (arith, c .if2 .taken))
 
 sub-least : tie.Need-sub-least
 sub-least c = search needs
@@ -34,7 +34,7 @@ least-requires : tie.Need-least-requires
 least-requires c κs = search needs
 
 returns-2 : tie.Need-returns-2
-returns-2 c = rest-correct _ _ _ _ _ _ _ _ _ (sym (c .before .before .before .before .before .before .before .correct .ensures) ∙ c .before .before .before .before .before .before .if1 .taken) (c .before .before .before .before .before .next-initial .ensures) (c .before .before .before .before .clock-time .ensures) (omega (arith, c .least .ensures))
+returns-2 c = let a = c .before .before .before .before .before .before .before .before .args in rest-correct (a .plan) _ _ _ (a .processor .view) _ _ _ _ (sym (c .before .before .before .before .before .before .before .correct .ensures) ∙ c .before .before .before .before .before .before .if1 .taken) (c .before .before .before .before .before .next-initial .ensures) (c .before .before .before .before .clock-time .ensures) (omega (arith, c .least .ensures))
 
 returns-3 : tie.Need-returns-3
 returns-3 c = cond-no _ _ _ _ (sym (c .before .correct .ensures) ∙ c .if1 .left) refl

@@ -1,4 +1,4 @@
-use Rattle.reader.proofs.Openings.{no-heading, whole-heading}
+use Rattle.reader.proofs.Openings.{no-heading, usual-heading, whole-heading}
 use mathlib.Core.Path.{refl}
 use borrow.Author.Needs.{needs}
 use Rattle.reader.proofs.read_heading.Statement.{statement}
@@ -25,14 +25,35 @@ array-read-t17 c = search needs
 array-read-t20 : tie.Need-array-read-t20
 array-read-t20 c = search needs
 
-array-read-t24 : tie.Need-array-read-t24
-array-read-t24 c = search needs
+array-read-t23 : tie.Need-array-read-t23
+array-read-t23 c = search needs
+
+array-read-t27 : tie.Need-array-read-t27
+array-read-t27 c = search needs
+
+array-read-t30 : tie.Need-array-read-t30
+array-read-t30 c = search needs
+
+array-read-t33 : tie.Need-array-read-t33
+array-read-t33 c = search needs
+
+array-read-t36 : tie.Need-array-read-t36
+array-read-t36 c = search needs
+
+array-read-t39 : tie.Need-array-read-t39
+array-read-t39 c = search needs
+
+array-read-t43 : tie.Need-array-read-t43
+array-read-t43 c = search needs
 
 returns : tie.Need-returns
 returns c = whole-heading _ _ _ _ _ (c .before .before .read-several .ensures) refl (c .match .keys1)
 
 returns-2 : tie.Need-returns-2
-returns-2 c = no-heading _ _ _ _ _ (c .before .before .read-several .ensures) refl (c .match .rest .1)
+returns-2 c = usual-heading _ _ _ _ _ (c .before .before .read-several .ensures) refl (c .match .keys2)
+
+returns-3 : tie.Need-returns-3
+returns-3 c = no-heading _ _ _ _ _ (c .before .before .read-several .ensures) refl (c .match .rest .0 .1) (c .match .rest .1)
 
 pub read-heading-spec : {M : Type 1} → statement M
 read-heading-spec =
@@ -44,6 +65,13 @@ read-heading-spec =
     array-read-t14
     array-read-t17
     array-read-t20
-    array-read-t24
+    array-read-t23
+    array-read-t27
+    array-read-t30
+    array-read-t33
+    array-read-t36
+    array-read-t39
+    array-read-t43
     returns
-    returns-2)
+    returns-2
+    returns-3)

@@ -1,4 +1,3 @@
-use Rattle.types.specs.Quantities.{perLeader}
 use borrow.Author.Needs.{needs}
 use Rattle.types.proofs.Plan.start_limit.Statement.{statement}
 use Rattle.types.proofs.Plan.start_limit.Tie as tie
@@ -10,7 +9,6 @@ clock-time-requires : tie.Need-clock-time-requires
 clock-time-requires c κs = search needs
 
 returns : tie.Need-returns
-unfolding perLeader
 returns c = c .clock-time .ensures
 
 pub start-limit-spec : {M : Type 1} → statement M

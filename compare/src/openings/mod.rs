@@ -1,7 +1,11 @@
 //! Setups: those that checks 2 to 8 pass, most of them at an edge of check 8,
 //! and those that one of them refuses.
 
+#[cfg(test)]
+mod tests;
+
 use crate::draws::Draws;
+use crate::text::Heading;
 use reference::{Plan, Setup};
 
 /// The most ticks that a run of a drawn setup can last: the reference does
@@ -15,6 +19,43 @@ pub fn accepted(draws: &mut Draws, most_views: u64) -> Setup {
     ]);
     let plan = plan(draws, n, most_views);
     accepted_of(draws, plan)
+}
+
+/// The views per leader of a plan: two and three more often than others.
+pub fn per_leader(draws: &mut Draws) -> u64 {
+    draws.one_of(&[2, 2, 3, 3, 3, 3, 3, 4, 5, 6, 7, 8])
+}
+
+/// The least view limit with so many views per leader.
+const fn least_views(k: u64) -> u64 {
+    if k == 2 {
+        4
+    } else {
+        k
+    }
+}
+
+/// A plan with so many views per leader: where they are two, of a slot of four
+/// delays or more, and of a view limit that is a multiple, the next below if
+/// there is one.
+pub fn with_turns(plan: Plan, k: u64) -> Plan {
+    let slot = if k == 2 { 4 * plan.delta } else { 0 };
+    Plan {
+        gamma: plan.gamma.max(slot),
+        views: (plan.views - plan.views % k).max(least_views(k)),
+        k,
+        ..plan
+    }
+}
+
+/// What the line of a setup says before its clocks: most often without k where
+/// that is the same, so that a third of the openings are without.
+pub fn heading(setup: &Setup, draws: &mut Draws) -> Heading {
+    if setup.plan.k == Plan::VIEWS_PER_LEADER && draws.per_mille(800) {
+        Heading::Five
+    } else {
+        Heading::Six
+    }
 }
 
 /// A setup of this plan that opens.
@@ -46,13 +87,23 @@ fn plan(draws: &mut Draws, n: u64, most_views: u64) -> Plan {
         (1_000, 10_000),
         (1, 10_000),
     ]);
-    let most = (MOST_TICKS / gamma).min(most_views);
+    let mut k = per_leader(draws);
+    if least_views(k) > most_views {
+        k = Plan::VIEWS_PER_LEADER;
+    }
     let views = draws.one_of(&[3, 6, 9, 12, 30, 60, 90, 150, 300, 600, 900]);
-    Plan {
+    let plan = Plan {
         n,
         delta,
         gamma,
-        views: views.min(most - most % 3),
+        views,
+        k,
+    };
+    let plan = with_turns(plan, k);
+    let most = (MOST_TICKS / plan.gamma).min(most_views);
+    Plan {
+        views: plan.views.min(most - most % k),
+        ..plan
     }
 }
 
@@ -81,7 +132,7 @@ fn some_of(draws: &mut Draws, n: u64, count: u64) -> u64 {
 /// Start clocks that checks 7 and 8 pass; those of faulty processors and from
 /// n on, which are not read, are anything.
 fn clocks(draws: &mut Draws, plan: Plan, faulty: u64) -> [u64; 64] {
-    let (gamma, last) = (plan.gamma, 3 * plan.gamma - 1);
+    let (gamma, last) = (plan.gamma, plan.round() - 1);
     let mut clocks = [0; 64];
     match draws.below(6) {
         0 => {}
@@ -147,6 +198,7 @@ pub const fn longest() -> Setup {
         delta: u64::MAX,
         gamma: u64::MAX,
         views: u64::MAX,
+        k: u64::MAX,
     };
     Setup {
         plan,
@@ -164,17 +216,45 @@ pub fn refused(draws: &mut Draws, most_views: u64) -> Setup {
     match draws.between(2, 8) {
         2 => plan.n = draws.one_of(&[1, 2, 3, 3]),
         3 if draws.per_mille(500) => plan.delta = draws.one_of(&[0, 1_001, any.max(1_001)]),
-        3 => plan.gamma = draws.one_of(&[2 * plan.delta - 1, 10_001, any.max(10_001)]),
-        4 => {
+        3 if draws.per_mille(500) => {
+            plan.gamma = draws.one_of(&[2 * plan.delta - 1, 10_001, any.max(10_001)]);
+        }
+        3 => spoil_slot(draws, plan),
+        4 if draws.per_mille(500) => {
             plan.views =
                 draws.one_of(&[0, 1, 2, plan.views + 1, plan.views + 2, 6_001, 6_003, any]);
         }
+        4 => spoil_turns(draws, plan),
         5 => spoil_faulty(draws, &mut setup),
-        6 => plan.views = draws.one_of(&[most_views + 3, 6_000]),
+        6 => {
+            let more = most_views + plan.k;
+            plan.views = draws.one_of(&[more - more % plan.k, 6_000 - 6_000 % plan.k]);
+        }
         7 => spoil_clock(draws, &mut setup),
         _ => spoil_edge(draws, &mut setup),
     }
     setup
+}
+
+/// Two views per leader, and a slot of two delays or more, but not of four.
+fn spoil_slot(draws: &mut Draws, plan: &mut Plan) {
+    let least = 2 * plan.delta;
+    let most = 4 * plan.delta - 1;
+    let inside = draws.between(least, most);
+    plan.k = 2;
+    plan.gamma = draws.one_of(&[least, inside, most, most]);
+}
+
+/// Views per leader that there are not, of a limit that is a multiple if it can
+/// be one; or such that the limit is none.
+fn spoil_turns(draws: &mut Draws, plan: &mut Plan) {
+    let (more, any) = (draws.between(10, 6_000), draws.edge());
+    plan.k = draws.one_of(&[0, 1, 1, 9, 9, 9, more, any, u64::MAX, 4, 5, 7, 8]);
+    plan.views = match plan.k {
+        9 => draws.one_of(&[9, 90, 900, 5_994]),
+        4 | 5 | 7 | 8 => draws.one_of(&[3, 6, 9, 18, 27, 6_000]),
+        _ => plan.views,
+    };
 }
 
 /// One faulty processor too many, or one that is none.
@@ -187,10 +267,10 @@ fn spoil_faulty(draws: &mut Draws, setup: &mut Setup) {
     };
 }
 
-/// A correct start clock of 3 times `gamma` or more.
+/// A correct start clock of k times `gamma` or more.
 fn spoil_clock(draws: &mut Draws, setup: &mut Setup) {
     let (plan, faulty) = (setup.plan, setup.faulty);
-    let least = 3 * plan.gamma;
+    let least = plan.round();
     let value = draws.one_of(&[least, least + 1, u64::MAX]);
     scatter(draws, plan, faulty, 1, &mut setup.clocks, value);
 }
@@ -198,48 +278,10 @@ fn spoil_clock(draws: &mut Draws, setup: &mut Setup) {
 /// The edge of check 8 with one clock too few near the top one.
 fn spoil_edge(draws: &mut Draws, setup: &mut Setup) {
     let (plan, faulty) = (setup.plan, setup.faulty);
-    let top = draws.between(plan.gamma + 1, 3 * plan.gamma - 1);
+    let top = draws.between(plan.gamma + 1, plan.round() - 1);
     setup.clocks.fill(top - plan.gamma - 1);
     let near = top - plan.gamma;
     let signers = plan.tolerance();
     let chosen = scatter(draws, plan, faulty, signers, &mut setup.clocks, near);
     setup.clocks[chosen] = top;
-}
-
-#[cfg(test)]
-mod tests {
-    use super::*;
-    use reference::{open, Answer, Run};
-
-    fn answer(setup: &Setup) -> Answer {
-        let (mut tally, mut network) = (vec![0; 3_600], vec![0; 2_048]);
-        open(setup, &mut Run::unopened(), &mut tally, &mut network)
-    }
-
-    #[test]
-    fn accepted_ones_open() {
-        let mut draws = Draws::new(1);
-        for _ in 0..3_000 {
-            let setup = accepted(&mut draws, 900);
-            let opened = answer(&setup);
-            assert!(
-                matches!(opened, Answer::Done { .. }),
-                "{opened:?} {setup:?}"
-            );
-        }
-    }
-
-    #[test]
-    fn refused_ones_meet_every_check_of_an_opening() {
-        let mut draws = Draws::new(2);
-        let mut met = [0; 19];
-        for _ in 0..3_000 {
-            let setup = refused(&mut draws, 900);
-            if let Answer::Refused(check) = answer(&setup) {
-                met[check as usize] += 1;
-            }
-        }
-        assert!(met[2..=8].iter().all(|&times| times > 100), "{met:?}");
-        assert_eq!(answer(&longest()), Answer::Refused(3));
-    }
 }

@@ -96,10 +96,10 @@ unfolding listed
 length-listed f zero = refl
 length-listed f (suc k) = omega (arith, length-append (listed f k) (f k ∷ []), length-listed f k)
 
-pub getD-listed : (f : ℕ → ℕ) (k i : ℕ) → i < k → get_or (listed f k) i 0 ≡ f i
+pub get_or-listed : (f : ℕ → ℕ) (k i : ℕ) → i < k → get_or (listed f k) i 0 ≡ f i
 unfolding listed
-getD-listed f zero i l = absurd (omega arith)
-getD-listed f (suc k) i l = go (getD-listed f k i) (le? (suc i) k)
+get_or-listed f zero i l = absurd (omega arith)
+get_or-listed f (suc k) i l = go (get_or-listed f k i) (le? (suc i) k)
   where
     go : (i < k → get_or (listed f k) i 0 ≡ f i) → (i < k) ⊎ (k < suc i) → get_or (listed f k ++ (f k ∷ [])) i 0 ≡ f i
     go ih (inl h) = get_or-append (listed f k) (f k ∷ []) 0 i (omega (arith, length-listed f k)) ∙ ih h

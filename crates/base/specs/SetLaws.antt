@@ -9,7 +9,7 @@ use Rattle.std.proofs.Math.Arith.{lt-one, digits_mod}
 use Rattle.std.specs.Int.Bits.{bit_or, or_step}
 use Rattle.base.specs.Tests.{T-iff, eq→eqb}
 use Rattle.base.specs.Count.{bit, count, count-ext, count_low}
-use Rattle.base.specs.Sets.{member, insert, insertWord, size}
+use Rattle.base.specs.Sets.{member, insert, insert_word, size}
 use Rattle.base.specs.Choice.{cond_yes}
 
 bit-mod : (w : ℕ) → bit (eqb (w % 2) 1) ≡ w % 2
@@ -101,5 +101,5 @@ unfolding member
 member-beyond s p h l = let b : s < 2 ^ p = omega (arith, pow_mono l) in rw (div-eq_of_lt b) refl
 
 -- one that it can hold is inserted
-pub insert-word : (s p : ℕ) → p < 64 → insertWord s p ≡ insert s p
+pub insert-word : (s p : ℕ) → p < 64 → insert_word s p ≡ insert s p
 insert-word s p l = sym (cond_yes (ltb p 64) (insert s p) (insert s p) s (lt-ltb p 64 l) refl)

@@ -10,8 +10,8 @@ abbrev pub insert : ℕ → ℕ → ℕ
 insert s p = bit_or s (2 ^ p)
 
 -- the same on numbers of 64 bits: one that no set can hold is left out
-abbrev pub insertWord : ℕ → ℕ → ℕ
-insertWord s p = cond (ltb p 64) (insert s p) s
+abbrev pub insert_word : ℕ → ℕ → ℕ
+insert_word s p = cond (ltb p 64) (insert s p) s
 
 abbrev pub size : ℕ → ℕ
 size s = ones s

@@ -2,7 +2,7 @@
 pub mod quotients;
 
 ghost use Rattle.std.specs.Prelude.{◌≡◌};
-ghost use Rattle.base.specs.Sets.{member, insertWord, size};
+ghost use Rattle.base.specs.Sets.{member, insert_word, size};
 
 // How many numbers a set can hold.
 pub const BITS: u64 = 64;
@@ -19,7 +19,7 @@ pub fn member(s: u64, p: u64) -> bool
 
 // s with p; a number that no set can hold is left out.
 pub fn insert(s: u64, p: u64) -> u64
-    ensures { result ≡ insertWord s p }
+    ensures { result ≡ insert_word s p }
 {
     if BITS <= p {
         return s;

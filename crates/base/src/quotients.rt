@@ -1,6 +1,6 @@
 // Quotients: those by 2 to 8 of numbers below 8,192 are told by a product, which takes less time than a division.
 ghost use Rattle.std.specs.Prelude.{◌≡◌, true, ◌/◌};
-ghost use Rattle.base.specs.Factors.{factorsOf, factorOf, FactorTells};
+ghost use Rattle.base.specs.Factors.{factors_of, factor_of, FactorTells};
 
 // The divisors that have a factor.
 const DIVISOR_LEAST: u64 = 2;
@@ -26,7 +26,7 @@ const FACTORS_EACH: u64 = 4;
 
 // The word that has the factor of d.
 fn factors(d: u64) -> u64
-    ensures { result ≡ factorsOf d }
+    ensures { result ≡ factors_of d }
 {
     if d < SECOND {
         return FIRST_FACTORS;
@@ -36,7 +36,7 @@ fn factors(d: u64) -> u64
 
 // The factor of d.
 fn factor(d: u64) -> u64
-    ensures { result ≡ factorOf d }
+    ensures { result ≡ factor_of d }
 {
     let place = d % FACTORS_EACH * FACTOR_BITS;
     (factors(d) >> place) % UNIT

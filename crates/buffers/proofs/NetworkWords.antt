@@ -11,10 +11,10 @@ use Rattle.types.specs.declared.Message.{Message}
 use Rattle.types.specs.declared.Form.{Form}
 use Rattle.types.specs.declared.Form.TheVariants.{Wide, Packed}
 use Rattle.types.specs.Quantities.{width}
-use Rattle.types.specs.Messages.{kind_of, viewIn, processorIn}
-use Rattle.model.specs.State.{packedWord, held_at, posted, removed, capacity}
+use Rattle.types.specs.Messages.{kind_of, view_in, processor_in}
+use Rattle.model.specs.State.{packed_word, held_at, posted, removed, capacity}
 use Rattle.model.specs.FormLaws.{words-of-room}
-use Rattle.buffers.specs.Network.{timePlace, moved}
+use Rattle.buffers.specs.Network.{time_place, moved}
 
 -- four stores in a row
 pub four : (ws : List ℕ) (a k v p t : ℕ) → a + width Wide ≤ length ws
@@ -30,26 +30,26 @@ pub two : (ws : List ℕ) (a x t : ℕ) → a + width Packed ≤ length ws → s
 two ws a x t h = let e : a + 1 ≡ suc a = add-one a in rw e (sets-eq (x ∷ t ∷ []) ws a h)
 
 pub posted-wide : (ws : List ℕ) (h : ℕ) (m : Message) (sent : ℕ) → width Wide * h + width Wide ≤ length ws
-    → set (set (set (set ws (width Wide * h) (kind_of m)) (width Wide * h + 1) (viewIn m)) (width Wide * h + 2) (processorIn m)) (width Wide * h + 3) sent
+    → set (set (set (set ws (width Wide * h) (kind_of m)) (width Wide * h + 1) (view_in m)) (width Wide * h + 2) (processor_in m)) (width Wide * h + 3) sent
     ≡ posted Wide ws h sent (m ∷ [])
 unfolding posted
 posted-wide ws h m sent l =
     let e : width Wide * (h + 1) ≡ width Wide * h + width Wide = omega arith in
-    rw e (four ws (width Wide * h) (kind_of m) (viewIn m) (processorIn m) sent l)
+    rw e (four ws (width Wide * h) (kind_of m) (view_in m) (processor_in m) sent l)
 
 pub posted-packed : (ws : List ℕ) (h : ℕ) (m : Message) (sent : ℕ) → width Packed * h + width Packed ≤ length ws
-    → set (set ws (width Packed * h) (packedWord (kind_of m) (viewIn m) (processorIn m))) (width Packed * h + 1) sent ≡ posted Packed ws h sent (m ∷ [])
+    → set (set ws (width Packed * h) (packed_word (kind_of m) (view_in m) (processor_in m))) (width Packed * h + 1) sent ≡ posted Packed ws h sent (m ∷ [])
 unfolding posted
 posted-packed ws h m sent l =
     let e : width Packed * (h + 1) ≡ width Packed * h + width Packed = omega arith in
-    rw e (two ws (width Packed * h) (packedWord (kind_of m) (viewIn m) (processorIn m)) sent l)
+    rw e (two ws (width Packed * h) (packed_word (kind_of m) (view_in m) (processor_in m)) sent l)
 
 -- beyond the last place that is whole there is no sending time
 pub sent-beyond : (form : Form) (ws : List ℕ) (i : ℕ) → capacity form ws ≤ i → 0 ≡ (held_at form ws i).sent
 sent-beyond Wide ws i l = sym (get_or-eq_default ws 0 (omega arith))
 sent-beyond Packed ws i l = sym (get_or-eq_default ws 0 (omega arith))
 
-pub sent-at : (form : Form) (ws : List ℕ) (i : ℕ) → get_or ws (timePlace form i) 0 ≡ (held_at form ws i).sent
+pub sent-at : (form : Form) (ws : List ℕ) (i : ℕ) → get_or ws (time_place form i) 0 ≡ (held_at form ws i).sent
 sent-at Wide ws i = refl
 sent-at Packed ws i = refl
 
@@ -57,7 +57,7 @@ sent-at Packed ws i = refl
 pub place-whole : (form : Form) (ws : List ℕ) (i : ℕ) → i < capacity form ws → width form * i + width form ≤ length ws
 place-whole form ws i l = subst (λ (k : ℕ). k ≤ length ws) (mul-suc (width form) i) (words-of-room form (suc i) (length ws) (omega arith))
 
-pub time-inside : (form : Form) (i : ℕ) → timePlace form i < width form * i + width form
+pub time-inside : (form : Form) (i : ℕ) → time_place form i < width form * i + width form
 time-inside Wide i = omega arith
 time-inside Packed i = omega arith
 

@@ -11,9 +11,9 @@ use lib.Seq.{set_out, set-get_or}
 use borrow.Author.Tests.{lt-ltb, le-ltb}
 use Rattle.base.specs.Choice.{cond_yes, cond_no}
 use Rattle.base.specs.Tests.{le?}
-use Rattle.base.specs.Sets.{insert, insertWord}
-use Rattle.model.specs.State.{slot, word, added, heardWord, marksWord, markBit}
-use Rattle.buffers.specs.Tally.{place, addedWord, added-word}
+use Rattle.base.specs.Sets.{insert, insert_word}
+use Rattle.model.specs.State.{slot, word, added, heard_word, marks_word, mark_bit}
+use Rattle.buffers.specs.Tally.{place, added_word, added-word}
 
 pub place-within : (len w j : ℕ) → slot w j < len → slot w j ≡ place len w j
 place-within len w j l = cond_yes (ltb (slot w j) len) (slot w j) (slot w j) len (lt-ltb _ _ l) refl
@@ -38,11 +38,11 @@ pub read-within : (t : List ℕ) (w j at : ℕ) → at ≡ place (length t) w j 
 read-within t w j at e l = ap (λ (x : ℕ). get_or t x 0) (slot-within (length t) w j at e l)
 
 -- the word of a stage, given by its number
-pub heard-as : (t : List ℕ) (w j r : ℕ) (stage : Bool) → r ≡ word t w j → j ≡ heardWord stage → r ≡ word t w (heardWord stage)
+pub heard-as : (t : List ℕ) (w j r : ℕ) (stage : Bool) → r ≡ word t w j → j ≡ heard_word stage → r ≡ word t w (heard_word stage)
 heard-as t w j r stage e q = e ∙ ap (word t w) q
 
-pub hear-as : (t s : List ℕ) (w j p : ℕ) (stage : Bool) → s ≡ addedWord t w j p → j ≡ heardWord stage → s ≡ addedWord t w (heardWord stage) p
-hear-as t s w j p stage e q = e ∙ ap (λ (i : ℕ). addedWord t w i p) q
+pub hear-as : (t s : List ℕ) (w j p : ℕ) (stage : Bool) → s ≡ added_word t w j p → j ≡ heard_word stage → s ≡ added_word t w (heard_word stage) p
+hear-as t s w j p stage e q = e ∙ ap (λ (i : ℕ). added_word t w i p) q
 
 -- a set that takes no such number stays as it was
 set_word : (t : List ℕ) (w j p : ℕ) (b : Bool) → set t (slot w j) (cond b (insert (word t w j) p) (word t w j)) ≡ cond b (added t w j p) t
@@ -53,19 +53,19 @@ same-either : (t s : List ℕ) (b : Bool) → s ≡ t → t ≡ cond b s t
 same-either t s true e = sym e
 same-either t s false e = refl
 
-pub add-beyond : (t : List ℕ) (w j p at : ℕ) → at ≡ place (length t) w j → length t ≤ at → t ≡ addedWord t w j p
+pub add-beyond : (t : List ℕ) (w j p at : ℕ) → at ≡ place (length t) w j → length t ≤ at → t ≡ added_word t w j p
 add-beyond t w j p at e l =
     same-either t (added t w j p) (ltb p 64) (set_out t (slot w j) (insert (word t w j) p) (slot-beyond (length t) w j at e l))
 
 pub add-within : (t : List ℕ) (w j p at x : ℕ) → at ≡ place (length t) w j → at < length t
-    → x ≡ insertWord (get_or t at 0) p → set t at x ≡ addedWord t w j p
+    → x ≡ insert_word (get_or t at 0) p → set t at x ≡ added_word t w j p
 add-within t w j p at x e l q =
     let s : at ≡ slot w j = slot-within (length t) w j at e l in
-    ap (set t at) q ∙ ap (λ (y : ℕ). set t y (insertWord (get_or t y 0) p)) s ∙ set_word t w j p (ltb p 64)
+    ap (set t at) q ∙ ap (λ (y : ℕ). set t y (insert_word (get_or t y 0) p)) s ∙ set_word t w j p (ltb p 64)
 
-mark-fits : (stage : Bool) → markBit stage < 64
+mark-fits : (stage : Bool) → mark_bit stage < 64
 mark-fits true = omega arith
 mark-fits false = omega arith
 
-pub mark-word : (t s : List ℕ) (w b : ℕ) (stage : Bool) → s ≡ addedWord t w marksWord b → b ≡ markBit stage → s ≡ added t w marksWord (markBit stage)
-mark-word t s w b stage e q = e ∙ ap (addedWord t w marksWord) q ∙ added-word t w marksWord (markBit stage) (mark-fits stage)
+pub mark-word : (t s : List ℕ) (w b : ℕ) (stage : Bool) → s ≡ added_word t w marks_word b → b ≡ mark_bit stage → s ≡ added t w marks_word (mark_bit stage)
+mark-word t s w b stage e q = e ∙ ap (added_word t w marks_word) q ∙ added-word t w marks_word (mark_bit stage) (mark-fits stage)

@@ -6,22 +6,22 @@ use Rattle.base.specs.Tests.{by_cond}
 use Rattle.types.specs.declared.Message.{Message}
 use Rattle.types.specs.declared.Form.{Form}
 use Rattle.types.specs.declared.Message.TheVariants.{View, Vote, Vc, Qc}
-use Rattle.types.specs.Messages.{kindLeast, kindMost, IsKind}
-use Rattle.model.specs.State.{Held, heldAs, held_at, capacity}
-use Rattle.model.specs.Checks.{kindOutside}
+use Rattle.types.specs.Messages.{kind_least, kind_most, IsKind}
+use Rattle.model.specs.State.{Held, held_as, held_at, capacity}
+use Rattle.model.specs.Checks.{kind_outside}
 use Rattle.buffers.specs.declared.Stored.{Stored}
 use Rattle.buffers.specs.declared.Stored.TheVariants.{Holds, Unknown}
-use Rattle.buffers.specs.Kinds.{storedAs, stored}
+use Rattle.buffers.specs.Kinds.{stored_as, stored}
 
-pub kind-inside : (k : ℕ) → IsKind k → kindOutside k ≡ false
-kind-inside k x = or-neither (ltb k kindLeast) (ltb kindMost k) (le-ltb k kindLeast x.0) (le-ltb kindMost k x.1)
+pub kind-inside : (k : ℕ) → IsKind k → kind_outside k ≡ false
+kind-inside k x = or-neither (ltb k kind_least) (ltb kind_most k) (le-ltb k kind_least x.0) (le-ltb kind_most k x.1)
 
 -- what the answer says of the numbers that are held
 abbrev Says : Held → Stored → Type 0
-Says h (Holds m) = h ≡ heldAs h.sent m
-Says h Unknown = kindOutside h.kind ≡ true
+Says h (Holds m) = h ≡ held_as h.sent m
+Says h Unknown = kind_outside h.kind ≡ true
 
-outside : (kind : ℕ) → (T (eqb kind 1) → ⊥) → (T (eqb kind 2) → ⊥) → (T (eqb kind 3) → ⊥) → (T (eqb kind 4) → ⊥) → kindOutside kind ≡ true
+outside : (kind : ℕ) → (T (eqb kind 1) → ⊥) → (T (eqb kind 2) → ⊥) → (T (eqb kind 3) → ⊥) → (T (eqb kind 4) → ⊥) → kind_outside kind ≡ true
 outside zero a b c d = refl
 outside (suc zero) a b c d = absurd (a tt)
 outside (suc (suc zero)) a b c d = absurd (b tt)
@@ -29,10 +29,10 @@ outside (suc (suc (suc zero))) a b c d = absurd (c tt)
 outside (suc (suc (suc (suc zero)))) a b c d = absurd (d tt)
 outside (suc (suc (suc (suc (suc k))))) a b c d =
     let kind : ℕ = suc (suc (suc (suc (suc k)))) in
-    let l : kindMost < kind = omega arith in
-    or-second (ltb kind kindLeast) (ltb kindMost kind) (lt-ltb kindMost kind l)
+    let l : kind_most < kind = omega arith in
+    or-second (ltb kind kind_least) (ltb kind_most kind) (lt-ltb kind_most kind l)
 
-says : (h : Held) → Says h (storedAs h.kind h.view h.processor)
+says : (h : Held) → Says h (stored_as h.kind h.view h.processor)
 says h =
     by_cond (Says h) (eqb h.kind 1) (Holds (View h.view h.processor)) _ (of-kind 1) λ a.
     by_cond (Says h) (eqb h.kind 2) (Holds (Vote h.view h.processor)) _ (of-kind 2) λ b.
@@ -47,12 +47,12 @@ unknown (Holds m) = false
 unknown Unknown = true
 
 -- the words are those of the message
-pub stored-holds : (form : Form) (ws : List ℕ) (i : ℕ) (m : Message) → stored form ws i ≡ Holds m → held_at form ws i ≡ heldAs (held_at form ws i).sent m
+pub stored-holds : (form : Form) (ws : List ℕ) (i : ℕ) (m : Message) → stored form ws i ≡ Holds m → held_at form ws i ≡ held_as (held_at form ws i).sent m
 stored-holds form ws i m e =
     let h : Held = held_at form ws i in
-    by_cond (λ (s : Stored). s ≡ Holds m → Says h (Holds m)) (ltb i (capacity form ws)) (storedAs h.kind h.view h.processor) Unknown
+    by_cond (λ (s : Stored). s ≡ Holds m → Says h (Holds m)) (ltb i (capacity form ws)) (stored_as h.kind h.view h.processor) Unknown
     (λ t q. subst (Says h) q (says h)) (λ t q. absurd (subst (λ (s : Stored). T (unknown s)) q tt)) e
 
 -- the kind is out of range
-pub stored-unknown : (form : Form) (ws : List ℕ) (i : ℕ) → i < capacity form ws → stored form ws i ≡ Unknown → kindOutside (held_at form ws i).kind ≡ true
+pub stored-unknown : (form : Form) (ws : List ℕ) (i : ℕ) → i < capacity form ws → stored form ws i ≡ Unknown → kind_outside (held_at form ws i).kind ≡ true
 stored-unknown form ws i l e = subst (Says (held_at form ws i)) (rw (lt-ltb i (capacity form ws) l) at e) (says (held_at form ws i))

@@ -7,17 +7,17 @@ use Rattle.buffers.specs.declared.Stored.{Stored}
 use Rattle.buffers.specs.declared.Stored.TheVariants.{Holds, Unknown}
 
 -- any other kind is that of no message
-abbrev pub storedAs : ℕ → ℕ → ℕ → Stored
-storedAs kind w p =
+abbrev pub stored_as : ℕ → ℕ → ℕ → Stored
+stored_as kind w p =
     cond (eqb kind 1) (Holds (View w p))
     (cond (eqb kind 2) (Holds (Vote w p))
     (cond (eqb kind 3) (Holds (Vc w p))
     (cond (eqb kind 4) (Holds (Qc w p)) Unknown)))
 
 -- by the words of message i
-abbrev pub storedHere : Form → List ℕ → ℕ → Stored
-storedHere form ws i = let h = held_at form ws i in storedAs h.kind h.view h.processor
+abbrev pub stored_here : Form → List ℕ → ℕ → Stored
+stored_here form ws i = let h = held_at form ws i in stored_as h.kind h.view h.processor
 
 -- message i, where so many fit
 abbrev pub stored : Form → List ℕ → ℕ → Stored
-stored form ws i = cond (ltb i (capacity form ws)) (storedHere form ws i) Unknown
+stored form ws i = cond (ltb i (capacity form ws)) (stored_here form ws i) Unknown

@@ -7,25 +7,25 @@ use Rattle.base.specs.Scan.{first}
 use Rattle.types.specs.declared.Message.{Message}
 use Rattle.types.specs.declared.Form.{Form}
 use Rattle.types.specs.declared.Form.TheVariants.{Wide, Packed}
-use Rattle.types.specs.Quantities.{nMost, width}
-use Rattle.types.specs.Messages.{viewIn, processorIn}
+use Rattle.types.specs.Quantities.{n_most, width}
+use Rattle.types.specs.Messages.{view_in, processor_in}
 use Rattle.model.specs.State.{capacity, posted, removed}
 use Rattle.model.specs.Checks.{is_at}
 
 -- a message that a packed word can say: the word has 55 bits for the view and six for the processor
-abbrev pub viewsPackable : ℕ
-viewsPackable = 2 ^ 55
+abbrev pub views_packable : ℕ
+views_packable = 2 ^ 55
 
 abbrev pub packable : Message → Bool
-packable m = ltb (viewIn m) viewsPackable && ltb (processorIn m) nMost
+packable m = ltb (view_in m) views_packable && ltb (processor_in m) n_most
 
 abbrev pub sayable : Form → Message → Bool
 sayable Wide m = true
 sayable Packed m = packable m
 
-pub is-sayable : (form : Form) (m : Message) → viewIn m < viewsPackable → processorIn m < nMost → sayable form m ≡ true
+pub is-sayable : (form : Form) (m : Message) → view_in m < views_packable → processor_in m < n_most → sayable form m ≡ true
 is-sayable Wide m v p = refl
-is-sayable Packed m v p = and_both (ltb (viewIn m) viewsPackable) (ltb (processorIn m) nMost) (lt-ltb _ _ v) (lt-ltb _ _ p)
+is-sayable Packed m v p = and_both (ltb (view_in m) views_packable) (ltb (processor_in m) n_most) (lt-ltb _ _ v) (lt-ltb _ _ p)
 
 -- m, sent now, behind the h that are held, where it fits; a message that the form's words cannot say is not appended
 abbrev pub appended : Form → List ℕ → ℕ → ℕ → Message → List ℕ
@@ -51,13 +51,13 @@ abbrev pub taken : Form → List ℕ → ℕ → ℕ → List ℕ
 taken form ws h i = cond (ltb i h && leb h (capacity form ws)) (removed form ws h i) ws
 
 -- the first of two words of message i is x
-abbrev pub beginsWith : List ℕ → ℕ → ℕ → Bool
-beginsWith ws x i = eqb (get_or ws (2 * i) 0) x
+abbrev pub begins_with : List ℕ → ℕ → ℕ → Bool
+begins_with ws x i = eqb (get_or ws (2 * i) 0) x
 
 -- where the sending time of message i stands
-abbrev pub timePlace : Form → ℕ → ℕ
-timePlace Wide i = 4 * i + 3
-timePlace Packed i = 2 * i + 1
+abbrev pub time_place : Form → ℕ → ℕ
+time_place Wide i = 4 * i + 3
+time_place Packed i = 2 * i + 1
 
 -- n words moved down by a message's words, to place a: the messages behind it close up
 unfoldable pub moved : List ℕ → ℕ → ℕ → List ℕ

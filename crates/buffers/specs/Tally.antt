@@ -9,8 +9,8 @@ abbrev pub place : ℕ → ℕ → ℕ → ℕ
 place len w j = cond (ltb (slot w j) len) (slot w j) len
 
 -- word j of view w with bit p set, where a word of 64 bits has that bit
-abbrev pub addedWord : List ℕ → ℕ → ℕ → ℕ → List ℕ
-addedWord t w j p = cond (ltb p 64) (added t w j p) t
+abbrev pub added_word : List ℕ → ℕ → ℕ → ℕ → List ℕ
+added_word t w j p = cond (ltb p 64) (added t w j p) t
 
-pub added-word : (t : List ℕ) (w j p : ℕ) → p < 64 → addedWord t w j p ≡ added t w j p
+pub added-word : (t : List ℕ) (w j p : ℕ) → p < 64 → added_word t w j p ≡ added t w j p
 added-word t w j p l = sym (cond_yes (ltb p 64) (added t w j p) (added t w j p) t (lt-ltb p 64 l) refl)

@@ -5,17 +5,17 @@ use Rattle.types.specs.declared.Message.{Message}
 use Rattle.types.specs.declared.Form.{Form}
 use Rattle.types.specs.declared.Form.TheVariants.{Wide, Packed}
 use Rattle.types.specs.Quantities.{width}
-use Rattle.model.specs.State.{heldAs, heldWords, words_of, posted, capacity}
+use Rattle.model.specs.State.{held_as, held_words, words_of, posted, capacity}
 
-pub length-wordsOf : (form : Form) (now : ℕ) (ms : List Message) → length (words_of form now ms) ≡ width form * length ms
-length-wordsOf Wide now [] = refl
-length-wordsOf Wide now (m ∷ ms) = omega (arith, length-wordsOf Wide now ms)
-length-wordsOf Packed now [] = refl
-length-wordsOf Packed now (m ∷ ms) = omega (arith, length-wordsOf Packed now ms)
+pub length-words_of : (form : Form) (now : ℕ) (ms : List Message) → length (words_of form now ms) ≡ width form * length ms
+length-words_of Wide now [] = refl
+length-words_of Wide now (m ∷ ms) = omega (arith, length-words_of Wide now ms)
+length-words_of Packed now [] = refl
+length-words_of Packed now (m ∷ ms) = omega (arith, length-words_of Packed now ms)
 
-pub wordsOf-append : (now : ℕ) (a b : List Message) → words_of Packed now (a ++ b) ≡ words_of Packed now a ++ words_of Packed now b
-wordsOf-append now [] b = refl
-wordsOf-append now (m ∷ a) b = ap (λ (l : List ℕ). heldWords Packed (heldAs now m) ++ l) (wordsOf-append now a b)
+pub words_of-append : (now : ℕ) (a b : List Message) → words_of Packed now (a ++ b) ≡ words_of Packed now a ++ words_of Packed now b
+words_of-append now [] b = refl
+words_of-append now (m ∷ a) b = ap (λ (l : List ℕ). held_words Packed (held_as now m) ++ l) (words_of-append now a b)
 
 pub posted-none : (form : Form) (ws : List ℕ) (h now : ℕ) → ws ≡ posted form ws h now []
 unfolding posted
@@ -25,8 +25,8 @@ posted-none form ws h now =
 
 pub posted-length : (form : Form) (ws : List ℕ) (h now : ℕ) (a : List Message) → h + length a ≤ capacity form ws → length (posted form ws h now a) ≡ length ws
 unfolding posted
-posted-length Wide ws h now a l = simp (length-append, length-wordsOf, length-drop) (omega (arith, length-take-le (width Wide * h) ws (omega arith)))
-posted-length Packed ws h now a l = simp (length-append, length-wordsOf, length-drop) (omega (arith, length-take-le (width Packed * h) ws (omega arith)))
+posted-length Wide ws h now a l = simp (length-append, length-words_of, length-drop) (omega (arith, length-take-le (width Wide * h) ws (omega arith)))
+posted-length Packed ws h now a l = simp (length-append, length-words_of, length-drop) (omega (arith, length-take-le (width Packed * h) ws (omega arith)))
 
 -- some, and then more
 pub posted-more : (ws : List ℕ) (h now : ℕ) (a b : List Message) → h + length a ≤ capacity Packed ws
@@ -38,7 +38,7 @@ posted-more ws h now a b l =
     let back : List ℕ = drop k ws in
     let n : length front ≡ k =
     length-append (take (width Packed * h) ws) (words_of Packed now a)
-    ∙ omega (arith, length-take-le (width Packed * h) ws (omega arith), length-wordsOf Packed now a) in
+    ∙ omega (arith, length-take-le (width Packed * h) ws (omega arith), length-words_of Packed now a) in
     let t : take k (front ++ back) ≡ front = take_at front back k n in
     let d : drop k (front ++ back) ≡ back = drop_at front back k n in
     let x : width Packed * (h + length a + length b) ≡ k + width Packed * length b = omega arith in
@@ -47,7 +47,7 @@ posted-more ws h now a b l =
     ap (λ (z : ℕ). drop z (front ++ back)) x
     ∙ sym (drop-drop (width Packed * length b) k (front ++ back))
     ∙ ap (drop (width Packed * length b)) d ∙ drop-drop (width Packed * length b) k ws ∙ ap (λ (z : ℕ). drop z ws) y in
-    rw (t, e, wordsOf-append) (simp append_assoc)
+    rw (t, e, words_of-append) (simp append_assoc)
 
 -- a turn of a loop that posts
 pub posted-turn : (ws x y : List ℕ) (h k now : ℕ) (a b c : List Message) → x ≡ posted Packed ws h now a → k ≡ h + length a

@@ -4,11 +4,11 @@ ghost use Rattle.std.specs.Prelude.{◌≡◌, true, cond, [], ◌∷◌, ◌++�
 ghost use Rattle.base.specs.Scan.{first};
 ghost use Rattle.base.specs.Sets.{member};
 ghost use Rattle.types.specs.Quantities.{width};
-ghost use Rattle.types.specs.Messages.{kind_of, viewIn, processorIn};
-ghost use Rattle.model.specs.State.{capacity, word, added, enteredWord, heardWord, marksWord, markBit, packedWord, held_at, posted, removed};
-ghost use Rattle.buffers.specs.Tally.{place, addedWord};
-ghost use Rattle.buffers.specs.Network.{packable, appended, found, taken, beginsWith, timePlace, moved};
-ghost use Rattle.buffers.specs.Kinds.{storedAs, storedHere, stored};
+ghost use Rattle.types.specs.Messages.{kind_of, view_in, processor_in};
+ghost use Rattle.model.specs.State.{capacity, word, added, entered_word, heard_word, marks_word, mark_bit, packed_word, held_at, posted, removed};
+ghost use Rattle.buffers.specs.Tally.{place, added_word};
+ghost use Rattle.buffers.specs.Network.{packable, appended, found, taken, begins_with, time_place, moved};
+ghost use Rattle.buffers.specs.Kinds.{stored_as, stored_here, stored};
 ghost use Rattle.buffers.specs.Zeros.{zeroed};
 
 use types::{Form, Message};
@@ -84,7 +84,7 @@ fn read(tally: &[u64], w: u64, j: usize) -> u64
 
 // Bit p of word j of view w is set; a bit that the word has not, or a word beyond the end, changes nothing.
 fn add(tally: &mut [u64], w: u64, j: usize, p: u64)
-    ensures { tally.new ≡ addedWord tally.old w j p }
+    ensures { tally.new ≡ added_word tally.old w j p }
 {
     let at = place_in(tally.len(), w, j);
     if tally.len() <= at {
@@ -96,7 +96,7 @@ fn add(tally: &mut [u64], w: u64, j: usize, p: u64)
 
 // The word that keeps the signers heard: of view messages, or of votes.
 fn heard_word(stage: bool) -> usize
-    ensures { result ≡ heardWord stage }
+    ensures { result ≡ heard_word stage }
 {
     if stage {
         return VOTES_HEARD;
@@ -106,7 +106,7 @@ fn heard_word(stage: bool) -> usize
 
 // The bit that says that the stage's certificate was formed.
 fn mark_bit(stage: bool) -> u64
-    ensures { result ≡ markBit stage }
+    ensures { result ≡ mark_bit stage }
 {
     if stage {
         return QUORUM_CERTIFICATE_FORMED;
@@ -116,42 +116,42 @@ fn mark_bit(stage: bool) -> u64
 
 // The correct processors that entered view w.
 pub fn entered(tally: &[u64], w: u64) -> u64
-    ensures { result ≡ word tally.now w enteredWord }
+    ensures { result ≡ word tally.now w entered_word }
 {
     read(tally, w, ENTERED)
 }
 
 // Those whose view message, or whose vote, the leader of view w heard.
 pub fn heard(tally: &[u64], stage: bool, w: u64) -> u64
-    ensures { result ≡ word tally.now w (heardWord stage) }
+    ensures { result ≡ word tally.now w (heard_word stage) }
 {
     read(tally, w, heard_word(stage))
 }
 
 // Whether the stage's certificate for view w was formed.
 pub fn is_marked(tally: &[u64], stage: bool, w: u64) -> bool
-    ensures { result ≡ member (word tally.now w marksWord) (markBit stage) }
+    ensures { result ≡ member (word tally.now w marks_word) (mark_bit stage) }
 {
     base::member(read(tally, w, MARKS), mark_bit(stage))
 }
 
 // Processor p entered view w.
 pub fn enter(tally: &mut [u64], w: u64, p: u64)
-    ensures { tally.new ≡ addedWord tally.old w enteredWord p }
+    ensures { tally.new ≡ added_word tally.old w entered_word p }
 {
     add(tally, w, ENTERED, p);
 }
 
 // The leader of view w heard p.
 pub fn hear(tally: &mut [u64], stage: bool, w: u64, p: u64)
-    ensures { tally.new ≡ addedWord tally.old w (heardWord stage) p }
+    ensures { tally.new ≡ added_word tally.old w (heard_word stage) p }
 {
     add(tally, w, heard_word(stage), p);
 }
 
 // The stage's certificate for view w was formed.
 pub fn mark(tally: &mut [u64], stage: bool, w: u64)
-    ensures { tally.new ≡ added tally.old w marksWord (markBit stage) }
+    ensures { tally.new ≡ added tally.old w marks_word (mark_bit stage) }
 {
     add(tally, w, MARKS, mark_bit(stage));
 }
@@ -180,7 +180,7 @@ fn is_packable(m: Message) -> bool
 // The packed word of a message.
 fn pack(m: Message) -> u64
     requires { packable m ≡ true }
-    ensures { result ≡ packedWord (kind_of m) (viewIn m) (processorIn m) }
+    ensures { result ≡ packed_word (kind_of m) (view_in m) (processor_in m) }
 {
     m.view() * VIEW_UNIT + (m.kind() - 1) * KIND_UNIT + m.processor()
 }
@@ -225,7 +225,7 @@ pub fn append(form: Form, network: &mut [u64], held: usize, message: Message, se
 // The first of h messages whose first word is x, or h.
 fn scan(network: &[u64], h: usize, x: u64) -> usize
     requires { width Form.Packed * h ≤ length network.now }
-    ensures { result ≡ first (beginsWith network.now x) h }
+    ensures { result ≡ first (begins_with network.now x) h }
 {
     let mut i = 0;
     while i < h {
@@ -305,7 +305,7 @@ pub enum Stored {
 
 // A message by its kind, view and processor; none where the kind is no message's.
 pub fn stored_as(kind: u64, w: u64, p: u64) -> Stored
-    ensures { result ≡ storedAs kind w p }
+    ensures { result ≡ stored_as kind w p }
 {
     match kind {
         1 => Stored::Holds(Message::View(w, p)),
@@ -319,7 +319,7 @@ pub fn stored_as(kind: u64, w: u64, p: u64) -> Stored
 // Message i of a network of four words a message.
 fn decode_wide(network: &[u64], i: usize) -> Stored
     requires { width Form.Wide * i + width Form.Wide ≤ length network.now }
-    ensures { result ≡ storedHere Form.Wide network.now i }
+    ensures { result ≡ stored_here Form.Wide network.now i }
 {
     let at = Form::WIDE_WORDS * i;
     stored_as(network[at], network[at + 1], network[at + 2])
@@ -328,7 +328,7 @@ fn decode_wide(network: &[u64], i: usize) -> Stored
 // Message i of a network of two.
 fn decode_packed(network: &[u64], i: usize) -> Stored
     requires { width Form.Packed * i + width Form.Packed ≤ length network.now }
-    ensures { result ≡ storedHere Form.Packed network.now i }
+    ensures { result ≡ stored_here Form.Packed network.now i }
 {
     let x = network[Form::PACKED_WORDS * i];
     stored_as(
@@ -354,7 +354,7 @@ pub fn decode(form: Form, network: &[u64], i: usize) -> Stored
 // Where the sending time of message i stands.
 fn time_place(form: Form, i: usize) -> usize
     requires { width form * i + width form < 2 ^ 64 }
-    ensures { result ≡ timePlace form i }
+    ensures { result ≡ time_place form i }
 {
     match form {
         Form::Wide => Form::WIDE_WORDS * i + 3,

@@ -14,9 +14,9 @@ use Rattle.base.specs.Tests.{fails}
 use Rattle.types.specs.declared.Message.{Message}
 use Rattle.types.specs.declared.Form.{Form}
 use Rattle.types.specs.Quantities.{width}
-use Rattle.model.specs.State.{State, heldAs, heldWords, heldIn, roomIn, capacity, posted}
-use Rattle.model.specs.Checks.{networkOutside, unsound}
-use Rattle.model.specs.Carrying.{targetOutside, laidOut, carriedWords, carriedOver}
+use Rattle.model.specs.State.{State, held_as, held_words, held_in, room_in, capacity, posted}
+use Rattle.model.specs.Checks.{network_outside, unsound}
+use Rattle.model.specs.Carrying.{target_outside, laid_out, carried_words, carried_over}
 use Rattle.buffers.specs.declared.Stored.{Stored}
 use Rattle.buffers.specs.declared.Stored.TheVariants.{Holds, Unknown}
 use Rattle.buffers.specs.Kinds.{stored}
@@ -29,25 +29,25 @@ use Rattle.liveness.proofs.Answers.{no-yes}
 use Rattle.liveness.proofs.Judging.{not-ltb}
 use Rattle.liveness.proofs.Soundness.{SoundRun, sound-of}
 use Rattle.liveness.proofs.Lasting.{Taken, held-taken, lasts-of, lasts-planned}
-use Rattle.carrying.specs.Carries.{laidBehind, carriedOne, carriedFirst, Carries}
+use Rattle.carrying.specs.Carries.{laid_behind, carried_one, carried_first, Carries}
 
 module _ (to : Form) (s : State) where
   -- k messages, and z words of 0 behind them
   abbrev so_far : ℕ → ℕ → List ℕ
-  so_far k z = laidOut to s k ++ replicate z 0
+  so_far k z = laid_out to s k ++ replicate z 0
 
-  length-laid : (k : ℕ) → length (laidOut to s k) ≡ width to * k
+  length-laid : (k : ℕ) → length (laid_out to s k) ≡ width to * k
   length-laid zero = omega arith
-  length-laid (suc k) = length-append (laidOut to s k) (heldWords to (heldIn s k)) ∙ omega (arith, length-laid k, held-length to (heldIn s k))
+  length-laid (suc k) = length-append (laid_out to s k) (held_words to (held_in s k)) ∙ omega (arith, length-laid k, held-length to (held_in s k))
 
   length_so_far : (k z : ℕ) → length (so_far k z) ≡ width to * k + z
-  length_so_far k z = length-append (laidOut to s k) (replicate z 0) ∙ omega (arith, length-laid k, length-replicate {A = ℕ} z 0)
+  length_so_far k z = length-append (laid_out to s k) (replicate z 0) ∙ omega (arith, length-laid k, length-replicate {A = ℕ} z 0)
 
   -- one more
-  posted-next : (k z t : ℕ) (m : Message) → heldIn s k ≡ heldAs t m → posted to (so_far k (width to + z)) k t (m ∷ []) ≡ so_far (suc k) z
+  posted-next : (k z t : ℕ) (m : Message) → held_in s k ≡ held_as t m → posted to (so_far k (width to + z)) k t (m ∷ []) ≡ so_far (suc k) z
   unfolding posted
   posted-next k z t m e =
-      let a : List ℕ = laidOut to s k in
+      let a : List ℕ = laid_out to s k in
       let w : List ℕ = so_far k (width to + z) in
       let front : take (width to * k) w ≡ a = take_at a (replicate (width to + z) 0) (width to * k) (length-laid k) in
       let n : width to * (k + 1) ≡ width to * k + width to = omega arith in
@@ -64,11 +64,11 @@ module _ (to : Form) (s : State) where
     planned : Planned s.run.plan s.run.faulty
     planned = lasts-planned s (lasts-of s sound)
 
-    here : s.run.held ≤ roomIn s
+    here : s.run.held ≤ room_in s
     here = not-ltb _ _ sound.room
 
     module _ (k : ℕ) (low : k < s.run.held) where
-      taken : Taken s.run (heldIn s k)
+      taken : Taken s.run (held_in s k)
       taken = held-taken s sound k low
 
       inside : width to * suc k ≤ n
@@ -83,41 +83,41 @@ module _ (to : Form) (s : State) where
           let e : length (so_far k (left k)) ≡ n = length_so_far k (left k) ∙ omega (arith, inside) in
           subst (λ (x : ℕ). k < x / width to) (sym e) (omega (arith, room))
 
-      one : (x : Stored) → stored s.form s.network k ≡ x → laidBehind to (so_far k (left k)) k (heldIn s k).sent x ≡ so_far (suc k) (left (suc k))
+      one : (x : Stored) → stored s.form s.network k ≡ x → laid_behind to (so_far k (left k)) k (held_in s k).sent x ≡ so_far (suc k) (left (suc k))
       one (Holds m) e =
-          let h : heldIn s k ≡ heldAs (heldIn s k).sent m = stored-holds s.form s.network k m e in
-          let t : Taken s.run (heldAs (heldIn s k).sent m) = subst (Taken s.run) h taken in
-          appended-fits to (so_far k (left k)) k (heldIn s k).sent m fits
-          (is-sayable to m (omega (arith, t.view, planned.views-most)) (omega (arith, t.processor, planned.n-most)))
-          ∙ ap (λ (z : ℕ). posted to (so_far k z) k (heldIn s k).sent (m ∷ [])) apart
-          ∙ posted-next k (left (suc k)) (heldIn s k).sent m h
-      one Unknown e = absurd (no-yes (sym (stored-unknown s.form s.network k (omega (arith, here)) e) ∙ kind-inside (heldIn s k).kind taken.kind))
+          let h : held_in s k ≡ held_as (held_in s k).sent m = stored-holds s.form s.network k m e in
+          let t : Taken s.run (held_as (held_in s k).sent m) = subst (Taken s.run) h taken in
+          appended-fits to (so_far k (left k)) k (held_in s k).sent m fits
+          (is-sayable to m (omega (arith, t.view, planned.views_at_most)) (omega (arith, t.processor, planned.n_at_most)))
+          ∙ ap (λ (z : ℕ). posted to (so_far k z) k (held_in s k).sent (m ∷ [])) apart
+          ∙ posted-next k (left (suc k)) (held_in s k).sent m h
+      one Unknown e = absurd (no-yes (sym (stored-unknown s.form s.network k (omega (arith, here)) e) ∙ kind-inside (held_in s k).kind taken.kind))
 
-    all : (k : ℕ) → k ≤ s.run.held → carriedFirst s.form to s.network (replicate n 0) k ≡ so_far k (left k)
+    all : (k : ℕ) → k ≤ s.run.held → carried_first s.form to s.network (replicate n 0) k ≡ so_far k (left k)
     all zero low = let e : n ≡ left 0 = omega arith in ap (λ (z : ℕ). replicate z 0) e
     all (suc k) low =
-        ap (λ (ws : List ℕ). carriedOne s.form to s.network ws k) (all k (omega arith)) ∙ one k low (stored s.form s.network k) refl
+        ap (λ (ws : List ℕ). carried_one s.form to s.network ws k) (all k (omega arith)) ∙ one k low (stored s.form s.network k) refl
 
 -- ---- by the answer
 
 module _ (to : Form) (s : State) (target : List ℕ) where
-  pub six : targetOutside to s.run.plan s.run.held (length target) ≡ true → Carries to s target 6 target
-  unfolding carriedOver
+  pub six : target_outside to s.run.plan s.run.held (length target) ≡ true → Carries to s target 6 target
+  unfolding carried_over
   six e = rw e (refl, refl)
 
-  pub nine : targetOutside to s.run.plan s.run.held (length target) ≡ false → unsound s ≡ true → Carries to s target 9 target
-  unfolding carriedOver
+  pub nine : target_outside to s.run.plan s.run.held (length target) ≡ false → unsound s ≡ true → Carries to s target 9 target
+  unfolding carried_over
   nine e q = rw (e, q) (refl, refl)
 
-  pub carried : targetOutside to s.run.plan s.run.held (length target) ≡ false → unsound s ≡ false → (zeros after : List ℕ) → zeros ≡ zeroed target (length target)
-      → after ≡ carriedFirst s.form to s.network zeros s.run.held → Carries to s target 0 after
-  unfolding carriedOver
+  pub carried : target_outside to s.run.plan s.run.held (length target) ≡ false → unsound s ≡ false → (zeros after : List ℕ) → zeros ≡ zeroed target (length target)
+      → after ≡ carried_first s.form to s.network zeros s.run.held → Carries to s target 0 after
+  unfolding carried_over
   carried e q zeros after z a = rw (e, q) (refl, words)
     where
       room : s.run.held ≤ capacity to target
-      room = ltb-false _ _ (or_parts (networkOutside to s.run.plan (length target)) (ltb (capacity to target) s.run.held) e).1
+      room = ltb-false _ _ (or_parts (network_outside to s.run.plan (length target)) (ltb (capacity to target) s.run.held) e).1
 
-      words : after ≡ carriedWords to s (length target)
+      words : after ≡ carried_words to s (length target)
       words =
-          a ∙ ap (λ (ws : List ℕ). carriedFirst s.form to s.network ws s.run.held) (z ∙ zeroed-all target)
+          a ∙ ap (λ (ws : List ℕ). carried_first s.form to s.network ws s.run.held) (z ∙ zeroed-all target)
           ∙ all to s (sound-of s (fails (unsound s) q)) (length target) room s.run.held (le_refl s.run.held)

@@ -1,8 +1,8 @@
 // A run carried over to a network of another form: the same messages in the same order, while run and tally stay as they are.
 ghost use Rattle.std.specs.Prelude.{◌≡◌, length};
-ghost use Rattle.model.specs.State.{stateIn, run_from};
-ghost use Rattle.model.specs.Carrying.{targetOutside};
-ghost use Rattle.carrying.specs.Carries.{carriedOne, carriedFirst, Carries};
+ghost use Rattle.model.specs.State.{state_in, run_from};
+ghost use Rattle.model.specs.Carrying.{target_outside};
+ghost use Rattle.carrying.specs.Carries.{carried_one, carried_first, Carries};
 
 use buffers::Stored;
 use types::{Form, Head};
@@ -16,7 +16,7 @@ const NO_CHECK: u64 = 0;
 
 // Whether check 6 refuses the target, or the held messages do not fit in it.
 pub fn target_outside(to: Form, head: Head, target: &[u64]) -> bool
-    ensures { result ≡ targetOutside to head.plan head.held (length target.now) }
+    ensures { result ≡ target_outside to head.plan head.held (length target.now) }
 {
     if checks::network_outside(to, head.plan, target.len()) {
         return true;
@@ -26,7 +26,7 @@ pub fn target_outside(to: Form, head: Head, target: &[u64]) -> bool
 
 // Message i goes behind the first i of the target; words that are no message do not.
 fn carry_one(from: Form, to: Form, network: &[u64], target: &mut [u64], i: usize)
-    ensures { target.new ≡ carriedOne from to network.now target.old i }
+    ensures { target.new ≡ carried_one from to network.now target.old i }
 {
     let Stored::Holds(message) = buffers::decode(from, network, i) else {
         return;
@@ -36,7 +36,7 @@ fn carry_one(from: Form, to: Form, network: &[u64], target: &mut [u64], i: usize
 
 // The first `held` messages.
 fn carry_all(from: Form, to: Form, held: usize, network: &[u64], target: &mut [u64])
-    ensures { target.new ≡ carriedFirst from to network.now target.old held }
+    ensures { target.new ≡ carried_first from to network.now target.old held }
 {
     let mut i = 0;
     while i < held {
@@ -57,7 +57,7 @@ pub fn carry(
     network: &[u64],
     target: &mut [u64],
 ) -> u64
-    ensures { Carries to (stateIn from (run_from head clocks.now views.now) tally.now network.now)
+    ensures { Carries to (state_in from (run_from head clocks.now views.now) tally.now network.now)
         target.old result target.new }
 {
     if target_outside(to, head, target) {

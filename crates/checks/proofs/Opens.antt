@@ -12,11 +12,11 @@ use Rattle.types.specs.declared.Plan.{Plan}
 use Rattle.types.specs.declared.Form.TheVariants.{Packed}
 use Rattle.types.specs.declared.Setup.{Setup}
 use Rattle.model.specs.State.{State, After, refused}
-use Rattle.model.specs.Checks.{Check, judged, nOutside, delaysOutside, viewsOutside, planOutside, faultyOutside, lengthsOutside, startTooHigh, tooFarAhead}
-use Rattle.model.specs.Opening.{openingChecks}
-use Rattle.pacemaker.specs.Limits.{planCheck}
+use Rattle.model.specs.Checks.{Check, judged, n_outside, delays_outside, views_outside, plan_outside, faulty_outside, lengths_outside, start_too_high, too_far_ahead}
+use Rattle.model.specs.Opening.{opening_checks}
+use Rattle.pacemaker.specs.Limits.{plan_check}
 use Rattle.pacemaker.proofs.LimitLaws.{check-passes}
-use Rattle.checks.specs.Setups.{setupCheck, openingCheck}
+use Rattle.checks.specs.Setups.{setup_check, opening_check}
 
 -- none of the checks has the number 0
 abbrev pub numbered : List Check → Bool
@@ -38,15 +38,15 @@ by_number {A} refusal (c ∷ cs) a h = go c.1 (by_number refusal cs a (T-right (
     go false ih = ih
 
 -- check 6 reads the lengths alone
-setup-of : (u : Setup) (s : State) → judged (λ r. r) (openingChecks u s) 0 ≡ openingCheck u s
-unfolding setupCheck
+setup-of : (u : Setup) (s : State) → judged (λ r. r) (opening_checks u s) 0 ≡ opening_check u s
+unfolding setup_check
 setup-of u s = refl
 
 -- an opening, by the number of the first check that refuses
-pub setup-check : (u : Setup) (s : State) (a : After) → judged (refused s) (openingChecks u s) a
-    ≡ cond (eqb (openingCheck u s) 0) a (refused s (openingCheck u s))
+pub setup-check : (u : Setup) (s : State) (a : After) → judged (refused s) (opening_checks u s) a
+    ≡ cond (eqb (opening_check u s) 0) a (refused s (opening_check u s))
 setup-check u s a =
-    by_number (refused s) (openingChecks u s) a tt
+    by_number (refused s) (opening_checks u s) a tt
     ∙ ap (λ (r : ℕ). cond (eqb r 0) a (refused s r)) (setup-of u s)
 
 -- four checks behind a first test
@@ -83,58 +83,58 @@ none false f l s a n h e = absurd (omega (arith, h refl))
 
 -- a setup that passes checks 2 to 8 with buffers of these lengths
 pub record Passed (u : Setup) (tally network : ℕ) : Type 0 where
-  pub plan : planOutside u.plan ≡ false
-  pub faulty : faultyOutside u.plan u.faulty ≡ false
-  pub lengths : lengthsOutside Packed u.plan tally network ≡ false
-  pub start : startTooHigh u.plan u.faulty u.clocks ≡ false
-  pub ahead : tooFarAhead u.plan u.faulty u.clocks ≡ false
+  pub plan : plan_outside u.plan ≡ false
+  pub faulty : faulty_outside u.plan u.faulty ≡ false
+  pub lengths : lengths_outside Packed u.plan tally network ≡ false
+  pub start : start_too_high u.plan u.faulty u.clocks ≡ false
+  pub ahead : too_far_ahead u.plan u.faulty u.clocks ≡ false
 
 module _ (u : Setup) (tally network : ℕ) where
   abbrev plan : Plan
   plan = u.plan
 
   abbrev faulty : Bool
-  faulty = faultyOutside plan u.faulty
+  faulty = faulty_outside plan u.faulty
 
   abbrev short : Bool
-  short = lengthsOutside Packed plan tally network
+  short = lengths_outside Packed plan tally network
 
   abbrev high : Bool
-  high = startTooHigh plan u.faulty u.clocks
+  high = start_too_high plan u.faulty u.clocks
 
   abbrev ahead : Bool
-  ahead = tooFarAhead plan u.faulty u.clocks
+  ahead = too_far_ahead plan u.faulty u.clocks
 
   abbrev refusal : ℕ
-  refusal = planCheck plan
+  refusal = plan_check plan
 
   -- checks 2 to 4 together, then 5 to 8
-  steps : setupCheck Packed u tally network ≡ turns (eqb refusal 0) faulty short high ahead refusal
-  unfolding setupCheck
-  steps = (by_number (λ r. r) ((2, nOutside plan) ∷ (3, delaysOutside plan) ∷ (4, viewsOutside plan) ∷ []) _ tt)
+  steps : setup_check Packed u tally network ≡ turns (eqb refusal 0) faulty short high ahead refusal
+  unfolding setup_check
+  steps = (by_number (λ r. r) ((2, n_outside plan) ∷ (3, delays_outside plan) ∷ (4, views_outside plan) ∷ []) _ tt)
 
   passed : refusal ≤ 0 → eqb refusal 0 ≡ true
   passed l = eq-eqb refusal 0 (omega arith)
 
-  pub by-plan : (r : ℕ) → r ≡ planCheck plan → 0 < r → r ≡ setupCheck Packed u tally network
+  pub by-plan : (r : ℕ) → r ≡ plan_check plan → 0 < r → r ≡ setup_check Packed u tally network
   by-plan r e l = e ∙ turn2 (eqb refusal 0) faulty short high ahead refusal (ne_eqb refusal 0 (λ z. absurd (omega arith))) ∙ sym steps
 
-  pub by-faulty : planCheck plan ≤ 0 → faulty ≡ true → 5 ≡ setupCheck Packed u tally network
+  pub by-faulty : plan_check plan ≤ 0 → faulty ≡ true → 5 ≡ setup_check Packed u tally network
   by-faulty l a = turn5 (eqb refusal 0) faulty short high ahead refusal (passed l) a ∙ sym steps
 
-  pub by_lengths : planCheck plan ≤ 0 → faulty ≡ false → short ≡ true → 6 ≡ setupCheck Packed u tally network
+  pub by_lengths : plan_check plan ≤ 0 → faulty ≡ false → short ≡ true → 6 ≡ setup_check Packed u tally network
   by_lengths l a b = turn6 (eqb refusal 0) faulty short high ahead refusal (passed l) a b ∙ sym steps
 
-  pub by-start : planCheck plan ≤ 0 → faulty ≡ false → short ≡ false → high ≡ true → 7 ≡ setupCheck Packed u tally network
+  pub by-start : plan_check plan ≤ 0 → faulty ≡ false → short ≡ false → high ≡ true → 7 ≡ setup_check Packed u tally network
   by-start l a b c = turn7 (eqb refusal 0) faulty short high ahead refusal (passed l) a b c ∙ sym steps
 
-  pub by-ahead : planCheck plan ≤ 0 → faulty ≡ false → short ≡ false → high ≡ false → ahead ≡ true → 8 ≡ setupCheck Packed u tally network
+  pub by-ahead : plan_check plan ≤ 0 → faulty ≡ false → short ≡ false → high ≡ false → ahead ≡ true → 8 ≡ setup_check Packed u tally network
   by-ahead l a b c d = turn8 (eqb refusal 0) faulty short high ahead refusal (passed l) a b c d ∙ sym steps
 
-  pub by-none : planCheck plan ≤ 0 → faulty ≡ false → short ≡ false → high ≡ false → ahead ≡ false → 0 ≡ setupCheck Packed u tally network
+  pub by-none : plan_check plan ≤ 0 → faulty ≡ false → short ≡ false → high ≡ false → ahead ≡ false → 0 ≡ setup_check Packed u tally network
   by-none l a b c d = turn0 (eqb refusal 0) faulty short high ahead refusal (passed l) a b c d ∙ sym steps
 
-  pub setup-passed : setupCheck Packed u tally network ≡ 0 → Passed u tally network
+  pub setup-passed : setup_check Packed u tally network ≡ 0 → Passed u tally network
   setup-passed e =
       let h = none (eqb refusal 0) faulty short high ahead refusal (λ z. pos refusal z) (sym steps ∙ e) in
       let l : refusal ≡ 0 = eqb-true refusal 0 h.0 in

@@ -10,8 +10,8 @@ use lib.Dec.{eqb}
 use lib.ListN.{length, get_or, drop}
 use borrow.Author.Tests.{ne_eqb}
 use Rattle.base.specs.Choice.{or-first, or-second, not-no}
-use Rattle.model.specs.Checks.{someNonZero}
-use Rattle.checks.specs.Scans.{nonZeroFrom}
+use Rattle.model.specs.Checks.{some_non_zero}
+use Rattle.checks.specs.Scans.{non_zero_from}
 
 -- a union is 0 where both parts are
 union-zero : (a b : ℕ) → bit_or a b ≡ 0 → (a ≡ 0) × (b ≡ 0)
@@ -32,17 +32,17 @@ or_nothing : (a b : Bool) → b ≡ false → (a || b) ≡ a
 or_nothing true b e = refl
 or_nothing false b e = e
 
-next : (i : ℕ) (ws : List ℕ) → i < length ws → someNonZero (drop i ws) ≡ (not (eqb (get_or ws i 0) 0) || someNonZero (drop (suc i) ws))
+next : (i : ℕ) (ws : List ℕ) → i < length ws → some_non_zero (drop i ws) ≡ (not (eqb (get_or ws i 0) 0) || some_non_zero (drop (suc i) ws))
 next i [] l = absurd (omega arith)
 next zero (x ∷ xs) l = refl
 next (suc i) (x ∷ xs) l = next i xs (omega arith)
 
 -- word i is gathered
-pub found-more : (seen i : ℕ) (ws : List ℕ) → i < length ws → nonZeroFrom (bit_or seen (get_or ws i 0)) (i + 1) ws ≡ nonZeroFrom seen i ws
+pub found-more : (seen i : ℕ) (ws : List ℕ) → i < length ws → non_zero_from (bit_or seen (get_or ws i 0)) (i + 1) ws ≡ non_zero_from seen i ws
 found-more seen i ws l =
-    ap (λ (k : ℕ). nonZeroFrom (bit_or seen (get_or ws i 0)) k ws) (add-one i)
-    ∙ ap (λ (b : Bool). b || someNonZero (drop (suc i) ws)) (union-of seen (get_or ws i 0))
-    ∙ or-shift (not (eqb seen 0)) (not (eqb (get_or ws i 0) 0)) (someNonZero (drop (suc i) ws))
+    ap (λ (k : ℕ). non_zero_from (bit_or seen (get_or ws i 0)) k ws) (add-one i)
+    ∙ ap (λ (b : Bool). b || some_non_zero (drop (suc i) ws)) (union-of seen (get_or ws i 0))
+    ∙ or-shift (not (eqb seen 0)) (not (eqb (get_or ws i 0) 0)) (some_non_zero (drop (suc i) ws))
     ∙ ap (λ (b : Bool). not (eqb seen 0) || b) (sym (next i ws l))
 
 or-mixed : (a b c d : Bool) → ((a || b) || (c || d)) ≡ ((a || c) || (b || d))
@@ -61,54 +61,54 @@ merged (x ∷ xs) (y ∷ ys) = bit_or x y ∷ merged xs ys
 merged (x ∷ xs) [] = []
 merged [] ys = []
 
-some-append : (xs ys : List ℕ) → someNonZero (xs ++ ys) ≡ (someNonZero xs || someNonZero ys)
+some-append : (xs ys : List ℕ) → some_non_zero (xs ++ ys) ≡ (some_non_zero xs || some_non_zero ys)
 some-append [] ys = refl
-some-append (x ∷ xs) ys = ap (λ (b : Bool). not (eqb x 0) || b) (some-append xs ys) ∙ sym (or-shift (not (eqb x 0)) (someNonZero xs) (someNonZero ys))
+some-append (x ∷ xs) ys = ap (λ (b : Bool). not (eqb x 0) || b) (some-append xs ys) ∙ sym (or-shift (not (eqb x 0)) (some_non_zero xs) (some_non_zero ys))
 
-some-merged : (xs ys : List ℕ) → length xs ≡ length ys → someNonZero (merged xs ys) ≡ (someNonZero xs || someNonZero ys)
+some-merged : (xs ys : List ℕ) → length xs ≡ length ys → some_non_zero (merged xs ys) ≡ (some_non_zero xs || some_non_zero ys)
 some-merged [] [] e = refl
 some-merged [] (y ∷ ys) e = absurd (omega arith)
 some-merged (x ∷ xs) [] e = absurd (omega arith)
 some-merged (x ∷ xs) (y ∷ ys) e =
     ap₂ (λ (a b : Bool). a || b) (union-of x y) (some-merged xs ys (omega arith))
-    ∙ or-mixed (not (eqb x 0)) (not (eqb y 0)) (someNonZero xs) (someNonZero ys)
+    ∙ or-mixed (not (eqb x 0)) (not (eqb y 0)) (some_non_zero xs) (some_non_zero ys)
 
 -- a word, with what is found behind it
-next-found : (i : ℕ) (ws : List ℕ) → i < length ws → ((not (eqb (get_or ws i 0) 0) || false) || someNonZero (drop (suc i) ws)) ≡ someNonZero (drop i ws)
-next-found i ws l = or-shift (not (eqb (get_or ws i 0) 0)) false (someNonZero (drop (suc i) ws)) ∙ sym (next i ws l)
+next-found : (i : ℕ) (ws : List ℕ) → i < length ws → ((not (eqb (get_or ws i 0) 0) || false) || some_non_zero (drop (suc i) ws)) ≡ some_non_zero (drop i ws)
+next-found i ws l = or-shift (not (eqb (get_or ws i 0) 0)) false (some_non_zero (drop (suc i) ws)) ∙ sym (next i ws l)
 
-turn-found : (i : ℕ) (ws : List ℕ) (k : ℕ) → i + k < length ws → (someNonZero (turn i ws k) || someNonZero (drop (i + suc k) ws)) ≡ someNonZero (drop i ws)
-turn-found i ws zero l = ap (λ (j : ℕ). someNonZero (turn i ws zero) || someNonZero (drop j ws)) (add-one i) ∙ next-found i ws (omega arith)
+turn-found : (i : ℕ) (ws : List ℕ) (k : ℕ) → i + k < length ws → (some_non_zero (turn i ws k) || some_non_zero (drop (i + suc k) ws)) ≡ some_non_zero (drop i ws)
+turn-found i ws zero l = ap (λ (j : ℕ). some_non_zero (turn i ws zero) || some_non_zero (drop j ws)) (add-one i) ∙ next-found i ws (omega arith)
 turn-found i ws (suc k) l =
     let e : i + suc (suc k) ≡ suc (i + suc k) = omega arith in
     let w : List ℕ = get_or ws (i + suc k) 0 ∷ [] in
-    ap₂ (λ (b : Bool) (j : ℕ). b || someNonZero (drop j ws)) (some-append (turn i ws k) w) e
-    ∙ or-shift (someNonZero (turn i ws k)) (someNonZero w) (someNonZero (drop (suc (i + suc k)) ws))
-    ∙ ap (λ (b : Bool). someNonZero (turn i ws k) || b) (next-found (i + suc k) ws l)
+    ap₂ (λ (b : Bool) (j : ℕ). b || some_non_zero (drop j ws)) (some-append (turn i ws k) w) e
+    ∙ or-shift (some_non_zero (turn i ws k)) (some_non_zero w) (some_non_zero (drop (suc (i + suc k)) ws))
+    ∙ ap (λ (b : Bool). some_non_zero (turn i ws k) || b) (next-found (i + suc k) ws l)
     ∙ turn-found i ws k (omega arith)
 
 -- each word of a turn is united with its like of the turns before
-pub found_turn : (xs : List ℕ) (i : ℕ) (ws : List ℕ) (k : ℕ) → length xs ≡ length (turn i ws k) → i + k < length ws → (someNonZero (merged xs (turn i ws k)) || someNonZero (drop (i + suc k) ws)) ≡ (someNonZero xs || someNonZero (drop i ws))
+pub found_turn : (xs : List ℕ) (i : ℕ) (ws : List ℕ) (k : ℕ) → length xs ≡ length (turn i ws k) → i + k < length ws → (some_non_zero (merged xs (turn i ws k)) || some_non_zero (drop (i + suc k) ws)) ≡ (some_non_zero xs || some_non_zero (drop i ws))
 found_turn xs i ws k e l =
-    ap (λ (b : Bool). b || someNonZero (drop (i + suc k) ws)) (some-merged xs (turn i ws k) e)
-    ∙ or-shift (someNonZero xs) (someNonZero (turn i ws k)) (someNonZero (drop (i + suc k) ws))
-    ∙ ap (λ (b : Bool). someNonZero xs || b) (turn-found i ws k l)
+    ap (λ (b : Bool). b || some_non_zero (drop (i + suc k) ws)) (some-merged xs (turn i ws k) e)
+    ∙ or-shift (some_non_zero xs) (some_non_zero (turn i ws k)) (some_non_zero (drop (i + suc k) ws))
+    ∙ ap (λ (b : Bool). some_non_zero xs || b) (turn-found i ws k l)
 
 -- all words of a list united
 abbrev pub united : ℕ → List ℕ → ℕ
 united x [] = x
 united x (y ∷ ys) = united (bit_or x y) ys
 
-pub found-united : (x : ℕ) (ys : List ℕ) → not (eqb (united x ys) 0) ≡ someNonZero (x ∷ ys)
+pub found-united : (x : ℕ) (ys : List ℕ) → not (eqb (united x ys) 0) ≡ some_non_zero (x ∷ ys)
 found-united x [] = sym (or_nothing (not (eqb x 0)) false refl)
-found-united x (y ∷ ys) = found-united (bit_or x y) ys ∙ ap (λ (b : Bool). b || someNonZero ys) (union-of x y) ∙ or-shift (not (eqb x 0)) (not (eqb y 0)) (someNonZero ys)
+found-united x (y ∷ ys) = found-united (bit_or x y) ys ∙ ap (λ (b : Bool). b || some_non_zero ys) (union-of x y) ∙ or-shift (not (eqb x 0)) (not (eqb y 0)) (some_non_zero ys)
 
-pub none : (i : ℕ) (ws : List ℕ) → length ws ≤ i → someNonZero (drop i ws) ≡ false
+pub none : (i : ℕ) (ws : List ℕ) → length ws ≤ i → some_non_zero (drop i ws) ≡ false
 none zero [] l = refl
 none (suc i) [] l = refl
 none zero (x ∷ xs) l = absurd (omega arith)
 none (suc i) (x ∷ xs) l = none i xs (omega arith)
 
 -- none is left
-pub found_all : (seen i : ℕ) (ws : List ℕ) → length ws ≤ i → not (eqb seen 0) ≡ nonZeroFrom seen i ws
-found_all seen i ws l = sym (or_nothing (not (eqb seen 0)) (someNonZero (drop i ws)) (none i ws l))
+pub found_all : (seen i : ℕ) (ws : List ℕ) → length ws ≤ i → not (eqb seen 0) ≡ non_zero_from seen i ws
+found_all seen i ws l = sym (or_nothing (not (eqb seen 0)) (some_non_zero (drop i ws)) (none i ws l))

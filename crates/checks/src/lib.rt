@@ -2,13 +2,13 @@
 ghost use Rattle.std.specs.Prelude.{◌≡◌, false, not, ◌&&◌, ◌||◌, ◌+◌, ◌*◌, ◌^◌, ◌≤◌, ◌<◌, eqb, leb, ltb, length, drop};
 ghost use Rattle.base.specs.Count.{bit};
 ghost use Rattle.base.specs.Scan.{some};
-ghost use Rattle.types.specs.Quantities.{nMost, networkLeast, correct, startLimit};
-ghost use Rattle.model.specs.State.{stateIn, run_from, heldAs, capacity};
-ghost use Rattle.model.specs.Checks.{planOutside, faultyOutside, networkOutside, lengthsOutside, clockOutside, outsideAt, heldUnsound, messageUnsound, someNonZero, unsound, startTooHigh, supporting, aloneAt, tooFarAhead};
+ghost use Rattle.types.specs.Quantities.{n_most, network_least, correct, start_limit};
+ghost use Rattle.model.specs.State.{state_in, run_from, held_as, capacity};
+ghost use Rattle.model.specs.Checks.{plan_outside, faulty_outside, network_outside, lengths_outside, clock_outside, outside_at, held_unsound, message_unsound, some_non_zero, unsound, start_too_high, supporting, alone_at, too_far_ahead};
 ghost use Rattle.pacemaker.specs.Limits.{Within};
-ghost use Rattle.checks.specs.Scans.{flying, nonZeroFrom, turnWords};
+ghost use Rattle.checks.specs.Scans.{flying, non_zero_from, turn_words};
 ghost use Rattle.checks.specs.Runs.{Judges};
-ghost use Rattle.checks.specs.Setups.{setupCheck};
+ghost use Rattle.checks.specs.Setups.{setup_check};
 
 use buffers::Stored;
 use types::{Form, Head, Message, Plan, Processor, Setup};
@@ -36,7 +36,7 @@ fn has_beyond(n: u64, faulty: u64) -> bool
 
 // Check 5.
 fn faulty_outside(plan: Plan, faulty: u64) -> bool
-    ensures { result ≡ faultyOutside plan faulty }
+    ensures { result ≡ faulty_outside plan faulty }
 {
     if has_beyond(plan.n, faulty) {
         return true;
@@ -46,7 +46,7 @@ fn faulty_outside(plan: Plan, faulty: u64) -> bool
 
 // For how many processors so many words of the network are enough.
 fn processors_served(form: Form, network: usize) -> u64
-    ensures { (plan : Plan) → ltb result plan.n ≡ ltb network (networkLeast form plan) }
+    ensures { (plan : Plan) → ltb result plan.n ≡ ltb network (network_least form plan) }
 {
     let words = network as u64;
     match form {
@@ -57,7 +57,7 @@ fn processors_served(form: Form, network: usize) -> u64
 
 // What check 6 says of the network.
 pub fn network_outside(form: Form, plan: Plan, network: usize) -> bool
-    ensures { result ≡ networkOutside form plan network }
+    ensures { result ≡ network_outside form plan network }
 {
     if processors_served(form, network) < plan.n {
         return true;
@@ -68,7 +68,7 @@ pub fn network_outside(form: Form, plan: Plan, network: usize) -> bool
 // Check 6, of a plan that checks 2 to 4 passed.
 fn lengths_outside(form: Form, plan: Plan, tally: usize, network: usize) -> bool
     requires { Within plan }
-    ensures { result ≡ lengthsOutside form plan tally network }
+    ensures { result ≡ lengths_outside form plan tally network }
 {
     if (tally as u64) < buffers::ROW_WORDS as u64 * plan.views {
         return true;
@@ -78,7 +78,7 @@ fn lengths_outside(form: Form, plan: Plan, tally: usize, network: usize) -> bool
 
 // Checks 2 to 6.
 fn limits_broken(form: Form, plan: Plan, faulty: u64, tally: usize, network: usize) -> bool
-    ensures { result ≡ (planOutside plan || faultyOutside plan faulty || lengthsOutside form plan tally network) }
+    ensures { result ≡ (plan_outside plan || faulty_outside plan faulty || lengths_outside form plan tally network) }
 {
     if 0 < pacemaker::plan_check(plan) {
         return true;
@@ -91,8 +91,8 @@ fn limits_broken(form: Form, plan: Plan, faulty: u64, tally: usize, network: usi
 
 // Whether q is correct and its clock outside its view.
 fn clock_unsound(plan: Plan, faulty: u64, q: u64, clock: u64, view: u64) -> bool
-    requires { planOutside plan ≡ false }
-    ensures { result ≡ (correct plan faulty q && clockOutside plan clock view) }
+    requires { plan_outside plan ≡ false }
+    ensures { result ≡ (correct plan faulty q && clock_outside plan clock view) }
 {
     if plan.correct(faulty, q) {
         return pacemaker::unsound(
@@ -109,8 +109,8 @@ fn clock_unsound(plan: Plan, faulty: u64, q: u64, clock: u64, view: u64) -> bool
 
 // Whether some correct clock is outside its view.
 fn clocks_unsound(plan: Plan, faulty: u64, clocks: &[u64], views: &[u64]) -> bool
-    requires { (planOutside plan ≡ false) × (length clocks.now ≡ nMost) × (length views.now ≡ nMost) }
-    ensures { result ≡ some (outsideAt plan faulty clocks.now views.now) plan.n }
+    requires { (plan_outside plan ≡ false) × (length clocks.now ≡ n_most) × (length views.now ≡ n_most) }
+    ensures { result ≡ some (outside_at plan faulty clocks.now views.now) plan.n }
 {
     let n = plan.n;
     let mut q = 0;
@@ -127,7 +127,7 @@ fn clocks_unsound(plan: Plan, faulty: u64, clocks: &[u64], views: &[u64]) -> boo
 // Whether the message names too much, is for no correct processor or was sent later than now.
 fn held_unsound(plan: Plan, faulty: u64, time: u64, message: Message, sent: u64) -> bool
     requires { Within plan }
-    ensures { result ≡ heldUnsound plan faulty time (heldAs sent message) }
+    ensures { result ≡ held_unsound plan faulty time (held_as sent message) }
 {
     if plan.views <= message.view() {
         return true;
@@ -151,7 +151,7 @@ fn message_unsound(
     i: usize,
 ) -> bool
     requires { Within plan × (i < capacity form network.now) }
-    ensures { result ≡ messageUnsound (flying form plan faulty time network.now) i }
+    ensures { result ≡ message_unsound (flying form plan faulty time network.now) i }
 {
     let stored = buffers::decode(form, network, i);
     match stored {
@@ -172,7 +172,7 @@ fn messages_unsound(
     network: &[u64],
 ) -> bool
     requires { Within plan × (held ≤ capacity form network.now) }
-    ensures { result ≡ some (messageUnsound (flying form plan faulty time network.now)) held }
+    ensures { result ≡ some (message_unsound (flying form plan faulty time network.now)) held }
 {
     let mut i = 0;
     while i < held {
@@ -200,8 +200,8 @@ fn settling_unsound(time: u64, settled: bool, gst: u64) -> bool
 // The words from a place on, so many turns of eight, each gathered with its like of the turns before: so they are read two at a time. A loop of one word a
 // turn takes up to twice as long where it happens to lie across two lines of the processor's cache; this one does not.
 fn gather_turns(network: &[u64], from: usize, turns: usize) -> u64
-    requires { from + turnWords * turns ≤ length network.now }
-    ensures { nonZeroFrom result (from + turnWords * turns) network.now ≡ someNonZero (drop from network.now) }
+    requires { from + turn_words * turns ≤ length network.now }
+    ensures { non_zero_from result (from + turn_words * turns) network.now ≡ some_non_zero (drop from network.now) }
 {
     let mut a = 0;
     let mut b = 0;
@@ -230,7 +230,7 @@ fn gather_turns(network: &[u64], from: usize, turns: usize) -> u64
 
 // Whether a word was seen before that is not 0, or one from a place on is.
 fn rest_not_zero(network: &[u64], from: usize, before: u64) -> bool
-    ensures { result ≡ nonZeroFrom before from network.now }
+    ensures { result ≡ non_zero_from before from network.now }
 {
     let mut seen = before;
     let mut i = from;
@@ -243,7 +243,7 @@ fn rest_not_zero(network: &[u64], from: usize, before: u64) -> bool
 
 // Whether some word from a place on is not 0. All are read: without a way out of the loop they are read several at a time.
 fn tail_not_zero(network: &[u64], from: usize) -> bool
-    ensures { result ≡ someNonZero (drop from network.now) }
+    ensures { result ≡ some_non_zero (drop from network.now) }
 {
     if network.len() <= from {
         return false;
@@ -262,7 +262,7 @@ pub fn unsound_for_good(
     tally: &[u64],
     network: &[u64],
 ) -> bool
-    ensures { Judges (stateIn form (run_from head clocks.now views.now) tally.now network.now) result }
+    ensures { Judges (state_in form (run_from head clocks.now views.now) tally.now network.now) result }
 {
     if limits_broken(form, head.plan, head.faulty, tally.len(), network.len()) {
         return true;
@@ -291,7 +291,7 @@ pub fn unsound(
     tally: &[u64],
     network: &[u64],
 ) -> bool
-    ensures { result ≡ unsound (stateIn form (run_from head clocks.now views.now) tally.now network.now) }
+    ensures { result ≡ unsound (state_in form (run_from head clocks.now views.now) tally.now network.now) }
 {
     if unsound_for_good(form, head, clocks, views, tally, network) {
         return true;
@@ -302,7 +302,7 @@ pub fn unsound(
 // Whether q is correct and its start clock too high.
 fn clock_too_high(plan: Plan, faulty: u64, q: u64, clock: u64) -> bool
     requires { Within plan }
-    ensures { result ≡ (correct plan faulty q && leb (startLimit plan) clock) }
+    ensures { result ≡ (correct plan faulty q && leb (start_limit plan) clock) }
 {
     if plan.correct(faulty, q) {
         return plan.start_limit() <= clock;
@@ -313,7 +313,7 @@ fn clock_too_high(plan: Plan, faulty: u64, q: u64, clock: u64) -> bool
 // Check 7, of a plan that checks 2 to 4 passed.
 fn start_too_high(setup: Setup) -> bool
     requires { Within setup.plan }
-    ensures { result ≡ startTooHigh setup.plan setup.faulty setup.clocks }
+    ensures { result ≡ start_too_high setup.plan setup.faulty setup.clocks }
 {
     let n = setup.plan.n;
     let mut q = 0;
@@ -362,7 +362,7 @@ fn count_support(setup: Setup, c: u64) -> u64
 // Whether q is correct and too few correct clocks, its own counted, are with its clock.
 fn clock_alone(setup: Setup, q: u64) -> bool
     requires { Within setup.plan × (q < setup.plan.n) }
-    ensures { result ≡ aloneAt setup.plan setup.faulty setup.clocks q }
+    ensures { result ≡ alone_at setup.plan setup.faulty setup.clocks q }
 {
     if setup.plan.correct(setup.faulty, q) {
         let i = q as usize;
@@ -374,7 +374,7 @@ fn clock_alone(setup: Setup, q: u64) -> bool
 // Check 8, of a plan that checks 2 to 4 passed.
 fn too_far_ahead(setup: Setup) -> bool
     requires { Within setup.plan }
-    ensures { result ≡ tooFarAhead setup.plan setup.faulty setup.clocks }
+    ensures { result ≡ too_far_ahead setup.plan setup.faulty setup.clocks }
 {
     let n = setup.plan.n;
     let mut q = 0;
@@ -389,7 +389,7 @@ fn too_far_ahead(setup: Setup) -> bool
 
 // The first of checks 2 to 8 that refuses the setup with lent buffers of these lengths, or 0.
 pub fn setup_check(setup: Setup, tally: usize, network: usize) -> u64
-    ensures { result ≡ setupCheck Form.Packed setup tally network }
+    ensures { result ≡ setup_check Form.Packed setup tally network }
 {
     let limit = pacemaker::plan_check(setup.plan);
     if 0 < limit {

@@ -14,21 +14,21 @@ use Rattle.lines.specs.declared.Read.{Read}
 use Rattle.lines.specs.declared.Read.TheVariants as Read
 use Rattle.lines.specs.declared.Next.{Next}
 use Rattle.lines.specs.declared.Next.TheVariants.{Line}
-use Rattle.lines.specs.Contracts.{Reading, noSetup}
-use Rattle.lines.specs.Splitting.{nextLine}
+use Rattle.lines.specs.Clauses.{Reading, no_setup}
+use Rattle.lines.specs.Splitting.{next_line}
 use Rattle.lines.proofs.Splitting.{line-inside}
 use Rattle.lines.proofs.Putting.{left_over, rest-lent}
 use Rattle.reader.specs.Lines.{skimmed}
 use Rattle.reader.proofs.Skimming.{skims-plain}
 use Rattle.words.specs.declared.Numbers.{Numbers}
-use Rattle.words.specs.Events.{eventsIn, fourNumbers, numbersPut}
+use Rattle.words.specs.Events.{events_in, four_numbers, numbers_put}
 use Rattle.words.proofs.Turning.{put-parts}
-use Rattle.printout.specs.Printout.{Standing, Reply, readReply, reply, printedLine}
-use Rattle.printout.specs.Contracts.{Place, placeAt, Advance, behind, fed}
+use Rattle.printout.specs.Printout.{Standing, Reply, read_reply, reply, printed_line}
+use Rattle.printout.specs.Clauses.{Place, place_at, Advance, behind, fed}
 use Rattle.printout.proofs.Feeding.{fed-append}
 use Rattle.driver.specs.declared.Noted.{Noted}
 use Rattle.driver.specs.Inner.{replying}
-use Rattle.driver.specs.Batches.{readNumbers, gathered, NoOpening, replied, Notes, Gathers}
+use Rattle.driver.specs.Batches.{read_numbers, gathered, NoOpening, replied, Notes, Gathers}
 use Rattle.driver.proofs.Serving.{fed-read}
 
 -- ---- one line
@@ -39,38 +39,38 @@ plain-read (Read.Event e) o = tt
 plain-read Read.Opening o = absurd (miss (0 ∷ 2 ∷ []) 1 tt o)
 plain-read Read.NoForm o = tt
 
-pub unread : (r : Read) → OneOf (1 ∷ 2 ∷ []) (tag_of the_type r) → fourNumbers 0 0 0 0 ≡ readNumbers r
+pub unread : (r : Read) → OneOf (1 ∷ 2 ∷ []) (tag_of the_type r) → four_numbers 0 0 0 0 ≡ read_numbers r
 unread (Read.Event e) o = absurd (miss (1 ∷ 2 ∷ []) 0 tt o)
 unread Read.Opening o = refl
 unread Read.NoForm o = refl
 
 -- a line that was skimmed, and does not begin as an opening
-pub noted : (s : List ℕ) (n : Next) (e : ℕ) (r : Read) (k : Numbers) → n ≡ nextLine s → n ≡ Line e → r ≡ skimmed (take e s)
-    → OneOf (0 ∷ 2 ∷ []) (tag_of the_type r) → k ≡ readNumbers r → Notes s (record { used = e + 1; numbers = k })
+pub noted : (s : List ℕ) (n : Next) (e : ℕ) (r : Read) (k : Numbers) → n ≡ next_line s → n ≡ Line e → r ≡ skimmed (take e s)
+    → OneOf (0 ∷ 2 ∷ []) (tag_of the_type r) → k ≡ read_numbers r → Notes s (record { used = e + 1; numbers = k })
 noted s n e r k q p z o h =
     record {
       within = omega (arith, line-inside s n e q p);
       read = r;
       plain = plain-read r o;
       numbers = h;
-      feeds = λ x. fed-read x s (nextLine s) e refl (sym q ∙ p) [] refl ∙ ap (λ (y : Reading). replying (reply y x)) (sym (skims-plain (take e s) r z o));
+      feeds = λ x. fed-read x s (next_line s) e refl (sym q ∙ p) [] refl ∙ ap (λ (y : Reading). replying (reply y x)) (sym (skims-plain (take e s) r z o));
     }
 
 -- ---- one line more
 
 -- what lines lead to, and one more
 replied-more : (rs : List Read) (r : Read) (x : Standing)
-    → replied (rs ++ (r ∷ [])) x ≡ behind (replied rs x).text (replying (readReply r noSetup (replied rs x).place.standing))
-replied-more [] r x = ap (λ (t : List ℕ). record { place = placeAt (readReply r noSetup x).standing []; text = t }) (append-nil (printedLine (readReply r noSetup x)))
+    → replied (rs ++ (r ∷ [])) x ≡ behind (replied rs x).text (replying (read_reply r no_setup (replied rs x).place.standing))
+replied-more [] r x = ap (λ (t : List ℕ). record { place = place_at (read_reply r no_setup x).standing []; text = t }) (append-nil (printed_line (read_reply r no_setup x)))
 replied-more (k ∷ rs) r x =
-    let y : Reply = readReply k noSetup x in
-    ap (behind (printedLine y)) (replied-more rs r y.standing)
-    ∙ ap (λ (t : List ℕ). record { place = placeAt (readReply r noSetup (replied rs y.standing).place.standing).standing []; text = t })
-    (sym (append_assoc (printedLine y) (replied rs y.standing).text (printedLine (readReply r noSetup (replied rs y.standing).place.standing))))
+    let y : Reply = read_reply k no_setup x in
+    ap (behind (printed_line y)) (replied-more rs r y.standing)
+    ∙ ap (λ (t : List ℕ). record { place = place_at (read_reply r no_setup (replied rs y.standing).place.standing).standing []; text = t })
+    (sym (append_assoc (printed_line y) (replied rs y.standing).text (printed_line (read_reply r no_setup (replied rs y.standing).place.standing))))
 
-replied-place : (rs : List Read) (x : Standing) → (replied rs x).place ≡ placeAt (replied rs x).place.standing []
+replied-place : (rs : List Read) (x : Standing) → (replied rs x).place ≡ place_at (replied rs x).place.standing []
 replied-place [] x = refl
-replied-place (r ∷ rs) x = replied-place rs (readReply r noSetup x).standing
+replied-place (r ∷ rs) x = replied-place rs (read_reply r no_setup x).standing
 
 plain_more : (rs : List Read) (r : Read) → NoOpening rs → NoOpening (r ∷ []) → NoOpening (rs ++ (r ∷ []))
 plain_more [] r p q = q
@@ -81,7 +81,7 @@ plain_more (Read.NoForm ∷ rs) r p q = plain_more rs r p q
 gathered-more : (rs : List Read) (r : Read) → gathered (rs ++ (r ∷ [])) ≡ gathered rs ++ gathered (r ∷ [])
 gathered-more [] r = refl
 gathered-more (k ∷ rs) r =
-    let z : Numbers = readNumbers k in ap (λ (l : List ℕ). z.form ∷ z.kind ∷ z.view ∷ z.processor ∷ l) (gathered-more rs r)
+    let z : Numbers = read_numbers k in ap (λ (l : List ℕ). z.form ∷ z.kind ∷ z.view ∷ z.processor ∷ l) (gathered-more rs r)
 
 pub gathers-none : (s : List ℕ) (most : ℕ) (batch : List ℕ) → Gathers s most 0 0 batch
 gathers-none s most batch = record {
@@ -95,8 +95,8 @@ gathers-none s most batch = record {
   feeds = λ x. refl;
 }
 
-pub gathers-more : (s : List ℕ) (most count used : ℕ) (batch : List ℕ) (n : Noted) → Gathers s most count used batch → count < most → most ≤ eventsIn batch
-    → (n.used ≢ 0 → Notes (mid_of used (length s - used) s) n) → n.used ≢ 0 → Gathers s most (count + 1) (used + n.used) (numbersPut batch count n.numbers)
+pub gathers-more : (s : List ℕ) (most count used : ℕ) (batch : List ℕ) (n : Noted) → Gathers s most count used batch → count < most → most ≤ events_in batch
+    → (n.used ≢ 0 → Notes (mid_of used (length s - used) s) n) → n.used ≢ 0 → Gathers s most (count + 1) (used + n.used) (numbers_put batch count n.numbers)
 gathers-more s most count used batch n g l room q some = record {
   within = omega (arith, a.within, left_over used s, g.within);
   few = omega arith;
@@ -117,13 +117,13 @@ gathers-more s most count used batch n g l room q some = record {
     rs : List Read
     rs = g.reads
 
-    further : (x : Standing) → fed (placeAt x []) (take (used + n.used) s) ≡ replied (rs ++ (a.read ∷ [])) x
+    further : (x : Standing) → fed (place_at x []) (take (used + n.used) s) ≡ replied (rs ++ (a.read ∷ [])) x
     further x =
         let F : Advance = replied rs x in
-        ap (fed (placeAt x [])) (take-add used n.used s)
-        ∙ fed-append (placeAt x []) (take used s) (take n.used (drop used s))
+        ap (fed (place_at x [])) (take-add used n.used s)
+        ∙ fed-append (place_at x []) (take used s) (take n.used (drop used s))
         ∙ ap (λ (z : Advance). behind z.text (fed z.place (take n.used (drop used s)))) (g.feeds x)
         ∙ ap (λ (z : Place). behind F.text (fed z (take n.used (drop used s)))) (replied-place rs x)
-        ∙ ap (λ (z : List ℕ). behind F.text (fed (placeAt F.place.standing []) (take n.used z))) (sym (rest-lent used s))
+        ∙ ap (λ (z : List ℕ). behind F.text (fed (place_at F.place.standing []) (take n.used z))) (sym (rest-lent used s))
         ∙ ap (behind F.text) (a.feeds F.place.standing)
         ∙ sym (replied-more rs a.read x)

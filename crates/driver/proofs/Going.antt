@@ -9,13 +9,13 @@ use lib.ListN.{length, take, drop, drop_of_length-le}
 use lib.Seq.{take-add, drop-drop}
 use borrow.Rule.Slice.PartMut.{mid_of, put_mid, same_len_mid}
 use Rattle.lines.specs.declared.Next.TheVariants.{Unfinished}
-use Rattle.lines.specs.Printout.{printedMost}
-use Rattle.lines.specs.Splitting.{beforeNewline, nextLine}
+use Rattle.lines.specs.Printout.{printed_most}
+use Rattle.lines.specs.Splitting.{before_newline, next_line}
 use Rattle.lines.proofs.Putting.{left_over, rest_back, rest-lent}
 use Rattle.printout.specs.declared.Session.{Session}
 use Rattle.printout.specs.declared.Served.{Served}
-use Rattle.printout.specs.Printout.{Standing, standingOf}
-use Rattle.printout.specs.Contracts.{Begun, Feeds, Serves}
+use Rattle.printout.specs.Printout.{Standing, standing_of}
+use Rattle.printout.specs.Clauses.{Begun, Feeds, Serves}
 use Rattle.driver.specs.Inner.{Turns}
 use Rattle.driver.proofs.Serving.{feeds-none, feeds-then}
 
@@ -24,11 +24,11 @@ pub record Going (x : Standing) (late : Bool) (bytes out tally network after : L
   pub within : used ≤ length bytes
   pub room : printed ≤ length after
   pub same : length after ≡ length out
-  pub feeds : (begun : List ℕ) → Begun late begun → Feeds x begun (take used bytes) out (standingOf s tally network) passed printed after
+  pub feeds : (begun : List ℕ) → Begun late begun → Feeds x begun (take used bytes) out (standing_of s tally network) passed printed after
 
-pub going-none : (late : Bool) (bytes out tally network : List ℕ) (s : Session) → Going (standingOf s tally network) late bytes out tally network out s late 0 0
+pub going-none : (late : Bool) (bytes out tally network : List ℕ) (s : Session) → Going (standing_of s tally network) late bytes out tally network out s late 0 0
 going-none late bytes out tally network s =
-    record { within = omega arith; room = omega arith; same = refl; feeds = λ begun b. feeds-none (standingOf s tally network) begun out late b }
+    record { within = omega arith; room = omega arith; same = refl; feeds = λ begun b. feeds-none (standing_of s tally network) begun out late b }
 
 -- a turn uses no more than is left
 pub turn-within : (x : Standing) (late : Bool) (bytes out tally network : List ℕ) (used : ℕ) (r : Served) (after : List ℕ) → used ≤ length bytes
@@ -41,7 +41,7 @@ turn-room x late bytes out tally network printed r after h t = omega (arith, t.r
 
 pub going_more : (x : Standing) (late : Bool) (bytes out tally network e : List ℕ) (s : Session) (passed : Bool) (used printed : ℕ) (tally' network' : List ℕ) (r : Served) (f : List ℕ)
     → Going x late bytes out tally network e s passed used printed
-    → Turns (standingOf s tally network) passed (mid_of used (length bytes - used) bytes) (mid_of printed (length e - printed) e) tally' network' r f
+    → Turns (standing_of s tally network) passed (mid_of used (length bytes - used) bytes) (mid_of printed (length e - printed) e) tally' network' r f
     → length f ≡ length (mid_of printed (length e - printed) e)
     → Going x late bytes out tally' network' (put_mid printed (length e - printed) e f) r.session r.late (used + r.used) (printed + r.printed)
 going_more x late bytes out tally network e s passed used printed tally' network' r f g t q =
@@ -53,35 +53,35 @@ going_more x late bytes out tally network e s passed used printed tally' network
       feeds = λ begun b. joined begun (feeds-then (g.feeds begun b) (λ begun' b'. further begun' (t.feeds begun' b')));
     }
   where
-    further : (begun' : List ℕ) → Feeds (standingOf s tally network) begun' (take r.used (mid_of used (length bytes - used) bytes)) (mid_of printed (length e - printed) e) (standingOf r.session tally' network') r.late r.printed f
-        → Feeds (standingOf s tally network) begun' (take r.used (drop used bytes)) (drop printed e) (standingOf r.session tally' network') r.late r.printed f
+    further : (begun' : List ℕ) → Feeds (standing_of s tally network) begun' (take r.used (mid_of used (length bytes - used) bytes)) (mid_of printed (length e - printed) e) (standing_of r.session tally' network') r.late r.printed f
+        → Feeds (standing_of s tally network) begun' (take r.used (drop used bytes)) (drop printed e) (standing_of r.session tally' network') r.late r.printed f
     further begun' h =
-        subst (λ (b : List ℕ). Feeds (standingOf s tally network) begun' (take r.used b) (drop printed e) (standingOf r.session tally' network') r.late r.printed f) (rest-lent used bytes)
-        (subst (λ (o : List ℕ). Feeds (standingOf s tally network) begun' (take r.used (mid_of used (length bytes - used) bytes)) o (standingOf r.session tally' network') r.late r.printed f) (rest-lent printed e) h)
+        subst (λ (b : List ℕ). Feeds (standing_of s tally network) begun' (take r.used b) (drop printed e) (standing_of r.session tally' network') r.late r.printed f) (rest-lent used bytes)
+        (subst (λ (o : List ℕ). Feeds (standing_of s tally network) begun' (take r.used (mid_of used (length bytes - used) bytes)) o (standing_of r.session tally' network') r.late r.printed f) (rest-lent printed e) h)
 
-    joined : (begun : List ℕ) → Feeds x begun (take used bytes ++ take r.used (drop used bytes)) out (standingOf r.session tally' network') r.late (printed + r.printed) (take printed e ++ f)
-        → Feeds x begun (take (used + r.used) bytes) out (standingOf r.session tally' network') r.late (printed + r.printed) (put_mid printed (length e - printed) e f)
+    joined : (begun : List ℕ) → Feeds x begun (take used bytes ++ take r.used (drop used bytes)) out (standing_of r.session tally' network') r.late (printed + r.printed) (take printed e ++ f)
+        → Feeds x begun (take (used + r.used) bytes) out (standing_of r.session tally' network') r.late (printed + r.printed) (put_mid printed (length e - printed) e f)
     joined begun h =
-        subst (λ (b : List ℕ). Feeds x begun b out (standingOf r.session tally' network') r.late (printed + r.printed) (put_mid printed (length e - printed) e f)) (sym (take-add used r.used bytes))
-        (subst (Feeds x begun (take used bytes ++ take r.used (drop used bytes)) out (standingOf r.session tally' network') r.late (printed + r.printed)) (sym (rest_back printed e f g.room)) h)
+        subst (λ (b : List ℕ). Feeds x begun b out (standing_of r.session tally' network') r.late (printed + r.printed) (put_mid printed (length e - printed) e f)) (sym (take-add used r.used bytes))
+        (subst (Feeds x begun (take used bytes ++ take r.used (drop used bytes)) out (standing_of r.session tally' network') r.late (printed + r.printed)) (sym (rest_back printed e f g.room)) h)
 
 -- ---- why it stops
 
 pub going-stops : (x : Standing) (late : Bool) (bytes out tally network e : List ℕ) (s : Session) (passed : Bool) (used printed : ℕ) (tally' network' : List ℕ) (r : Served) (f : List ℕ)
     → Going x late bytes out tally network e s passed used printed
-    → Turns (standingOf s tally network) passed (mid_of used (length bytes - used) bytes) (mid_of printed (length e - printed) e) tally' network' r f → r.used ≡ 0
-    → (length out < printed + r.printed + printedMost) ⊎ (nextLine (drop (used + r.used) bytes) ≡ Unfinished)
+    → Turns (standing_of s tally network) passed (mid_of used (length bytes - used) bytes) (mid_of printed (length e - printed) e) tally' network' r f → r.used ≡ 0
+    → (length out < printed + r.printed + printed_most) ⊎ (next_line (drop (used + r.used) bytes) ≡ Unfinished)
 going-stops x late bytes out tally network e s passed used printed tally' network' r f g t z =
-    ⊎_elim (λ (h : length (mid_of printed (length e - printed) e) < r.printed + printedMost). inl (omega (arith, left_over printed e, g.same, g.room)))
-    (λ (h : nextLine (drop r.used (mid_of used (length bytes - used) bytes)) ≡ Unfinished).
-    inr (ap nextLine (sym (ap (drop r.used) (rest-lent used bytes) ∙ drop-drop r.used used bytes)) ∙ h)) (t.stops z)
+    ⊎_elim (λ (h : length (mid_of printed (length e - printed) e) < r.printed + printed_most). inl (omega (arith, left_over printed e, g.same, g.room)))
+    (λ (h : next_line (drop r.used (mid_of used (length bytes - used) bytes)) ≡ Unfinished).
+    inr (ap next_line (sym (ap (drop r.used) (rest-lent used bytes) ∙ drop-drop r.used used bytes)) ∙ h)) (t.stops z)
 
-pub stops-all : (bytes : List ℕ) (used : ℕ) → length bytes ≤ used → nextLine (drop used bytes) ≡ Unfinished
-unfolding nextLine beforeNewline
+pub stops-all : (bytes : List ℕ) (used : ℕ) → length bytes ≤ used → next_line (drop used bytes) ≡ Unfinished
+unfolding next_line before_newline
 stops-all bytes used h = rw (drop_of_length-le bytes h) refl
 
 pub going-serves : (x : Standing) (late : Bool) (bytes out tally network e : List ℕ) (s : Session) (passed : Bool) (used printed : ℕ)
-    → Going x late bytes out tally network e s passed used printed → (length out < printed + printedMost) ⊎ (nextLine (drop used bytes) ≡ Unfinished)
+    → Going x late bytes out tally network e s passed used printed → (length out < printed + printed_most) ⊎ (next_line (drop used bytes) ≡ Unfinished)
     → Serves x late bytes out tally network (record { session = s; late = passed; used = used; printed = printed }) e
 going-serves x late bytes out tally network e s passed used printed g h =
     record { within = g.within; room = omega (arith, g.room, g.same); feeds = g.feeds; stops = h }

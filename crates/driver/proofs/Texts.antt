@@ -13,26 +13,26 @@ use Rattle.base.specs.Choice.{cond_yes, cond_no}
 use Rattle.types.specs.declared.Answer.{Answer}
 use Rattle.types.specs.declared.Answer.TheVariants as Answer
 use Rattle.types.specs.declared.Run.{Run}
-use Rattle.types.specs.Quantities.{tableClocks}
-use Rattle.model.specs.State.{State, with_run, isCorrect, view_of, clockOf}
+use Rattle.types.specs.Quantities.{table_clocks}
+use Rattle.model.specs.State.{State, with_run, is_correct, view_of, clock_of}
 use Rattle.lines.specs.declared.Written.TheVariants.{Bytes, Refused}
-use Rattle.lines.specs.Contracts.{line, Put}
-use Rattle.lines.specs.Printout.{answerForm, processorForm, printedMost}
+use Rattle.lines.specs.Clauses.{line, Put}
+use Rattle.lines.specs.Printout.{answer_form, processor_form, printed_most}
 use Rattle.lines.specs.Splitting.{remainder}
 use Rattle.lines.proofs.Printing.{answer-length, processor-length}
 use Rattle.lines.proofs.Putting.{left_over, put-inside, put-none, put-part, too_few, put-prints}
 use Rattle.printout.specs.declared.Session.{Session}
 use Rattle.printout.specs.declared.Served.{Served}
-use Rattle.printout.specs.Printout.{Standing, leaving, standingOf, lineReply, printedLine, processorLines, closing, printedFrom}
-use Rattle.printout.specs.Contracts.{AnswersLine, Begun, closingMost, Closes}
+use Rattle.printout.specs.Printout.{Standing, leaving, standing_of, line_reply, printed_line, processor_lines, closing, printed_from}
+use Rattle.printout.specs.Clauses.{AnswersLine, Begun, closing_most, Closes}
 use Rattle.driver.specs.Inner.{replying, Passes}
 
 -- ---- what has room
 
-pub answer-room : (a : Answer) (out : List ℕ) → printedMost ≤ length out → length (line (answerForm a)) ≤ length out
+pub answer-room : (a : Answer) (out : List ℕ) → printed_most ≤ length out → length (line (answer_form a)) ≤ length out
 answer-room a out h = omega (arith, answer-length a)
 
-pub processor-room : (p view clock : ℕ) (out : List ℕ) → printedMost ≤ length out → length (line (processorForm p view clock)) ≤ length out
+pub processor-room : (p view clock : ℕ) (out : List ℕ) → printed_most ≤ length out → length (line (processor_form p view clock)) ≤ length out
 processor-room p view clock out h = omega (arith, processor-length p view clock)
 
 -- ---- a text that is printed or not
@@ -48,19 +48,19 @@ put-no t words out e = rw e (put-none out)
 -- text p is that of the first p lines
 pub record Told (text : ℕ → List ℕ) (out : List ℕ) (p at : ℕ) (after : List ℕ) : Type 0 where
   pub put : Put (text p) out at after
-  pub few : at ≤ p * printedMost
+  pub few : at ≤ p * printed_most
   pub same : length after ≡ length out
 
 -- of so many lines each has room
-module _ {text : ℕ → List ℕ} {out : List ℕ} {p at : ℕ} {e : List ℕ} (t : Told text out p at e) {most : ℕ} (l : p < most) (h : most * printedMost ≤ length out) where
+module _ {text : ℕ → List ℕ} {out : List ℕ} {p at : ℕ} {e : List ℕ} (t : Told text out p at e) {most : ℕ} (l : p < most) (h : most * printed_most ≤ length out) where
   pub told-inside : at ≤ length e
   told-inside = omega (arith, t.few, t.same)
 
-  pub told-room : printedMost ≤ length (mid_of at (length e - at) e)
+  pub told-room : printed_most ≤ length (mid_of at (length e - at) e)
   told-room = omega (arith, left_over at e, t.few, t.same)
 
   -- one line more
-  module _ {piece : List ℕ} {m : ℕ} {f : List ℕ} (w : Put piece (mid_of at (length e - at) e) m f) (short : length piece ≤ printedMost) where
+  module _ {piece : List ℕ} {m : ℕ} {f : List ℕ} (w : Put piece (mid_of at (length e - at) e) m f) (short : length piece ≤ printed_most) where
     pub told-fits : at + m ≤ length out
     told-fits = omega (arith, t.few, w.bytes)
 
@@ -81,29 +81,29 @@ told-all text out most p at e t h = let q : p ≡ most = omega (arith, t.0) in s
 -- ---- the processors
 
 -- a processor's line, or none
-abbrev processorText : Run → ℕ → List ℕ
-processorText run p = cond (isCorrect run p) (line (processorForm p (view_of run p) (clockOf run p))) []
+abbrev processor_text : Run → ℕ → List ℕ
+processor_text run p = cond (is_correct run p) (line (processor_form p (view_of run p) (clock_of run p))) []
 
-one-most : (t : Bool) (p view clock : ℕ) → length (cond t (line (processorForm p view clock)) []) ≤ printedMost
+one-most : (t : Bool) (p view clock : ℕ) → length (cond t (line (processor_form p view clock)) []) ≤ printed_most
 one-most true p view clock = processor-length p view clock
 one-most false p view clock = omega arith
 
-module _ {run : Run} {out : List ℕ} {p at : ℕ} {e : List ℕ} (t : Told (processorLines run) out p at e) {most : ℕ} (l : p < most) (h : most * printedMost ≤ length out)
-    {m : ℕ} {f : List ℕ} (w : Put (processorText run p) (mid_of at (length e - at) e) m f) where
+module _ {run : Run} {out : List ℕ} {p at : ℕ} {e : List ℕ} (t : Told (processor_lines run) out p at e) {most : ℕ} (l : p < most) (h : most * printed_most ≤ length out)
+    {m : ℕ} {f : List ℕ} (w : Put (processor_text run p) (mid_of at (length e - at) e) m f) where
   pub processor-fits : at + m ≤ length out
-  processor-fits = told-fits t l h w (one-most (isCorrect run p) p (view_of run p) (clockOf run p))
+  processor-fits = told-fits t l h w (one-most (is_correct run p) p (view_of run p) (clock_of run p))
 
-  pub processor-told : length f ≡ length (mid_of at (length e - at) e) → Told (processorLines run) out (p + 1) (at + m) (put_mid at (length e - at) e f)
-  processor-told q = told_more t l h w (one-most (isCorrect run p) p (view_of run p) (clockOf run p)) (ap (processorLines run) (add-one p)) q
+  pub processor-told : length f ≡ length (mid_of at (length e - at) e) → Told (processor_lines run) out (p + 1) (at + m) (put_mid at (length e - at) e f)
+  processor-told q = told_more t l h w (one-most (is_correct run p) p (view_of run p) (clock_of run p)) (ap (processor_lines run) (add-one p)) q
 
 -- ---- the end
 
 -- the line that is left, if there is one
-abbrev pub leftText : Bool → List ℕ
-leftText t = cond t (line (answerForm (Answer.Refused 1))) []
+abbrev pub left_text : Bool → List ℕ
+left_text t = cond t (line (answer_form (Answer.Refused 1))) []
 
 pub closing-text : (s : Session) (x : State) (begun : List ℕ) (late : Bool) (rest : List ℕ) → Begun late begun
-    → printedFrom (leaving s.opened (with_run s.run x)) (remainder (begun ++ rest)) ≡ leftText (late || ltb 0 (length rest)) ++ closing s
+    → printed_from (leaving s.opened (with_run s.run x)) (remainder (begun ++ rest)) ≡ left_text (late || ltb 0 (length rest)) ++ closing s
 closing-text s x [] true rest b = absurd (omega arith)
 closing-text s x (c ∷ begun) true rest b = refl
 closing-text s x begun false [] b = rw b refl
@@ -111,18 +111,18 @@ closing-text s x begun false (c ∷ rest) b = let l : 0 < length (c ∷ rest) = 
 
 -- ---- one line
 
-pub line-few : (s : List ℕ) (x : Standing) (out : List ℕ) → length out < printedMost → AnswersLine s x out x (Refused 1) out
-line-few s x out h = (cond_yes _ _ _ _ (lt-ltb _ _ h) refl, too_few printedMost (printedLine (lineReply s x)) out h)
+pub line-few : (s : List ℕ) (x : Standing) (out : List ℕ) → length out < printed_most → AnswersLine s x out x (Refused 1) out
+line-few s x out h = (cond_yes _ _ _ _ (lt-ltb _ _ h) refl, too_few printed_most (printed_line (line_reply s x)) out h)
 
-pub line-answered : (s : List ℕ) (x : Standing) (out tally network : List ℕ) (r : Served) (after : List ℕ) → printedMost ≤ length out
-    → Passes (length s + 1) (replying (lineReply s x)) out tally network r after
-    → AnswersLine s x out (standingOf r.session tally network) (Bytes r.printed) after
+pub line-answered : (s : List ℕ) (x : Standing) (out tally network : List ℕ) (r : Served) (after : List ℕ) → printed_most ≤ length out
+    → Passes (length s + 1) (replying (line_reply s x)) out tally network r after
+    → AnswersLine s x out (standing_of r.session tally network) (Bytes r.printed) after
 line-answered s x out tally network r after h p =
-    (cond_no _ _ _ _ (le-ltb _ _ h) p.state, put-prints printedMost (printedLine (lineReply s x)) out r.printed after h p.put)
+    (cond_no _ _ _ _ (le-ltb _ _ h) p.state, put-prints printed_most (printed_line (line_reply s x)) out r.printed after h p.put)
 
 -- ---- all of the end
 
-pub put-closing : (s : Session) (out : List ℕ) (k : ℕ) (after : List ℕ) → s.opened ≡ true → Put (processorLines s.run tableClocks) out k after → Put (closing s) out k after
+pub put-closing : (s : Session) (out : List ℕ) (k : ℕ) (after : List ℕ) → s.opened ≡ true → Put (processor_lines s.run table_clocks) out k after → Put (closing s) out k after
 unfolding closing
 put-closing s out k after e p = rw e p
 
@@ -131,29 +131,29 @@ unfolding closing
 put-unopened s out e = rw e (put-none out)
 
 -- the line that is left has room
-pub left-most : (t : Bool) (out : List ℕ) (k : ℕ) (after : List ℕ) → Put (leftText t) out k after → k ≤ printedMost
+pub left-most : (t : Bool) (out : List ℕ) (k : ℕ) (after : List ℕ) → Put (left_text t) out k after → k ≤ printed_most
 left-most true out k after p = omega (arith, p.bytes, answer-length (Answer.Refused 1))
 left-most false out k after p = omega (arith, p.bytes)
 
 -- and so have those of the processors
-pub left-inside : (t : Bool) (out : List ℕ) (k : ℕ) (e : List ℕ) → Put (leftText t) out k e → closingMost ≤ length out → length e ≡ length out → k ≤ length e
+pub left-inside : (t : Bool) (out : List ℕ) (k : ℕ) (e : List ℕ) → Put (left_text t) out k e → closing_most ≤ length out → length e ≡ length out → k ≤ length e
 left-inside t out k e p h l = omega (arith, left-most t out k e p)
 
-pub closing-room : (t : Bool) (out : List ℕ) (k : ℕ) (e : List ℕ) → Put (leftText t) out k e → closingMost ≤ length out → length e ≡ length out
-    → tableClocks * printedMost ≤ length (mid_of k (length e - k) e)
+pub closing-room : (t : Bool) (out : List ℕ) (k : ℕ) (e : List ℕ) → Put (left_text t) out k e → closing_most ≤ length out → length e ≡ length out
+    → table_clocks * printed_most ≤ length (mid_of k (length e - k) e)
 closing-room t out k e p h l = omega (arith, left-most t out k e p, left_over k e)
 
-pub closing-fits : (t : Bool) (out : List ℕ) (k : ℕ) (e words : List ℕ) (m : ℕ) (f : List ℕ) → Put (leftText t) out k e → closingMost ≤ length out → length e ≡ length out
+pub closing-fits : (t : Bool) (out : List ℕ) (k : ℕ) (e words : List ℕ) (m : ℕ) (f : List ℕ) → Put (left_text t) out k e → closing_most ≤ length out → length e ≡ length out
     → Put words (mid_of k (length e - k) e) m f → length f ≡ length (mid_of k (length e - k) e) → k + m ≤ length out
 closing-fits t out k e words m f p h l q n =
     omega (arith, left-inside t out k e p h l, left_over k e, put-inside words (mid_of k (length e - k) e) m f q n)
 
-pub closes-few : (s : Session) (late : Bool) (rest out : List ℕ) → length out < closingMost → Closes s late rest out (Refused 1) out
-closes-few s late rest out h x begun b = too_few closingMost (printedFrom (leaving s.opened (with_run s.run x)) (remainder (begun ++ rest))) out h
+pub closes-few : (s : Session) (late : Bool) (rest out : List ℕ) → length out < closing_most → Closes s late rest out (Refused 1) out
+closes-few s late rest out h x begun b = too_few closing_most (printed_from (leaving s.opened (with_run s.run x)) (remainder (begun ++ rest))) out h
 
-pub closes : (s : Session) (late : Bool) (rest out : List ℕ) (k : ℕ) (e : List ℕ) (m : ℕ) (f : List ℕ) → closingMost ≤ length out
-    → Put (leftText (late || ltb 0 (length rest))) out k e → k ≤ length e → Put (closing s) (mid_of k (length e - k) e) m f
+pub closes : (s : Session) (late : Bool) (rest out : List ℕ) (k : ℕ) (e : List ℕ) (m : ℕ) (f : List ℕ) → closing_most ≤ length out
+    → Put (left_text (late || ltb 0 (length rest))) out k e → k ≤ length e → Put (closing s) (mid_of k (length e - k) e) m f
     → Closes s late rest out (Bytes (k + m)) (put_mid k (length e - k) e f)
 closes s late rest out k e m f h p l q x begun b =
-    put-prints closingMost (printedFrom (leaving s.opened (with_run s.run x)) (remainder (begun ++ rest))) out (k + m) (put_mid k (length e - k) e f) h
+    put-prints closing_most (printed_from (leaving s.opened (with_run s.run x)) (remainder (begun ++ rest))) out (k + m) (put_mid k (length e - k) e f) h
     (subst (λ (w : List ℕ). Put w out (k + m) (put_mid k (length e - k) e f)) (sym (closing-text s x begun late rest b)) (put-part p l q))

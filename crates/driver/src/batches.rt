@@ -1,12 +1,12 @@
 // Lines in a batch: read as words, applied as words, printed from the words.
 ghost use Rattle.std.specs.Prelude.{◌≡◌, ◌≢◌, false, ◌*◌, ◌≤◌, ◌<◌, length};
 ghost use Rattle.model.specs.State.{state_of, run_from};
-ghost use Rattle.lines.specs.Printout.{printedMost};
-ghost use Rattle.lines.specs.Contracts.{Put};
-ghost use Rattle.liveness.specs.Promises.{answerFrom};
-ghost use Rattle.words.specs.Events.{eventsIn};
-ghost use Rattle.printout.specs.Printout.{endsTicks, ticksPrinted};
-ghost use Rattle.driver.specs.Batches.{readNumbers, Notes, Gathers, linesMost, worded, wordsAnswered, openAs, closedAs, printedAt, printedUpTo};
+ghost use Rattle.lines.specs.Printout.{printed_most};
+ghost use Rattle.lines.specs.Clauses.{Put};
+ghost use Rattle.liveness.specs.Promises.{answer_from};
+ghost use Rattle.words.specs.Events.{events_in};
+ghost use Rattle.printout.specs.Printout.{ends_ticks, ticks_printed};
+ghost use Rattle.driver.specs.Batches.{read_numbers, Notes, Gathers, lines_most, worded, words_answered, open_as, closed_as, printed_at, printed_up_to};
 
 use crate::{Gathered, Noted, PRINTED_MOST, printing};
 use lines::{Next, Read};
@@ -22,7 +22,7 @@ pub(crate) const BATCH_WORDS: usize = 2048;
 
 // What a line was read as, in numbers.
 pub(crate) fn numbers_read(read: Read) -> Numbers
-    ensures { result ≡ readNumbers read }
+    ensures { result ≡ read_numbers read }
 {
     let Read::Event(event) = read else {
         return words::bare(0, 0);
@@ -59,7 +59,7 @@ fn note_line(rest: &[u8]) -> Noted
 
 // The most lines whose answers have room; none where bytes of a line that is too long were passed over.
 pub(crate) fn most_lines(late: bool, room: usize) -> usize
-    ensures { (result ≤ linesMost) × (result * printedMost ≤ room) × (0 < result → late ≡ false) }
+    ensures { (result ≤ lines_most) × (result * printed_most ≤ room) × (0 < result → late ≡ false) }
 {
     if late {
         return 0;
@@ -73,7 +73,7 @@ pub(crate) fn most_lines(late: bool, room: usize) -> usize
 
 // The lines at hand, up to an opening, a line that is too long, or one that does not end.
 pub(crate) fn read_batch(rest: &[u8], most: usize, batch: &mut [u64]) -> Gathered
-    requires { most ≤ eventsIn batch.old }
+    requires { most ≤ events_in batch.old }
     ensures { Gathers rest.now most result.count result.used batch.new }
 {
     let mut count = 0;
@@ -109,7 +109,7 @@ pub(crate) fn apply_batch(
     batch: &mut [u64],
 ) -> Head
     ensures { worded (state_of (run_from result clocks.new views.new) tally.new network.new) batch.new
-        ≡ wordsAnswered opened batch.old (state_of (run_from head clocks.old views.old) tally.old network.old) }
+        ≡ words_answered opened batch.old (state_of (run_from head clocks.old views.old) tally.old network.old) }
 {
     if opened {
         return simulator::apply_events(head, clocks, views, tally, network, batch);
@@ -121,7 +121,7 @@ pub(crate) fn apply_batch(
 
 // Whether the check ends ticks.
 fn ends_ticks(check: u64) -> bool
-    ensures { result ≡ endsTicks check }
+    ensures { result ≡ ends_ticks check }
 {
     if check == 16 {
         return true;
@@ -134,7 +134,7 @@ fn ends_ticks(check: u64) -> bool
 
 // The printed answer to ticks.
 fn print_ticks(held: usize, answer: Answer) -> Answer
-    ensures { result ≡ ticksPrinted held answer }
+    ensures { result ≡ ticks_printed held answer }
 {
     match answer {
         Answer::Done(_, _) => answer,
@@ -150,7 +150,7 @@ fn print_ticks(held: usize, answer: Answer) -> Answer
 
 // The answer that check, ticks and messages held tell.
 fn answer_from(check: u64, ticks: u64, held: usize) -> Answer
-    ensures { result ≡ answerFrom check ticks held }
+    ensures { result ≡ answer_from check ticks held }
 {
     if check == 0 {
         return Answer::Done(ticks, held);
@@ -163,7 +163,7 @@ fn answer_from(check: u64, ticks: u64, held: usize) -> Answer
 
 // The printed answer to a line of an open run.
 fn printed_open(form: u64, check: u64, ticks: u64, held: usize) -> Answer
-    ensures { result ≡ openAs form check ticks held }
+    ensures { result ≡ open_as form check ticks held }
 {
     let answer = answer_from(check, ticks, held);
     if form == 5 {
@@ -174,7 +174,7 @@ fn printed_open(form: u64, check: u64, ticks: u64, held: usize) -> Answer
 
 // The printed answer to a line before a run is open.
 fn printed_closed(form: u64) -> Answer
-    ensures { result ≡ closedAs form }
+    ensures { result ≡ closed_as form }
 {
     if form == 0 {
         return Answer::Refused(1);
@@ -184,8 +184,8 @@ fn printed_closed(form: u64) -> Answer
 
 // The printed answer to line i.
 pub(crate) fn printed_at(opened: bool, batch: &[u64], i: usize) -> Answer
-    requires { i < eventsIn batch.now }
-    ensures { result ≡ printedAt opened batch.now i }
+    requires { i < events_in batch.now }
+    ensures { result ≡ printed_at opened batch.now i }
 {
     let at = words::EVENT_WORDS * i;
     let form = batch[at];
@@ -197,8 +197,8 @@ pub(crate) fn printed_at(opened: bool, batch: &[u64], i: usize) -> Answer
 
 // The printed answers to all lines of the words.
 pub(crate) fn print_batch(opened: bool, batch: &[u64], out: &mut [u8]) -> usize
-    requires { eventsIn batch.now * printedMost ≤ length out.old }
-    ensures { Put (printedUpTo opened batch.now (eventsIn batch.now)) out.old result out.new }
+    requires { events_in batch.now * printed_most ≤ length out.old }
+    ensures { Put (printed_up_to opened batch.now (events_in batch.now)) out.old result out.new }
 {
     let count = batch.len() / words::EVENT_WORDS;
     let mut i = 0;

@@ -5,9 +5,9 @@ mod replies;
 mod turns;
 
 ghost use Rattle.std.specs.Prelude.{◌≡◌};
-ghost use Rattle.printout.specs.Printout.{standingOf};
-ghost use Rattle.printout.specs.Contracts.{AnswersLine, Serves, Closes};
-ghost use Rattle.driver.specs.Inner.{sessionFrom};
+ghost use Rattle.printout.specs.Printout.{standing_of};
+ghost use Rattle.printout.specs.Clauses.{AnswersLine, Serves, Closes};
+ghost use Rattle.driver.specs.Inner.{session_from};
 
 use lines::Written;
 use printout::{Served, Session};
@@ -53,7 +53,7 @@ pub(crate) struct Turned {
 
 // The session put together again.
 fn gather(opened: bool, head: Head, clocks: &[u64; 64], views: &[u64; 64]) -> Session
-    ensures { result ≡ sessionFrom opened head clocks.now views.now }
+    ensures { result ≡ session_from opened head clocks.now views.now }
 {
     Session {
         opened: opened,
@@ -69,8 +69,8 @@ pub fn answer_line(
     network: &mut [u64],
     out: &mut [u8],
 ) -> Replied
-    ensures { AnswersLine line.now (standingOf session tally.old network.old) out.old
-        (standingOf result.session tally.new network.new) result.written out.new }
+    ensures { AnswersLine line.now (standing_of session tally.old network.old) out.old
+        (standing_of result.session tally.new network.new) result.written out.new }
 {
     if out.len() < PRINTED_MOST {
         return Replied {
@@ -107,7 +107,7 @@ pub fn answer_lines(
     network: &mut [u64],
     out: &mut [u8],
 ) -> Served
-    ensures { Serves (standingOf session tally.old network.old) late bytes.now out.old
+    ensures { Serves (standing_of session tally.old network.old) late bytes.now out.old
         tally.new network.new result out.new }
 {
     let run = session.run;

@@ -1,9 +1,9 @@
 // Answers and the closing lines, printed into lent bytes that have room for them. Each function answers how many bytes it printed.
 ghost use Rattle.std.specs.Prelude.{cond, ◌||◌, [], ◌*◌, ◌≤◌, length, ltb};
-ghost use Rattle.types.specs.Quantities.{tableClocks, correct};
-ghost use Rattle.lines.specs.Contracts.{line, Put};
-ghost use Rattle.lines.specs.Printout.{answerForm, processorForm, printedMost};
-ghost use Rattle.printout.specs.Printout.{processorLines, closing};
+ghost use Rattle.types.specs.Quantities.{table_clocks, correct};
+ghost use Rattle.lines.specs.Clauses.{line, Put};
+ghost use Rattle.lines.specs.Printout.{answer_form, processor_form, printed_most};
+ghost use Rattle.printout.specs.Printout.{processor_lines, closing};
 
 use lines::Written;
 use printout::Session;
@@ -11,8 +11,8 @@ use types::{Answer, Plan, Run};
 
 // An answer.
 pub(crate) fn print_answer(answer: Answer, out: &mut [u8]) -> usize
-    requires { printedMost ≤ length out.old }
-    ensures { Put (line (answerForm answer)) out.old result out.new }
+    requires { printed_most ≤ length out.old }
+    ensures { Put (line (answer_form answer)) out.old result out.new }
 {
     let written = writer::write_answer(answer, out);
     match written {
@@ -23,8 +23,8 @@ pub(crate) fn print_answer(answer: Answer, out: &mut [u8]) -> usize
 
 // The line of a processor, if it is correct.
 fn print_processor(plan: Plan, faulty: u64, p: u64, view: u64, clock: u64, out: &mut [u8]) -> usize
-    requires { printedMost ≤ length out.old }
-    ensures { Put (cond (correct plan faulty p) (line (processorForm p view clock)) []) out.old result out.new }
+    requires { printed_most ≤ length out.old }
+    ensures { Put (cond (correct plan faulty p) (line (processor_form p view clock)) []) out.old result out.new }
 {
     if plan.correct(faulty, p) {
         let written = writer::write_processor(p, view, clock, out);
@@ -38,8 +38,8 @@ fn print_processor(plan: Plan, faulty: u64, p: u64, view: u64, clock: u64, out: 
 
 // The lines of all correct processors.
 fn print_processors(run: Run, out: &mut [u8]) -> usize
-    requires { tableClocks * printedMost ≤ length out.old }
-    ensures { Put (processorLines run tableClocks) out.old result out.new }
+    requires { table_clocks * printed_most ≤ length out.old }
+    ensures { Put (processor_lines run table_clocks) out.old result out.new }
 {
     let plan = run.plan;
     let clocks = run.clocks;
@@ -62,7 +62,7 @@ fn print_processors(run: Run, out: &mut [u8]) -> usize
 
 // What comes at the end.
 pub(crate) fn print_closing(session: Session, out: &mut [u8]) -> usize
-    requires { tableClocks * printedMost ≤ length out.old }
+    requires { table_clocks * printed_most ≤ length out.old }
     ensures { Put (closing session) out.old result out.new }
 {
     if session.opened {
@@ -74,8 +74,8 @@ pub(crate) fn print_closing(session: Session, out: &mut [u8]) -> usize
 
 // A line that is left: bytes behind the last newline, `rest` of them at hand.
 pub(crate) fn print_left(late: bool, rest: usize, out: &mut [u8]) -> usize
-    requires { printedMost ≤ length out.old }
-    ensures { Put (cond (late || ltb 0 rest) (line (answerForm (Answer.Refused 1))) []) out.old result out.new }
+    requires { printed_most ≤ length out.old }
+    ensures { Put (cond (late || ltb 0 rest) (line (answer_form (Answer.Refused 1))) []) out.old result out.new }
 {
     if late {
         return print_answer(Answer::Refused(1), out);

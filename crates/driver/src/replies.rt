@@ -1,12 +1,12 @@
 // What is answered to the lines of a batch, to an opening, and to a line by itself. The run's tables are lent beside its head.
 ghost use Rattle.std.specs.Prelude.{◌≡◌, ◌+◌, ◌*◌, ◌≤◌, length};
 ghost use Rattle.model.specs.State.{state_of, run_from};
-ghost use Rattle.words.specs.Events.{eventsIn};
-ghost use Rattle.lines.specs.Printout.{printedMost};
-ghost use Rattle.reader.specs.Lines.{openingOr};
-ghost use Rattle.printout.specs.Printout.{staysOpen, reply, lineReply};
-ghost use Rattle.driver.specs.Inner.{standingFrom, servedAs, replying, Passes};
-ghost use Rattle.driver.specs.Batches.{wordsAnswered, advanced};
+ghost use Rattle.words.specs.Events.{events_in};
+ghost use Rattle.lines.specs.Printout.{printed_most};
+ghost use Rattle.reader.specs.Lines.{opening_or};
+ghost use Rattle.printout.specs.Printout.{stays_open, reply, line_reply};
+ghost use Rattle.driver.specs.Inner.{standing_from, served_as, replying, Passes};
+ghost use Rattle.driver.specs.Batches.{words_answered, advanced};
 
 use crate::{Turned, batches, printing};
 use lines::Read;
@@ -24,10 +24,10 @@ pub(crate) fn answer_batch(
     network: &mut [u64],
     out: &mut [u8],
 ) -> Turned
-    requires { eventsIn batch.old * printedMost ≤ length out.old }
-    ensures { Passes used (advanced opened (eventsIn batch.old) (wordsAnswered opened batch.old
+    requires { events_in batch.old * printed_most ≤ length out.old }
+    ensures { Passes used (advanced opened (events_in batch.old) (words_answered opened batch.old
         (state_of (run_from head clocks.old views.old) tally.old network.old))) out.old
-        tally.new network.new (servedAs result clocks.new views.new) out.new }
+        tally.new network.new (served_as result clocks.new views.new) out.new }
 {
     let next = batches::apply_batch(opened, head, clocks, views, tally, network, batch);
     Turned {
@@ -41,7 +41,7 @@ pub(crate) fn answer_batch(
 
 // Whether a run is open after an opening.
 fn stays_open(opened: bool, answer: Answer) -> bool
-    ensures { result ≡ staysOpen opened answer }
+    ensures { result ≡ stays_open opened answer }
 {
     if opened {
         return true;
@@ -65,10 +65,10 @@ fn answer_opening(
     network: &mut [u64],
     out: &mut [u8],
 ) -> Turned
-    requires { printedMost ≤ length out.old }
+    requires { printed_most ≤ length out.old }
     ensures { Passes used
-        (replying (reply (openingOr setup) (standingFrom opened head clocks.old views.old tally.old network.old))) out.old
-        tally.new network.new (servedAs result clocks.new views.new) out.new }
+        (replying (reply (opening_or setup) (standing_from opened head clocks.old views.old tally.old network.old))) out.old
+        tally.new network.new (served_as result clocks.new views.new) out.new }
 {
     if setup.plan.n == 0 {
         return Turned {
@@ -102,10 +102,10 @@ pub(crate) fn answer_whole(
     network: &mut [u64],
     out: &mut [u8],
 ) -> Turned
-    requires { printedMost ≤ length out.old }
+    requires { printed_most ≤ length out.old }
     ensures { Passes (length line.now + 1)
-        (replying (lineReply line.now (standingFrom opened head clocks.old views.old tally.old network.old))) out.old
-        tally.new network.new (servedAs result clocks.new views.new) out.new }
+        (replying (line_reply line.now (standing_from opened head clocks.old views.old tally.old network.old))) out.old
+        tally.new network.new (served_as result clocks.new views.new) out.new }
 {
     let used = line.len() + 1;
     let read = reader::skim_line(line);

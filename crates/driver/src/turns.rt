@@ -1,10 +1,10 @@
 // The lines of the bytes at hand, a batch at a time. The run's tables are lent beside its head.
 ghost use Rattle.std.specs.Prelude.{◌≡◌, ◌^◌, ◌≤◌, ◌<◌, length};
-ghost use Rattle.words.specs.Events.{eventsIn};
-ghost use Rattle.lines.specs.Printout.{printedMost};
-ghost use Rattle.printout.specs.Contracts.{Serves};
-ghost use Rattle.driver.specs.Inner.{standingFrom, servedAs, Refuses, dueLine, NotDue, Turns, TurnsAside};
-ghost use Rattle.driver.specs.Batches.{linesMost};
+ghost use Rattle.words.specs.Events.{events_in};
+ghost use Rattle.lines.specs.Printout.{printed_most};
+ghost use Rattle.printout.specs.Clauses.{Serves};
+ghost use Rattle.driver.specs.Inner.{standing_from, served_as, Refuses, due_line, NotDue, Turns, TurnsAside};
+ghost use Rattle.driver.specs.Batches.{lines_most};
 
 use crate::{PRINTED_MOST, Turned, batches, printing, replies};
 use lines::Next;
@@ -12,7 +12,7 @@ use types::{Answer, Head};
 
 // A line that is too long; `end` of its bytes are at hand.
 fn refuse_line(opened: bool, head: Head, end: usize, out: &mut [u8]) -> Turned
-    requires { (printedMost ≤ length out.old) × (end < 2 ^ 63) }
+    requires { (printed_most ≤ length out.old) × (end < 2 ^ 63) }
     ensures { Refuses end opened head out.old result out.new }
 {
     Turned {
@@ -61,7 +61,7 @@ fn pass_over(opened: bool, head: Head, late: bool, rest: &[u8], out: &mut [u8]) 
 
 // The next line, if it is to be answered: none where bytes of it were passed over, or its answer may not have room.
 fn due_line(late: bool, rest: &[u8], room: usize) -> Next
-    ensures { result ≡ dueLine late rest.now room }
+    ensures { result ≡ due_line late rest.now room }
 {
     if late {
         return Next::Unfinished;
@@ -84,8 +84,8 @@ fn answer_next(
     network: &mut [u64],
     out: &mut [u8],
 ) -> Turned
-    ensures { Turns (standingFrom opened head clocks.old views.old tally.old network.old) late rest.now out.old
-        tally.new network.new (servedAs result clocks.new views.new) out.new }
+    ensures { Turns (standing_from opened head clocks.old views.old tally.old network.old) late rest.now out.old
+        tally.new network.new (served_as result clocks.new views.new) out.new }
 {
     let Next::Line(end) = due_line(late, rest, out.len()) else {
         return pass_over(opened, head, late, rest, out);
@@ -115,9 +115,9 @@ fn answer_turn(
     network: &mut [u64],
     out: &mut [u8],
 ) -> Turned
-    requires { linesMost ≤ eventsIn batch.old }
-    ensures { Turns (standingFrom opened head clocks.old views.old tally.old network.old) late rest.now out.old
-        tally.new network.new (servedAs result clocks.new views.new) out.new }
+    requires { lines_most ≤ events_in batch.old }
+    ensures { Turns (standing_from opened head clocks.old views.old tally.old network.old) late rest.now out.old
+        tally.new network.new (served_as result clocks.new views.new) out.new }
 {
     let most = batches::most_lines(late, out.len());
     let gathered = batches::read_batch(rest, most, batch);
@@ -151,9 +151,9 @@ pub(crate) fn answer_turns(
     network: &mut [u64],
     out: &mut [u8],
 ) -> Turned
-    requires { linesMost ≤ eventsIn batch.old }
-    ensures { Serves (standingFrom opened head clocks.old views.old tally.old network.old) late bytes.now out.old
-        tally.new network.new (servedAs result clocks.new views.new) out.new }
+    requires { lines_most ≤ events_in batch.old }
+    ensures { Serves (standing_from opened head clocks.old views.old tally.old network.old) late bytes.now out.old
+        tally.new network.new (served_as result clocks.new views.new) out.new }
 {
     let mut running = opened;
     let mut current = head;

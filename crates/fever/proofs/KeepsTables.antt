@@ -9,15 +9,15 @@ use Rattle.base.specs.ScanLaws.{length-listed}
 use Rattle.types.specs.declared.Event.{Event}
 use Rattle.types.specs.declared.Run.{Run}
 use Rattle.types.specs.declared.Setup.{Setup}
-use Rattle.types.specs.Quantities.{tableClocks}
+use Rattle.types.specs.Quantities.{table_clocks}
 use Rattle.model.specs.State.{State}
 use Rattle.model.specs.Moves.{Change, changed, Entry, stay, into, taking, entering, entries, made}
-use Rattle.model.specs.Opening.{firstEntry, blank, opened}
+use Rattle.model.specs.Opening.{first_entry, blank, opened}
 use Rattle.model.specs.Events.{applied}
 use Rattle.model.specs.Lists.{after}
 use Rattle.liveness.specs.Promises.{Tabled}
 use Rattle.liveness.proofs.Promises.{events-last}
-use Rattle.fever.specs.Layout.{runLength, clocksWord, viewsWord, runIn}
+use Rattle.fever.specs.Layout.{run_length, clocks_word, views_word, run_in}
 
 -- ---- an opening
 
@@ -44,8 +44,8 @@ made-tabled s c k h = record { clocks = k.0 ∙ h.clocks; views = k.1 ∙ h.view
 
 pub opened-tabled : (u : Setup) (s : State) → Tabled (opened u s).run
 unfolding opened blank
-opened-tabled u s = made-tabled (blank u s) _ (entries-kept (firstEntry u) (blank u s).run (blank u s).tally u.plan.n)
-    (record { clocks = length-listed _ tableClocks; views = refl })
+opened-tabled u s = made-tabled (blank u s) _ (entries-kept (first_entry u) (blank u s).run (blank u s).tally u.plan.n)
+    (record { clocks = length-listed _ table_clocks; views = refl })
 
 -- ---- events
 
@@ -56,9 +56,9 @@ after-tabled s (e ∷ es) h = after-tabled (applied e s).state es (events-last e
 
 -- ---- a run that is read from words
 
-pub read-tabled : (ws : List ℕ) → runLength ≤ length ws → Tabled (runIn ws)
-unfolding runIn
+pub read-tabled : (ws : List ℕ) → run_length ≤ length ws → Tabled (run_in ws)
+unfolding run_in
 read-tabled ws l = record {
-  clocks = length-take-le tableClocks (drop clocksWord ws) (omega (arith, length-drop clocksWord ws));
-  views = length-take-le tableClocks (drop viewsWord ws) (omega (arith, length-drop viewsWord ws));
+  clocks = length-take-le table_clocks (drop clocks_word ws) (omega (arith, length-drop clocks_word ws));
+  views = length-take-le table_clocks (drop views_word ws) (omega (arith, length-drop views_word ws));
 }

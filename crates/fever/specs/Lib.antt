@@ -1,6 +1,6 @@
 -- What the contracts of the exported functions cite.
 pub mod Layout
-pub mod Contracts
+pub mod Clauses
 pub mod Loads
 pub mod Traffic
 pub mod Carrying

@@ -1,7 +1,7 @@
 // Loads in lent words: the run that one starts from, and what it leaves.
 ghost use Rattle.std.specs.Prelude.{◌≡◌, cond, ◌≤◌, length};
-ghost use Rattle.fever.specs.Layout.{runLength, runIn};
-ghost use Rattle.fever.specs.Loads.{loadLength, runAfter, PutsBack};
+ghost use Rattle.fever.specs.Layout.{run_length, run_in};
+ghost use Rattle.fever.specs.Loads.{load_length, run_after, PutsBack};
 
 use crate::layout;
 use types::Run;
@@ -20,8 +20,8 @@ pub(crate) const STEP: usize = 3;
 
 // The run in the first 147 words.
 pub(crate) fn run_in(words: &[u64]) -> Run
-    requires { runLength ≤ length words.now }
-    ensures { result ≡ runIn words.now }
+    requires { run_length ≤ length words.now }
+    ensures { result ≡ run_in words.now }
 {
     let clocks = layout::table_in(words, layout::CLOCKS);
     let views = layout::table_in(words, layout::VIEWS);
@@ -40,8 +40,8 @@ fn full_as(full: bool) -> u64
 
 // The run that the bytes written led to, if there are any.
 fn put_back(words: &mut [u64], bytes: usize, run: Run)
-    requires { runLength ≤ length words.old }
-    ensures { words.new ≡ runAfter words.old bytes run }
+    requires { run_length ≤ length words.old }
+    ensures { words.new ≡ run_after words.old bytes run }
 {
     if bytes == 0 {
         return;
@@ -53,7 +53,7 @@ fn put_back(words: &mut [u64], bytes: usize, run: Run)
 
 // What a load left of the run's words and of its own, if it was not refused. Answers the check that refused it, or 0.
 pub(crate) fn put_load(run: &mut [u64], load: &mut [u64], made: Generated) -> u64
-    requires { (runLength ≤ length run.old) × (loadLength ≤ length load.old) }
+    requires { (run_length ≤ length run.old) × (load_length ≤ length load.old) }
     ensures { PutsBack made run.old load.old result run.new load.new }
 {
     if 0 < made.check {

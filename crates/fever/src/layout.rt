@@ -1,13 +1,13 @@
 // Setups, runs and what was read, from words and into words.
 ghost use Rattle.std.specs.Prelude.{◌≡◌, ◌+◌, ◌≤◌, length};
-ghost use Rattle.types.specs.Quantities.{tableClocks};
-ghost use Rattle.types.specs.Runs.{planIn};
-ghost use Rattle.model.specs.State.{run_from, head_of, checkOf};
-ghost use Rattle.lines.specs.Contracts.{eventReading, readCheck};
-ghost use Rattle.reader.specs.Lines.{openingOr};
+ghost use Rattle.types.specs.Quantities.{table_clocks};
+ghost use Rattle.types.specs.Runs.{plan_in};
+ghost use Rattle.model.specs.State.{run_from, head_of, check_of};
+ghost use Rattle.lines.specs.Clauses.{event_reading, read_check};
+ghost use Rattle.reader.specs.Lines.{opening_or};
 ghost use Rattle.writer.specs.Stamps.{Room, Stamped};
-ghost use Rattle.fever.specs.Layout.{tableIn, countsAt, setupLength, setupIn, runLength, runIn, runOver, readingLength};
-ghost use Rattle.fever.specs.Contracts.{runLeft, readingLeft};
+ghost use Rattle.fever.specs.Layout.{table_in, counts_at, setup_length, setup_in, run_length, run_in, run_over, reading_length};
+ghost use Rattle.fever.specs.Clauses.{run_left, reading_left};
 
 use types::{Answer, AppliedHead, Counts, Event, Head, Plan, Setup, Traffic};
 
@@ -48,8 +48,8 @@ const OPENING: u64 = 6;
 
 // The 64 words from a place on.
 pub(crate) fn table_in(words: &[u64], at: usize) -> [u64; 64]
-    requires { at + tableClocks ≤ length words.now }
-    ensures { result ≡ tableIn at words.now }
+    requires { at + table_clocks ≤ length words.now }
+    ensures { result ≡ table_in at words.now }
 {
     let mut table = [0; 64];
     let mut i = 0;
@@ -63,7 +63,7 @@ pub(crate) fn table_in(words: &[u64], at: usize) -> [u64; 64]
 // The plan of a run or a setup.
 fn plan_in(words: &[u64]) -> Plan
     requires { 5 ≤ length words.now }
-    ensures { result ≡ planIn words.now }
+    ensures { result ≡ plan_in words.now }
 {
     Plan {
         n: words[0],
@@ -76,8 +76,8 @@ fn plan_in(words: &[u64]) -> Plan
 
 // The setup in the first 70 words.
 pub(crate) fn setup_in(words: &[u64]) -> Setup
-    requires { setupLength ≤ length words.now }
-    ensures { result ≡ setupIn words.now }
+    requires { setup_length ≤ length words.now }
+    ensures { result ≡ setup_in words.now }
 {
     let plan = plan_in(words);
     let clocks = table_in(words, START_CLOCKS);
@@ -91,7 +91,7 @@ pub(crate) fn setup_in(words: &[u64]) -> Setup
 // Four words from a place on, by kind.
 fn counts_in(words: &[u64], at: usize) -> Counts
     requires { at + 4 ≤ length words.now }
-    ensures { result ≡ countsAt at words.now }
+    ensures { result ≡ counts_at at words.now }
 {
     Counts {
         views: words[at],
@@ -103,8 +103,8 @@ fn counts_in(words: &[u64], at: usize) -> Counts
 
 // The run in the first 147 words, but for its tables.
 pub(crate) fn head_in(words: &[u64]) -> Head
-    requires { runLength ≤ length words.now }
-    ensures { result ≡ head_of (runIn words.now) }
+    requires { run_length ≤ length words.now }
+    ensures { result ≡ head_of (run_in words.now) }
 {
     let plan = plan_in(words);
     Head {
@@ -144,8 +144,8 @@ fn own_table(table: &[u64; 64]) -> [u64; 64]
 
 // The first 147 words become those of the run whose tables are lent beside its head.
 pub(crate) fn put_run(words: &mut [u64], head: Head, clocks: &[u64; 64], views: &[u64; 64])
-    requires { runLength ≤ length words.old }
-    ensures { words.new ≡ runOver words.old (run_from head clocks.now views.now) }
+    requires { run_length ≤ length words.old }
+    ensures { words.new ≡ run_over words.old (run_from head clocks.now views.now) }
 {
     let numbers = [
         head.plan.n,
@@ -185,9 +185,9 @@ pub(crate) fn put_outcome(
     clocks: &[u64; 64],
     views: &[u64; 64],
 ) -> u64
-    requires { runLength ≤ length words.old }
-    ensures { (result ≡ checkOf outcome.answer) × (words.new ≡
-        runLeft words.old outcome.answer (run_from outcome.head clocks.now views.now)) }
+    requires { run_length ≤ length words.old }
+    ensures { (result ≡ check_of outcome.answer) × (words.new ≡
+        run_left words.old outcome.answer (run_from outcome.head clocks.now views.now)) }
 {
     let head = outcome.head;
     let answer = outcome.answer;
@@ -206,8 +206,8 @@ pub(crate) fn put_outcome(
 
 // The first 74 words become those of the line of an event.
 pub(crate) fn put_event(words: &mut [u64], event: Event) -> u64
-    requires { readingLength ≤ length words.old }
-    ensures { (result ≡ 0) × (words.new ≡ readingLeft words.old (eventReading event)) }
+    requires { reading_length ≤ length words.old }
+    ensures { (result ≡ 0) × (words.new ≡ reading_left words.old (event_reading event)) }
 {
     let numbers = words::numbers_of(event);
     let mut reading = [0u64; READING_WORDS];
@@ -221,8 +221,8 @@ pub(crate) fn put_event(words: &mut [u64], event: Event) -> u64
 
 // The first 74 words become those of the line of a setup; where it has no processors, the line was none of the forms. Answers the check, or 0.
 pub(crate) fn put_setup(words: &mut [u64], setup: Setup) -> u64
-    requires { readingLength ≤ length words.old }
-    ensures { (result ≡ readCheck (openingOr setup).read) × (words.new ≡ readingLeft words.old (openingOr setup)) }
+    requires { reading_length ≤ length words.old }
+    ensures { (result ≡ read_check (opening_or setup).read) × (words.new ≡ reading_left words.old (opening_or setup)) }
 {
     if setup.plan.n == 0 {
         return 1;

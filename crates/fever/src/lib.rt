@@ -6,9 +6,9 @@ mod reporting;
 mod steps;
 
 ghost use Rattle.std.specs.Prelude.{[], ◌∷◌};
-ghost use Rattle.types.specs.Runs.{planIn};
-ghost use Rattle.words.specs.Events.{eventOf};
-ghost use Rattle.fever.specs.Contracts.{lent_of, OpensWords, AppliesWords, AppliesEvents, move_of, StepsWords, ReadsWords, StandsFor, WritesEvent, WritesSetup};
+ghost use Rattle.types.specs.Runs.{plan_in};
+ghost use Rattle.words.specs.Events.{event_of};
+ghost use Rattle.fever.specs.Clauses.{lent_of, OpensWords, AppliesWords, AppliesEvents, move_of, StepsWords, ReadsWords, StandsFor, WritesEvent, WritesSetup};
 ghost use Rattle.fever.specs.Loads.{GeneratesWords, GeneratesMore};
 ghost use Rattle.fever.specs.Traffic.{ReportsTraffic};
 ghost use Rattle.fever.specs.Carrying.{CarriesWords};
@@ -111,7 +111,7 @@ pub extern "C" fn fever_step(
     input: u64,
     view: u64,
 ) -> u64
-    ensures { StepsWords (move_of (planIn (n ∷ delta ∷ gamma ∷ views ∷ k ∷ [])) input view processor.old) processor.old result processor.new }
+    ensures { StepsWords (move_of (plan_in (n ∷ delta ∷ gamma ∷ views ∷ k ∷ [])) input view processor.old) processor.old result processor.new }
 {
     let plan = Plan {
         n: n,
@@ -158,7 +158,7 @@ pub extern "C" fn fever_write_event(
     processor: u64,
     out: &mut [u8],
 ) -> u64
-    ensures { WritesEvent (eventOf form kind view processor) out.old result out.new }
+    ensures { WritesEvent (event_of form kind view processor) out.old result out.new }
 {
     let event = words::event_of(form, kind, view, processor);
     count_bytes(writer::write_event(event, out))

@@ -1,6 +1,6 @@
 // A run's traffic, into words.
 ghost use Rattle.std.specs.Prelude.{◌≡◌, ◌≤◌, length};
-ghost use Rattle.fever.specs.Traffic.{reportLength, calledReport, toldReport};
+ghost use Rattle.fever.specs.Traffic.{report_length, called_report, told_report};
 
 use crate::layout;
 use types::Totals;
@@ -9,8 +9,8 @@ pub(crate) const REPORT_WORDS: usize = 13;
 
 // The first 13 words become those of the report. Answers the check that refuses it, or 0.
 pub(crate) fn put_report(words: &mut [u64], totals: Totals) -> u64
-    requires { reportLength ≤ length words.old }
-    ensures { calledReport result words.new ≡ toldReport words.old totals }
+    requires { report_length ≤ length words.old }
+    ensures { called_report result words.new ≡ told_report words.old totals }
 {
     if 0 < totals.check {
         return totals.check;

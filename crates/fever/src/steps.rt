@@ -1,10 +1,10 @@
 // One event, and one processor's input, on lent words.
 ghost use Rattle.std.specs.Prelude.{◌≡◌, ℕ, ◌≤◌, length, get_or};
-ghost use Rattle.model.specs.Processors.{Gives, messagesOf, stepped};
+ghost use Rattle.model.specs.Processors.{Gives, messages_of, stepped};
 ghost use Rattle.model.specs.Events.{applied};
-ghost use Rattle.words.specs.Events.{eventAs};
-ghost use Rattle.fever.specs.Layout.{runLength, settledWord, recordLength, recordIn};
-ghost use Rattle.fever.specs.Contracts.{lent_of, lentState, called, told, move_of, StepsWords};
+ghost use Rattle.words.specs.Events.{event_as};
+ghost use Rattle.fever.specs.Layout.{run_length, settled_word, record_length, record_in};
+ghost use Rattle.fever.specs.Clauses.{lent_of, lent_state, called, told, move_of, StepsWords};
 
 use crate::layout;
 use pacemaker::Outcome;
@@ -20,9 +20,9 @@ pub(crate) fn apply_event(
     tally: &mut [u64],
     network: &mut [u64],
 ) -> u64
-    requires { (runLength ≤ length run.old) × (get_or run.old settledWord 0 ≤ 1) }
+    requires { (run_length ≤ length run.old) × (get_or run.old settled_word 0 ≤ 1) }
     ensures { called result (lent_of run.new tally.new network.new) ≡
-        told run.old (applied (eventAs numbers) (lentState (lent_of run.old tally.old network.old))) }
+        told run.old (applied (event_as numbers) (lent_state (lent_of run.old tally.old network.old))) }
 {
     let head = layout::head_in(run);
     let mut clocks = layout::table_in(run, layout::CLOCKS);
@@ -41,7 +41,7 @@ pub(crate) fn apply_event(
 
 // How many messages a processor sends.
 fn count_sent(sends: Sends) -> u64
-    ensures { (p : ℕ) → result ≡ length (messagesOf p sends) }
+    ensures { (p : ℕ) → result ≡ length (messages_of p sends) }
 {
     match sends {
         Sends::Nothing => 0,
@@ -52,8 +52,8 @@ fn count_sent(sends: Sends) -> u64
 
 // One processor's record.
 fn record_in(words: &[u64]) -> Processor
-    requires { recordLength ≤ length words.now }
-    ensures { result ≡ recordIn words.now }
+    requires { record_length ≤ length words.now }
+    ensures { result ≡ record_in words.now }
 {
     Processor {
         number: words[0],
@@ -76,8 +76,8 @@ fn step_own(plan: Plan, processor: Processor, input: Input) -> Outcome
 
 // The record takes an input.
 fn take_input(plan: Plan, words: &mut [u64], input: Input) -> u64
-    requires { recordLength ≤ length words.old }
-    ensures { StepsWords (stepped plan (recordIn words.old) input) words.old result words.new }
+    requires { record_length ≤ length words.old }
+    ensures { StepsWords (stepped plan (record_in words.old) input) words.old result words.new }
 {
     let outcome = step_own(plan, record_in(words), input);
     let next = outcome.processor;

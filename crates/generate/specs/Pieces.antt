@@ -1,30 +1,30 @@
 -- How the program writes a load, but for the writing: in pieces, each with the same lent bytes, and each from where the last one stands.
 use Rattle.std.specs.Prelude.{ℕ, zero, suc, ◌+◌, ◌*◌, ◌≤◌, ◌<◌, ◌≡◌, true, false, List}
 use Rattle.types.specs.declared.Setup.{Setup}
-use Rattle.model.specs.State.{State, state_of, checkOf}
+use Rattle.model.specs.State.{State, state_of, check_of}
 use Rattle.model.specs.Opening.{opening}
-use Rattle.lines.specs.Promises.{formMost}
+use Rattle.lines.specs.Promises.{form_most}
 use Rattle.printout.specs.Printout.{at_start}
-use Rattle.loads.specs.Loads.{Point, point_of, Load, furtherLoad, wholeLoad}
+use Rattle.loads.specs.Loads.{Point, point_of, Load, further_load, whole_load}
 use Rattle.workload.specs.declared.Generated.{Generated}
 use Rattle.generate.specs.declared.pieces.WrittenLoad.{WrittenLoad}
 
 -- no run, and words of 0, as many as the simulate program lends
-abbrev pub startState : State
-startState = at_start.state
+abbrev pub start_state : State
+start_state = at_start.state
 
 -- the check that refuses the opening there, or 0
-abbrev pub startCheck : Setup → ℕ
-startCheck u = checkOf (opening u startState).answer
+abbrev pub start_check : Setup → ℕ
+start_check u = check_of (opening u start_state).answer
 
 -- so many bytes hold two lines of any form
-abbrev pub pieceLeast : ℕ
-pieceLeast = 2 * (formMost + 1)
+abbrev pub piece_least : ℕ
+piece_least = 2 * (form_most + 1)
 
 -- the pieces of a load, counted from 0: the first one, and each further one from where the one before it ended
 unfoldable pub piece : ℕ → ℕ → ℕ → Load → ℕ → Load
 piece steps settle room first zero = first
-piece steps settle room first (suc k) = furtherLoad steps settle (piece steps settle room first k).point room
+piece steps settle room first (suc k) = further_load steps settle (piece steps settle room first k).point room
 
 -- where r and the lent words stand
 abbrev pub stood : Generated → List ℕ → List ℕ → Point
@@ -52,13 +52,13 @@ Resumes steps settle room tally network f tally' network' r = (first : Load) →
 
 -- that the whole load was, from the program's start, and its opening answered
 pub record WritesWhole (u : Setup) (steps settle seed room : ℕ) (tally network : List ℕ) (r : WrittenLoad) : Type 0 where
-  pub check : r.check ≡ startCheck u
-  pub load : Completes steps settle room (wholeLoad u startState steps settle seed room) tally network r.last
+  pub check : r.check ≡ start_check u
+  pub load : Completes steps settle room (whole_load u start_state steps settle seed room) tally network r.last
 
 -- the same, with as many bytes for each piece as hold two lines, and with whatever is left in the lent words
 pub record ProgramWrites (u : Setup) (steps settle seed : ℕ) (r : WrittenLoad) : Type 0 where
   pub room : ℕ
-  pub least : pieceLeast ≤ room
+  pub least : piece_least ≤ room
   pub tally : List ℕ
   pub network : List ℕ
   pub whole : WritesWhole u steps settle seed room tally network r

@@ -1,7 +1,7 @@
 // Writing a load of any length: piece by piece, with the same lent bytes for each. What a piece says is the workload's; here bytes are moved.
 ghost use Rattle.std.specs.Prelude.{◌≡◌, ◌≤◌, length, replicate};
-ghost use Rattle.printout.specs.Printout.{tallyLent, networkLent};
-ghost use Rattle.generate.specs.Pieces.{pieceLeast, Resumes, WritesWhole, ProgramWrites};
+ghost use Rattle.printout.specs.Printout.{tally_lent, network_lent};
+ghost use Rattle.generate.specs.Pieces.{piece_least, Resumes, WritesWhole, ProgramWrites};
 
 use printout::Session;
 use types::Setup;
@@ -24,7 +24,7 @@ fn write_rest(
     out: &mut [u8],
     to: i32,
 ) -> Generated
-    requires { pieceLeast ≤ length out.old }
+    requires { piece_least ≤ length out.old }
     ensures { Resumes steps settle (length out.old) tally.old network.old first tally.new network.new result }
 {
     let mut last = first;
@@ -54,7 +54,7 @@ fn write_load(
     out: &mut [u8],
     to: i32,
 ) -> WrittenLoad
-    requires { (tally.old ≡ replicate tallyLent 0) × (network.old ≡ replicate networkLent 0) × (pieceLeast ≤ length out.old) }
+    requires { (tally.old ≡ replicate tally_lent 0) × (network.old ≡ replicate network_lent 0) × (piece_least ≤ length out.old) }
     ensures { WritesWhole setup steps settle seed (length out.old) tally.new network.new result }
 {
     let blank = Session::unopened();

@@ -5,15 +5,15 @@ use Rattle.base.specs.Tests.{T-left, T-right, T_true}
 use Rattle.base.specs.ScanLaws.{some-none}
 use Rattle.types.specs.declared.Run.{Run}
 use Rattle.types.specs.declared.Answer.TheVariants.{Done}
-use Rattle.types.specs.Quantities.{endTime}
-use Rattle.types.specs.Traffic.{countsMore}
-use Rattle.model.specs.State.{State, After, with_run, withNetwork, withHeld, withTime, withClocks, clockOf, view_of, isCorrect, roomIn, checkOf, refused}
-use Rattle.model.specs.Moves.{Change, changed, still, also, Entry, stay, byClock, entries, taking, advanced, arrival, arrivals, made}
-use Rattle.model.specs.Checks.{atEnd, overdue, reachesEnd, overfull}
-use Rattle.model.specs.Events.{tickOnce, Ticks, continued, ticks}
-use Rattle.liveness.proofs.Link.{correct-below}
-use Rattle.liveness.proofs.TickLaws.{clock-up}
-use Rattle.liveness.specs.Promises.{countedFrom}
+use Rattle.types.specs.Quantities.{end_time}
+use Rattle.types.specs.Traffic.{counts_more}
+use Rattle.model.specs.State.{State, After, with_run, with_network, with_held, with_time, with_clocks, clock_of, view_of, is_correct, room_in, check_of, refused}
+use Rattle.model.specs.Moves.{Change, changed, still, also, Entry, stay, by_clock, entries, taking, advanced, arrival, arrivals, made}
+use Rattle.model.specs.Checks.{at_end, overdue, reaches_end, overfull}
+use Rattle.model.specs.Events.{tick_once, Ticks, continued, ticks}
+use Rattle.liveness.proofs.Link.{correct_below}
+use Rattle.liveness.proofs.TickLaws.{clock_up}
+use Rattle.liveness.specs.Promises.{counted_from}
 use Rattle.liveness.proofs.Promises.{ticks-add}
 use Rattle.buffers.specs.WordLaws.{posted-none}
 use Rattle.pacemaker.proofs.TickLaws.{no-arrival}
@@ -23,8 +23,8 @@ use Rattle.leaps.proofs.Resting.{clock-inside, next_small, from_view}
 
 -- a change that moves nothing and sends nothing leaves all as it is
 pub still-made : (s : State) → s ≡ made s (still s.run s.tally)
-unfolding made countsMore
-still-made s = ap₂ (λ (h : ℕ) (ws : List ℕ). with_run (withHeld h s.run) (withNetwork ws s)) (sym (add-zero s.run.held))
+unfolding made counts_more
+still-made s = ap₂ (λ (h : ℕ) (ws : List ℕ). with_run (with_held h s.run) (with_network ws s)) (sym (add-zero s.run.held))
     (posted-none s.form s.network s.run.held s.run.time)
 
 -- ---- one quiet tick
@@ -35,51 +35,51 @@ entries_none e r t zero h = refl
 entries_none e r t (suc k) h =
     ap₂ (λ (c : Change) (x : Entry). also c (taking (changed r c) c.tally k x)) (entries_none e r t k (λ p l. h p (omega arith))) (h k (omega arith))
 
-module _ (s : State) (steady : Steady s.run) (room : s.run.held ≤ roomIn s) (rests : NoneArrives s.run 1) (waits : overdue s ≡ false) where
+module _ (s : State) (steady : Steady s.run) (room : s.run.held ≤ room_in s) (rests : NoneArrives s.run 1) (waits : overdue s ≡ false) where
   abbrev r : Run
   r = s.run
 
   none-enters : (p : ℕ) → p < r.plan.n → arrival (advanced s).run p ≡ stay
-  none-enters p l = go (isCorrect r p) refl
+  none-enters p l = go (is_correct r p) refl
     where
-      go : (b : Bool) → isCorrect r p ≡ b → cond b (byClock r.plan (clockOf (advanced s).run p)) stay ≡ stay
-      go true c = ap (byClock r.plan) (clock-up r r.plan.n p steady.clocks l (rw c tt))
-          ∙ no-arrival r.plan (clockOf r p) (view_of r p) (from_view r.plan steady.plan (clockOf r p) (view_of r p) (steady.inside p c)) (rests p c)
+      go : (b : Bool) → is_correct r p ≡ b → cond b (by_clock r.plan (clock_of (advanced s).run p)) stay ≡ stay
+      go true c = ap (by_clock r.plan) (clock_up r r.plan.n p steady.clocks l (rw c tt))
+          ∙ no-arrival r.plan (clock_of r p) (view_of r p) (from_view r.plan steady.plan (clock_of r p) (view_of r p) (steady.inside p c)) (rests p c)
       go false c = refl
 
   nothing : arrivals (advanced s) ≡ still (advanced s).run s.tally
   unfolding arrivals
   nothing = entries_none (arrival (advanced s).run) (advanced s).run s.tally r.plan.n none-enters
 
-  none-ends : reachesEnd (advanced s).run (still (advanced s).run s.tally) ≡ false
-  unfolding reachesEnd
-  none-ends = some-none (λ p. isCorrect r p && atEnd r.plan (clockOf (advanced s).run p)) r.plan.n (λ p l t.
-      let c : isCorrect r p ≡ true = T_true (isCorrect r p) (T-left (isCorrect r p) (atEnd r.plan (clockOf (advanced s).run p)) t) in
-      let e : endTime r.plan ≤ clockOf (advanced s).run p = leb→le _ _ (T-right (isCorrect r p) (atEnd r.plan (clockOf (advanced s).run p)) t) in
+  none-ends : reaches_end (advanced s).run (still (advanced s).run s.tally) ≡ false
+  unfolding reaches_end
+  none-ends = some-none (λ p. is_correct r p && at_end r.plan (clock_of (advanced s).run p)) r.plan.n (λ p l t.
+      let c : is_correct r p ≡ true = T_true (is_correct r p) (T-left (is_correct r p) (at_end r.plan (clock_of (advanced s).run p)) t) in
+      let e : end_time r.plan ≤ clock_of (advanced s).run p = leb→le _ _ (T-right (is_correct r p) (at_end r.plan (clock_of (advanced s).run p)) t) in
       omega (
         arith,
-        clock-up r r.plan.n p steady.clocks l (rw c tt),
+        clock_up r r.plan.n p steady.clocks l (rw c tt),
         rests p c,
-        next_small r.plan steady.plan (clockOf r p) (view_of r p) (steady.inside p c),
+        next_small r.plan steady.plan (clock_of r p) (view_of r p) (steady.inside p c),
       ))
 
-  quiet-tick : tickOnce s ≡ record { state = advanced s; answer = Done 1 r.held }
-  unfolding tickOnce overdue
+  quiet-tick : tick_once s ≡ record { state = advanced s; answer = Done 1 r.held }
+  unfolding tick_once overdue
   quiet-tick =
-      let fits : r.held + 0 ≤ roomIn s = omega (arith, room) in
+      let fits : r.held + 0 ≤ room_in s = omega (arith, room) in
       let to : Change → After = λ c. record { state = made (advanced s) c; answer = Done 1 (made (advanced s) c).run.held } in
       sym (ap (λ (y : State). record { state = y; answer = Done 1 y.run.held }) (still-made (advanced s))
       ∙ ap to (sym nothing)
       ∙ cond_no (overdue s) (to (arrivals (advanced s))) (refused s 16) _ waits
-      (cond_no (reachesEnd (advanced s).run (arrivals (advanced s))) (to (arrivals (advanced s))) (refused s 17) _
-      (ap (reachesEnd (advanced s).run) nothing ∙ none-ends)
+      (cond_no (reaches_end (advanced s).run (arrivals (advanced s))) (to (arrivals (advanced s))) (refused s 17) _
+      (ap (reaches_end (advanced s).run) nothing ∙ none-ends)
       (cond_no (overfull (advanced s) (arrivals (advanced s))) (to (arrivals (advanced s))) (refused s 18) _
       (ap (λ (c : Change). overfull (advanced s) c) nothing ∙ le-ltb _ _ fits) refl)))
 
 -- ---- several
 
 later-none : (s : State) → later s 0 ≡ s
-later-none s = ap₂ (λ (t : ℕ) (c : List ℕ). with_run (withTime t (withClocks c s.run)) s)
+later-none s = ap₂ (λ (t : ℕ) (c : List ℕ). with_run (with_time t (with_clocks c s.run)) s)
     (add-zero s.run.time) (by-none s.run.plan s.run.faulty s.run.clocks s.run.plan.n)
 
 -- some ticks being let pass, no message is late now
@@ -90,13 +90,13 @@ module _ (s : State) (steady : Steady s.run) where
   later_more : (d : ℕ) → advanced (later s d) ≡ later s (suc d)
   later_more d =
       let t : s.run.time + d + 1 ≡ s.run.time + suc d = omega arith in
-      ap₂ (λ (t : ℕ) (c : List ℕ). with_run (withTime t (withClocks c s.run)) s)
+      ap₂ (λ (t : ℕ) (c : List ℕ). with_run (with_time t (with_clocks c s.run)) s)
       t (on-by (leapt s.run d) s.run.plan.n ∙ by-then s.run.plan s.run.faulty s.run.clocks d s.run.plan.n steady.clocks)
 
   -- every correct clock has gone on by as much
-  pub clock-later : (d p : ℕ) → isCorrect s.run p ≡ true → clockOf (later s d).run p ≡ clockOf s.run p + d
+  pub clock-later : (d p : ℕ) → is_correct s.run p ≡ true → clock_of (later s d).run p ≡ clock_of s.run p + d
   clock-later d p c = by-goes s.run.plan s.run.faulty s.run.clocks (more d) s.run.plan.n p steady.clocks
-      (correct-below s.run.plan s.run.faulty p (rw c tt)) c
+      (correct_below s.run.plan s.run.faulty p (rw c tt)) c
 
   -- and while none arrives the run stays steady
   pub steady-later : (d : ℕ) → NoneArrives s.run d → Steady (later s d).run
@@ -105,9 +105,9 @@ module _ (s : State) (steady : Steady s.run) where
     inside = λ p c.
         let i = steady.inside p c in
         let e = clock-later d p c in
-        clock-inside s.run.plan (clockOf (later s d).run p) (view_of s.run p)
-        (omega (arith, e, rests p c, next_small s.run.plan steady.plan (clockOf s.run p) (view_of s.run p) i))
-        (omega (arith, e, from_view s.run.plan steady.plan (clockOf s.run p) (view_of s.run p) i))
+        clock-inside s.run.plan (clock_of (later s d).run p) (view_of s.run p)
+        (omega (arith, e, rests p c, next_small s.run.plan steady.plan (clock_of s.run p) (view_of s.run p) i))
+        (omega (arith, e, from_view s.run.plan steady.plan (clock_of s.run p) (view_of s.run p) i))
         (omega (arith, e, rests p c));
     clocks = omega (arith, steady.clocks, length-by s.run.plan s.run.faulty s.run.clocks (more d) s.run.plan.n);
     views = steady.views;
@@ -119,12 +119,12 @@ quiet-ticks-add s zero steady room q = ap (λ (y : State). record { state = y; c
 quiet-ticks-add s (suc d) steady room q =
     go (quiet-ticks-add s d steady room (record { waits = λ j l. q.waits j (omega arith); rests = λ p c. omega (arith, q.rests p c) }))
   where
-    one : tickOnce (later s d) ≡ record { state = advanced (later s d); answer = Done 1 s.run.held }
+    one : tick_once (later s d) ≡ record { state = advanced (later s d); answer = Done 1 s.run.held }
     one = quiet-tick (later s d) (steady-later s steady d (λ p c. omega (arith, q.rests p c))) room
         (λ p c. omega (arith, q.rests p c, clock-later s steady d p c)) (q.waits d (omega arith))
 
     go : ticks d s ≡ record { state = later s d; count = d; check = 0 } → ticks (suc d) s ≡ record { state = later s (suc d); count = suc d; check = 0 }
     go e = ap (λ (k : ℕ). ticks k s) (sym (add-one d)) ∙ (ticks-add d 1 s).0 (ap (λ (t : Ticks). t.check) e)
-        ∙ ap (λ (t : Ticks). countedFrom d (ticks 1 t.state)) e
-        ∙ ap (λ (a : After). countedFrom d (continued (later s d) (checkOf a.answer) (ticks 0 a.state))) one
+        ∙ ap (λ (t : Ticks). counted_from d (ticks 1 t.state)) e
+        ∙ ap (λ (a : After). counted_from d (continued (later s d) (check_of a.answer) (ticks 0 a.state))) one
         ∙ ap₂ (λ (y : State) (k : ℕ). record { state = y; count = k; check = 0 }) (later_more s steady d) (add-one d)

@@ -7,7 +7,7 @@ use Rattle.base.specs.ScanLaws.{some-start, some-on, some-here, some-by, some-gi
 use Rattle.types.specs.declared.Run.{Run}
 use Rattle.types.specs.declared.Form.TheVariants.{Packed}
 use Rattle.model.specs.State.{State, state_of, held_at}
-use Rattle.model.specs.Checks.{late, overdue, lateAt}
+use Rattle.model.specs.Checks.{late, overdue, late_at}
 use Rattle.leaps.specs.Leaps.{WaitsFor, WaitsForAll, Waits}
 
 -- one that passed is enough later too
@@ -53,10 +53,10 @@ module _ (gst delta time : ℕ) (ws : List ℕ) (most : ℕ) where
   pub waits-more : (k w r : ℕ) → WaitsForAll gst delta time ws k most w → WaitsFor gst delta time (held_at Packed ws k).sent w r → WaitsForAll gst delta time ws (k + 1) most r
   waits-more k w r x y = record {
     few = omega (arith, x.few, y.few);
-    quiet = λ j l. some-on (lateAt gst delta (time + j) Packed ws) k (x.quiet j (omega (arith, y.few))) (y.quiet j l);
+    quiet = λ j l. some-on (late_at gst delta (time + j) Packed ws) k (x.quiet j (omega (arith, y.few))) (y.quiet j l);
     ends = λ z l. ⊎_elim
-        (λ (e : w ≤ 0). some-still (lateAt gst delta time Packed ws) k (x.ends (omega arith) l))
-        (λ (e : 0 < w). some-here (lateAt gst delta time Packed ws) (k + 1) k (omega arith) (y.ends z e))
+        (λ (e : w ≤ 0). some-still (late_at gst delta time Packed ws) k (x.ends (omega arith) l))
+        (λ (e : 0 < w). some-here (late_at gst delta time Packed ws) (k + 1) k (omega arith) (y.ends z e))
         (le? w 0);
   }
 

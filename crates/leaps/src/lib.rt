@@ -2,7 +2,7 @@
 ghost use Rattle.std.specs.Prelude.{◌≡◌, ℕ, min, max, List, if◌then◌else◌};
 ghost use Rattle.types.specs.Quantities.{correct};
 ghost use Rattle.model.specs.State.{state_of, run_from};
-ghost use Rattle.leaps.specs.Leaps.{WaitsFor, WaitsForAll, Waits, restFor, rest, moreWord, leaptWord};
+ghost use Rattle.leaps.specs.Leaps.{WaitsFor, WaitsForAll, Waits, rest_for, rest, more_word, leapt_word};
 
 use types::{Form, Head, Plan, Processor};
 
@@ -79,7 +79,7 @@ pub fn wait(head: Head, network: &[u64], most: u64) -> u64
 
 // How many ticks, up to so many, keep a processor's clock before the next initial view's clock time, if it is correct.
 fn rest_for(plan: Plan, faulty: u64, processor: Processor, most: u64) -> u64
-    ensures { result ≡ restFor plan faulty processor.number processor.clock processor.view most }
+    ensures { result ≡ rest_for plan faulty processor.number processor.clock processor.view most }
 {
     if plan.correct(faulty, processor.number) {
         let arrival = plan.arrival(processor.view);
@@ -120,7 +120,7 @@ pub fn rest(head: Head, clocks: &[u64], views: &[u64], most: u64) -> u64
 
 // The clock of q so many ticks later: that of a faulty one stays.
 fn go_on(plan: Plan, faulty: u64, q: u64, clock: u64, count: u64) -> u64
-    ensures { result ≡ (if correct plan faulty q then moreWord count clock else clock) }
+    ensures { result ≡ (if correct plan faulty q then more_word count clock else clock) }
 {
     if plan.correct(faulty, q) {
         return std::num::wrapping_add_u64(clock, count);
@@ -130,7 +130,7 @@ fn go_on(plan: Plan, faulty: u64, q: u64, clock: u64, count: u64) -> u64
 
 // So many quiet ticks: time and every correct clock go on, and nothing else changes.
 pub fn leap(head: Head, count: u64, clocks: &mut [u64; 64]) -> Head
-    ensures { (views : List ℕ) → run_from result clocks.new views ≡ leaptWord (run_from head clocks.old views) count }
+    ensures { (views : List ℕ) → run_from result clocks.new views ≡ leapt_word (run_from head clocks.old views) count }
 {
     let n = least(head.plan.n, Plan::N_MOST);
     let mut q = 0;

@@ -11,7 +11,7 @@ use borrow.Rule.Slice.PartMut.{mid_of, put_mid, Post-is}
 use borrow.Author.Tests.{lt-ltb, le-ltb}
 use Rattle.lines.specs.declared.Written.{Written}
 use Rattle.lines.specs.declared.Written.TheVariants.{Bytes, Refused}
-use Rattle.lines.specs.Contracts.{line, Writes, writtenAs, writtenIn, Put, Prints}
+use Rattle.lines.specs.Clauses.{line, Writes, written_as, written_in, Put, Prints}
 
 -- ---- one text behind another
 
@@ -51,7 +51,7 @@ put-part {v} {w} {out} {e} {f} {k} {m} a h b =
 
 pub room-written : (form out after : List ℕ) (r : Written) → Writes false form out r after → length (line form) ≤ length out
     → (r ≡ Bytes (length (line form))) × (after ≡ line form ++ drop (length (line form)) out)
-unfolding writtenAs writtenIn
+unfolding written_as written_in
 room-written form out after r w h =
     let n : ltb (length out) (length (line form)) ≡ false = le-ltb _ _ h in (rw n at w.0, rw n at w.1)
 
@@ -70,7 +70,7 @@ never-refused form out after r c w h e =
 
 -- where it has no room
 pub few-written : (form out after : List ℕ) (r : Written) → Writes false form out r after → length out < length (line form) → (r ≡ Refused 1) × (after ≡ out)
-unfolding writtenAs writtenIn
+unfolding written_as written_in
 few-written form out after r w h = let y : ltb (length out) (length (line form)) ≡ true = lt-ltb _ _ h in (rw y at w.0, rw y at w.1)
 
 -- ---- a text printed, or refused for too few bytes

@@ -14,9 +14,9 @@ use Rattle.base.specs.Scan.{some}
 use Rattle.base.specs.ScanLaws.{some-not}
 use Rattle.base.specs.Tests.{fails, not-not}
 use Rattle.lines.specs.Forms.{newline}
-use Rattle.lines.specs.Splitting.{beforeNewline}
-use Rattle.lines.specs.Search.{word_bytes, bytesIn, someNewline}
-use Rattle.lines.specs.Inner.{newlineBits}
+use Rattle.lines.specs.Splitting.{before_newline}
+use Rattle.lines.specs.Search.{word_bytes, bytes_in, some_newline}
+use Rattle.lines.specs.Inner.{newline_bits}
 
 -- a byte k times
 abbrev pub each : ℕ → ℕ → ℕ
@@ -66,14 +66,14 @@ lowest-marked n low w b l =
     ∙ ap (λ (z : ℕ). bit_or z (low * 256 + 127)) or
     ∙ or_block 8 (bit_or (bit_and x low + low) x) low (bit_or (bit_and y 127 + 127) y) 127 (or_lt 8 (bit_and y 127 + 127) y (low_sum y) yl) (omega arith)
 
-all-marked : (k w : ℕ) → w ≤ each 255 k → marked (each newline k) (each 127 k) w + newlineBits (bytesIn k w) ≡ each 255 k
-unfolding bytesIn newlineBits
+all-marked : (k w : ℕ) → w ≤ each 255 k → marked (each newline k) (each 127 k) w + newline_bits (bytes_in k w) ≡ each 255 k
+unfolding bytes_in newline_bits
 all-marked zero w l = let e : w ≡ 0 = omega arith in ap (λ (z : ℕ). marked 0 0 z + 0) e
 all-marked (suc k) w l =
     let b : w % 256 < 256 = omega arith in
     let h : w / 256 ≤ each 255 k = omega arith in
     let m : ℕ = marked (each newline k) (each 127 k) (w / 256) in
-    let n : ℕ = newlineBits (bytesIn k (w / 256)) in
+    let n : ℕ = newline_bits (bytes_in k (w / 256)) in
     let s : m * 256 + marked newline 127 (w % 256) + (n * 256 + bit_of (w % 256)) ≡ each 255 k * 256 + 255 =
     omega (arith, byte-marked (w % 256) b, all-marked k (w / 256) h)
     in
@@ -85,20 +85,20 @@ all-marked (suc k) w l =
 pub low_sums : (x : ℕ) → bit_and x (each 127 word_bytes) + each 127 word_bytes < 2 ^ 64
 low_sums x = omega (arith, and_le_r x (each 127 word_bytes))
 
-pub word-bits : (w : ℕ) → w ≤ each 255 word_bytes → each 255 word_bytes - marked (each newline word_bytes) (each 127 word_bytes) w ≡ newlineBits (bytesIn word_bytes w)
+pub word-bits : (w : ℕ) → w ≤ each 255 word_bytes → each 255 word_bytes - marked (each newline word_bytes) (each 127 word_bytes) w ≡ newline_bits (bytes_in word_bytes w)
 word-bits w l = omega (arith, all-marked word_bytes w l)
 
 -- ---- what the bits say
 
-pub bits-some : (s : List ℕ) → not (eqb (newlineBits s) 0) ≡ someNewline s
-unfolding newlineBits someNewline
+pub bits-some : (s : List ℕ) → not (eqb (newline_bits s) 0) ≡ some_newline s
+unfolding newline_bits some_newline
 bits-some [] = refl
-bits-some (b ∷ s) = go (eqb b newline) (eqb (newlineBits s) 0) refl (bits-some s)
+bits-some (b ∷ s) = go (eqb b newline) (eqb (newline_bits s) 0) refl (bits-some s)
   where
-    go : (t d : Bool) → eqb (newlineBits s) 0 ≡ d → not d ≡ someNewline s → not (eqb (newlineBits s * 256 + cond t 128 0) 0) ≡ (t || someNewline s)
-    go true d q h = let n : newlineBits s * 256 + 128 ≢ 0 = λ z. omega arith in ap not (ne_eqb _ _ n)
-    go false true q h = let e : newlineBits s * 256 + 0 ≡ 0 = omega (arith, eqb-true (newlineBits s) 0 q) in ap not (eq-eqb _ _ e) ∙ h
-    go false false q h = let n : newlineBits s * 256 + 0 ≢ 0 = λ z. eqb-false (newlineBits s) 0 q (omega arith) in ap not (ne_eqb _ _ n) ∙ h
+    go : (t d : Bool) → eqb (newline_bits s) 0 ≡ d → not d ≡ some_newline s → not (eqb (newline_bits s * 256 + cond t 128 0) 0) ≡ (t || some_newline s)
+    go true d q h = let n : newline_bits s * 256 + 128 ≢ 0 = λ z. omega arith in ap not (ne_eqb _ _ n)
+    go false true q h = let e : newline_bits s * 256 + 0 ≡ 0 = omega (arith, eqb-true (newline_bits s) 0 q) in ap not (eq-eqb _ _ e) ∙ h
+    go false false q h = let n : newline_bits s * 256 + 0 ≢ 0 = λ z. eqb-false (newline_bits s) 0 q (omega arith) in ap not (ne_eqb _ _ n) ∙ h
 
 -- ---- the first of them
 
@@ -123,18 +123,18 @@ abbrev pub bits_of : List ℕ → ℕ
 bits_of [] = 0
 bits_of (b ∷ s) = up 8 (bits_of s)
 
-pub bits-first : (s : List ℕ) → count_trailing_zeros (bits_of s) (newlineBits s) / 8 ≡ beforeNewline s
-unfolding newlineBits beforeNewline
+pub bits-first : (s : List ℕ) → count_trailing_zeros (bits_of s) (newline_bits s) / 8 ≡ before_newline s
+unfolding newline_bits before_newline
 bits-first [] = ap (λ (z : ℕ). z / 8) (trailing_of_zero 0)
 bits-first (b ∷ s) = go (eqb b newline) (bits-first s)
   where
-    go : (t : Bool) → count_trailing_zeros (bits_of s) (newlineBits s) / 8 ≡ beforeNewline s
-        → count_trailing_zeros (up 8 (bits_of s)) (newlineBits s * 256 + cond t 128 0) / 8 ≡ cond t 0 (suc (beforeNewline s))
+    go : (t : Bool) → count_trailing_zeros (bits_of s) (newline_bits s) / 8 ≡ before_newline s
+        → count_trailing_zeros (up 8 (bits_of s)) (newline_bits s * 256 + cond t 128 0) / 8 ≡ cond t 0 (suc (before_newline s))
     go true h =
-        let e : newlineBits s * 256 + 128 ≡ (newlineBits s * 2 + 1) * 2 ^ 7 = omega arith in
+        let e : newline_bits s * 256 + 128 ≡ (newline_bits s * 2 + 1) * 2 ^ 7 = omega arith in
         ap (λ (z : ℕ). count_trailing_zeros (up 8 (bits_of s)) z / 8) e
-        ∙ ap (λ (z : ℕ). z / 8) (shift 7 (suc (bits_of s)) (newlineBits s * 2 + 1) ∙ ap (up 7) (odd (bits_of s) (newlineBits s)))
+        ∙ ap (λ (z : ℕ). z / 8) (shift 7 (suc (bits_of s)) (newline_bits s * 2 + 1) ∙ ap (up 7) (odd (bits_of s) (newline_bits s)))
     go false h =
-        let e : newlineBits s * 256 + 0 ≡ newlineBits s * 2 ^ 8 = omega arith in
-        let d : up 8 (count_trailing_zeros (bits_of s) (newlineBits s)) / 8 ≡ suc (beforeNewline s) = omega (arith, h) in
-        ap (λ (z : ℕ). count_trailing_zeros (up 8 (bits_of s)) z / 8) e ∙ ap (λ (z : ℕ). z / 8) (shift 8 (bits_of s) (newlineBits s)) ∙ d
+        let e : newline_bits s * 256 + 0 ≡ newline_bits s * 2 ^ 8 = omega arith in
+        let d : up 8 (count_trailing_zeros (bits_of s) (newline_bits s)) / 8 ≡ suc (before_newline s) = omega (arith, h) in
+        ap (λ (z : ℕ). count_trailing_zeros (up 8 (bits_of s)) z / 8) e ∙ ap (λ (z : ℕ). z / 8) (shift 8 (bits_of s) (newline_bits s)) ∙ d

@@ -6,13 +6,13 @@ abbrev pub digit : ℕ → ℕ
 digit d = 48 + d
 
 -- the digits of a number that has at most k + 1 of them: below 10 one, else those of its tenth part and then the last
-abbrev pub digitsIn : ℕ → ℕ → List ℕ
-digitsIn zero n = digit n ∷ []
-digitsIn (suc k) n = cond (ltb n 10) (digit n ∷ []) (digitsIn k (n / 10) ++ (digit (n % 10) ∷ []))
+abbrev pub digits_in : ℕ → ℕ → List ℕ
+digits_in zero n = digit n ∷ []
+digits_in (suc k) n = cond (ltb n 10) (digit n ∷ []) (digits_in k (n / 10) ++ (digit (n % 10) ∷ []))
 
 -- "below 2^64": such a number has at most twenty
-abbrev pub fieldLimit : ℕ
-fieldLimit = 2 ^ 64
+abbrev pub field_limit : ℕ
+field_limit = 2 ^ 64
 
 unfoldable pub decimal : ℕ → List ℕ
-decimal n = digitsIn 19 n
+decimal n = digits_in 19 n

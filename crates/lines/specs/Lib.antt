@@ -2,7 +2,7 @@
 pub mod Decimal
 pub mod Forms
 pub mod Printout
-pub mod Contracts
+pub mod Clauses
 pub mod Splitting
 pub mod Search
 pub mod Inner

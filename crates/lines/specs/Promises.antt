@@ -6,16 +6,16 @@ use Rattle.types.specs.declared.Answer.{Answer}
 use Rattle.types.specs.declared.Event.{Event}
 use Rattle.types.specs.declared.Setup.{Setup}
 use Rattle.types.specs.declared.Totals.{Totals}
-use Rattle.types.specs.Quantities.{tableClocks}
-use Rattle.types.specs.Runs.{setupWith, usualNumbers, usualPlanIn}
+use Rattle.types.specs.Quantities.{table_clocks}
+use Rattle.types.specs.Runs.{setup_with, usual_numbers, usual_plan_in}
 use Rattle.lines.specs.declared.Next.{Next}
 use Rattle.lines.specs.declared.Next.TheVariants.{Line, Long, Unfinished, Endless}
-use Rattle.lines.specs.Forms.{newline, setupForm, usualForm, lacksSetupForm, setupFields, Below, EventLine, SetupLine, trimmed}
-use Rattle.lines.specs.Printout.{answerForm, processorForm, printedMost, totalsText, totalsMost}
+use Rattle.lines.specs.Forms.{newline, setup_form, usual_form, lacks_setup_form, setup_fields, Below, EventLine, SetupLine, trimmed}
+use Rattle.lines.specs.Printout.{answer_form, processor_form, printed_most, totals_text, totals_most}
 use Rattle.lines.specs.declared.Written.{Written}
-use Rattle.lines.specs.Contracts.{Reading, eventReading, openingReading, readCheck, Reads, line, Writes, writtenCheck}
+use Rattle.lines.specs.Clauses.{Reading, event_reading, opening_reading, read_check, Reads, line, Writes, written_check}
 use Rattle.lines.specs.Search.{word_bytes, reported}
-use Rattle.lines.specs.Splitting.{lineMost, nextLine, ended, linesAfter, inputLines, cutRead}
+use Rattle.lines.specs.Splitting.{line_most, next_line, ended, lines_after, input_lines, cut_read}
 
 -- ---- forms
 
@@ -33,7 +33,7 @@ OneReading = (s : List ℕ) (r r' : Reading) → Reads s r → Reads s r' → r 
 
 -- check 1: "The line is not one of the forms above", then and only then
 abbrev pub Judges : List ℕ → Reading → Type 0
-Judges s r = ((readCheck r.read ≡ 0) × Formed s) ⊎ ((readCheck r.read ≡ 1) × (Formed s → ⊥))
+Judges s r = ((read_check r.read ≡ 0) × Formed s) ⊎ ((read_check r.read ≡ 1) × (Formed s → ⊥))
 
 abbrev pub JudgesLines : (List ℕ → Reading) → Type 0
 JudgesLines f = (s : List ℕ) → Judges s (f s)
@@ -42,8 +42,8 @@ JudgesLines f = (s : List ℕ) → Judges s (f s)
 -- behind it still does
 abbrev pub JudgesWriting : Type 0
 JudgesWriting = (lacks : Bool) (form buffer : List ℕ) (r : Written) (after : List ℕ) → Writes lacks form buffer r after
-    → ((writtenCheck r ≡ 0) × (lacks ≡ false) × (length (line form) ≤ length buffer) × (after ≡ line form ++ drop (length (line form)) buffer))
-    ⊎ ((writtenCheck r ≡ 1) × ((lacks ≡ true) ⊎ (length buffer < length (line form))) × (after ≡ buffer))
+    → ((written_check r ≡ 0) × (lacks ≡ false) × (length (line form) ≤ length buffer) × (after ≡ line form ++ drop (length (line form)) buffer))
+    ⊎ ((written_check r ≡ 1) × ((lacks ≡ true) ⊎ (length buffer < length (line form))) × (after ≡ buffer))
 
 -- two events with one line are the same event
 abbrev pub OneEvent : Type 0
@@ -54,35 +54,35 @@ abbrev pub OneSetup : Type 0
 OneSetup = (s : List ℕ) (u u' : Setup) → SetupLine s u → SetupLine s u' → trimmed u ≡ trimmed u'
 
 -- the setup with k = 3
-abbrev pub withUsual : Setup → Setup
-withUsual u = setupWith (usualPlanIn (usualNumbers u.plan)) u.faulty u.clocks
+abbrev pub with_usual : Setup → Setup
+with_usual u = setup_with (usual_plan_in (usual_numbers u.plan)) u.faulty u.clocks
 
 -- the line that is written is read as the setup; "any opening line without it is read as k=3"
 abbrev pub ReadsSetups : (List ℕ → Reading) → Type 0
-ReadsSetups f = (u : Setup) → lacksSetupForm u ≡ false → Below (setupFields u) → length u.clocks ≡ tableClocks
-    → (f (setupForm u) ≡ openingReading (trimmed u)) × (f (usualForm u) ≡ openingReading (trimmed (withUsual u)))
+ReadsSetups f = (u : Setup) → lacks_setup_form u ≡ false → Below (setup_fields u) → length u.clocks ≡ table_clocks
+    → (f (setup_form u) ≡ opening_reading (trimmed u)) × (f (usual_form u) ≡ opening_reading (trimmed (with_usual u)))
 
 -- no line is the form of an event and of a setup
 abbrev pub NeverBoth : Type 0
 NeverBoth = (s : List ℕ) (e : Event) (u : Setup) → EventLine s e → SetupLine s u → ⊥
 
 -- "a line is at most 4,800 bytes": every form is far shorter
-abbrev pub formMost : ℕ
-formMost = 1460
+abbrev pub form_most : ℕ
+form_most = 1460
 
 abbrev pub ShortForms : Type 0
-ShortForms = (s : List ℕ) → Formed s → length s ≤ formMost
+ShortForms = (s : List ℕ) → Formed s → length s ≤ form_most
 
 -- so many bytes hold every printed line
 abbrev pub ShortAnswers : Type 0
-ShortAnswers = (a : Answer) → length (line (answerForm a)) ≤ printedMost
+ShortAnswers = (a : Answer) → length (line (answer_form a)) ≤ printed_most
 
 abbrev pub ShortProcessors : Type 0
-ShortProcessors = (p view clock : ℕ) → length (line (processorForm p view clock)) ≤ printedMost
+ShortProcessors = (p view clock : ℕ) → length (line (processor_form p view clock)) ≤ printed_most
 
 -- and so many every report
 abbrev pub ShortReports : Type 0
-ShortReports = (x : Totals) → length (totalsText x) ≤ totalsMost
+ShortReports = (x : Totals) → length (totals_text x) ≤ totals_most
 
 -- ---- words
 
@@ -96,26 +96,26 @@ ReportsExactly = (w : ℕ)
 
 -- whatever stands before s on its line and whatever follows s: that line ends behind the first e bytes of s, and cutting goes on behind its newline
 abbrev pub Ended : List ℕ → ℕ → Type 0
-Ended s e = (e < length s) × ((start more : List ℕ) → linesAfter start (s ++ more) ≡ ended (start ++ take e s) ∷ inputLines (drop (suc e) s ++ more))
+Ended s e = (e < length s) × ((start more : List ℕ) → lines_after start (s ++ more) ≡ ended (start ++ take e s) ∷ input_lines (drop (suc e) s ++ more))
 
 -- all of s stands on one line, which goes on in what follows
 abbrev pub Started : List ℕ → Type 0
-Started s = (start more : List ℕ) → linesAfter start (s ++ more) ≡ linesAfter (start ++ s) more
+Started s = (start more : List ℕ) → lines_after start (s ++ more) ≡ lines_after (start ++ s) more
 
 abbrev pub Tells : List ℕ → Next → Type 0
-Tells s (Line e) = (e ≤ lineMost) × Ended s e
-Tells s (Long e) = (lineMost < e) × Ended s e
-Tells s Unfinished = (length s ≤ lineMost) × Started s
-Tells s Endless = (lineMost < length s) × Started s
+Tells s (Line e) = (e ≤ line_most) × Ended s e
+Tells s (Long e) = (line_most < e) × Ended s e
+Tells s Unfinished = (length s ≤ line_most) × Started s
+Tells s Endless = (line_most < length s) × Started s
 
 abbrev pub TellsNext : Type 0
-TellsNext = (s : List ℕ) → Tells s (nextLine s)
+TellsNext = (s : List ℕ) → Tells s (next_line s)
 
 -- ---- what is written
 
 -- the next line of a buffer that starts with the line of a form is that form
 abbrev pub NextForm : Type 0
-NextForm = (s : List ℕ) → Formed s → (more : List ℕ) → nextLine (line s ++ more) ≡ Line (length s)
+NextForm = (s : List ℕ) → Formed s → (more : List ℕ) → next_line (line s ++ more) ≡ Line (length s)
 
 -- ---- a whole schedule
 
@@ -123,23 +123,23 @@ abbrev pub AllFormed : List (List ℕ) → Type 0
 AllFormed l = Every Formed l
 
 -- forms, each with its newline
-abbrev pub scheduleOf : List (List ℕ) → List ℕ
-scheduleOf [] = []
-scheduleOf (s ∷ l) = line s ++ scheduleOf l
+abbrev pub schedule_of : List (List ℕ) → List ℕ
+schedule_of [] = []
+schedule_of (s ∷ l) = line s ++ schedule_of l
 
 -- a schedule is cut into the forms it is made of
 abbrev pub CutsBack : Type 0
-CutsBack = (l : List (List ℕ)) → AllFormed l → inputLines (scheduleOf l) ≡ map ended l
+CutsBack = (l : List (List ℕ)) → AllFormed l → input_lines (schedule_of l) ≡ map ended l
 
 -- what a line that is one of the forms is to be read as
 abbrev pub reading_of : (s : List ℕ) → Formed s → Reading
-reading_of s (inl x) = eventReading x.0
-reading_of s (inr x) = openingReading (trimmed x.0)
+reading_of s (inl x) = event_reading x.0
+reading_of s (inr x) = opening_reading (trimmed x.0)
 
-abbrev pub readingsOf : (l : List (List ℕ)) → AllFormed l → List Reading
-readingsOf [] h = []
-readingsOf (s ∷ l) h = reading_of s h.0 ∷ readingsOf l h.1
+abbrev pub readings_of : (l : List (List ℕ)) → AllFormed l → List Reading
+readings_of [] h = []
+readings_of (s ∷ l) h = reading_of s h.0 ∷ readings_of l h.1
 
 -- and read as the events and openings that they are the forms of
 abbrev pub ReadsBack : (List ℕ → Reading) → Type 0
-ReadsBack f = (l : List (List ℕ)) (h : AllFormed l) → map (cutRead f) (inputLines (scheduleOf l)) ≡ readingsOf l h
+ReadsBack f = (l : List (List ℕ)) (h : AllFormed l) → map (cut_read f) (input_lines (schedule_of l)) ≡ readings_of l h

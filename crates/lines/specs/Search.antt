@@ -7,15 +7,15 @@ abbrev pub word_bytes : ℕ
 word_bytes = 8
 
 -- the k lowest bytes of a word, the lowest first: as they stand among the bytes at hand
-unfoldable pub bytesIn : ℕ → ℕ → List ℕ
-bytesIn zero w = []
-bytesIn (suc k) w = w % 256 ∷ bytesIn k (w / 256)
+unfoldable pub bytes_in : ℕ → ℕ → List ℕ
+bytes_in zero w = []
+bytes_in (suc k) w = w % 256 ∷ bytes_in k (w / 256)
 
 -- "one of its bytes is a newline"
-unfoldable pub someNewline : List ℕ → Bool
-someNewline [] = false
-someNewline (b ∷ s) = eqb b newline || someNewline s
+unfoldable pub some_newline : List ℕ → Bool
+some_newline [] = false
+some_newline (b ∷ s) = eqb b newline || some_newline s
 
 -- "A word is reported exactly when one of its bytes is a newline."
 unfoldable pub reported : ℕ → Bool
-reported w = someNewline (bytesIn word_bytes w)
+reported w = some_newline (bytes_in word_bytes w)

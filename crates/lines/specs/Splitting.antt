@@ -3,22 +3,22 @@ use Rattle.std.specs.Prelude.{ℕ, suc, cond, List, [], ◌∷◌, ◌++◌, len
 use Rattle.lines.specs.declared.Next.{Next}
 use Rattle.lines.specs.declared.Next.TheVariants.{Line, Long, Unfinished, Endless}
 use Rattle.lines.specs.Forms.{newline}
-use Rattle.lines.specs.Contracts.{Reading, noForm}
+use Rattle.lines.specs.Clauses.{Reading, no_form}
 
-abbrev pub lineMost : ℕ
-lineMost = 4800
+abbrev pub line_most : ℕ
+line_most = 4800
 
 -- the bytes before the first newline; all of them where there is none
-unfoldable pub beforeNewline : List ℕ → ℕ
-beforeNewline [] = 0
-beforeNewline (b ∷ s) = cond (eqb b newline) 0 (suc (beforeNewline s))
+unfoldable pub before_newline : List ℕ → ℕ
+before_newline [] = 0
+before_newline (b ∷ s) = cond (eqb b newline) 0 (suc (before_newline s))
 
 -- the next line within the bytes at hand
-unfoldable pub nextLine : List ℕ → Next
-nextLine s =
-    cond (ltb (beforeNewline s) (length s))
-    (cond (leb (beforeNewline s) lineMost) (Line (beforeNewline s)) (Long (beforeNewline s)))
-    (cond (leb (length s) lineMost) Unfinished Endless)
+unfoldable pub next_line : List ℕ → Next
+next_line s =
+    cond (ltb (before_newline s) (length s))
+    (cond (leb (before_newline s) line_most) (Line (before_newline s)) (Long (before_newline s)))
+    (cond (leb (length s) line_most) Unfinished Endless)
 
 -- ---- a whole input
 
@@ -33,15 +33,15 @@ remainder [] = []
 remainder (b ∷ s) = left ∷ []
 
 -- the lines of s, the first of which starts with the bytes of `start`
-abbrev pub linesAfter : List ℕ → List ℕ → List Cut
-linesAfter start [] = remainder start
-linesAfter start (b ∷ s) = cond (eqb b newline) (ended start ∷ linesAfter [] s) (linesAfter (start ++ (b ∷ [])) s)
+abbrev pub lines_after : List ℕ → List ℕ → List Cut
+lines_after start [] = remainder start
+lines_after start (b ∷ s) = cond (eqb b newline) (ended start ∷ lines_after [] s) (lines_after (start ++ (b ∷ [])) s)
 
-unfoldable pub inputLines : List ℕ → List Cut
-inputLines s = linesAfter [] s
+unfoldable pub input_lines : List ℕ → List Cut
+input_lines s = lines_after [] s
 
 -- what such a line is read as, f being what its bytes are: "bytes left after the last newline count as a line that fails check 1", and so does a
 -- line of more than 4,800
-abbrev pub cutRead : (List ℕ → Reading) → Cut → Reading
-cutRead f (ended s) = cond (leb (length s) lineMost) (f s) noForm
-cutRead f left = noForm
+abbrev pub cut_read : (List ℕ → Reading) → Cut → Reading
+cut_read f (ended s) = cond (leb (length s) line_most) (f s) no_form
+cut_read f left = no_form

@@ -2,7 +2,7 @@
 pub mod search;
 
 ghost use Rattle.std.specs.Prelude.{◌≡◌};
-ghost use Rattle.lines.specs.Splitting.{beforeNewline, nextLine};
+ghost use Rattle.lines.specs.Splitting.{before_newline, next_line};
 
 use types::Event;
 
@@ -38,7 +38,7 @@ const LINE_MOST: usize = 4800;
 // the benchmark.
 #[unsafe(no_mangle)]
 pub extern "C" fn before_newline(bytes: &[u8]) -> usize
-    ensures { result ≡ beforeNewline bytes.now }
+    ensures { result ≡ before_newline bytes.now }
 {
     let mut i = search::words_before(bytes);
     while i < bytes.len() {
@@ -52,7 +52,7 @@ pub extern "C" fn before_newline(bytes: &[u8]) -> usize
 
 // The next line within the bytes at hand.
 pub fn next_line(bytes: &[u8]) -> Next
-    ensures { result ≡ nextLine bytes.now }
+    ensures { result ≡ next_line bytes.now }
 {
     let end = before_newline(bytes);
     if end < bytes.len() {

@@ -1,8 +1,8 @@
 // The search for a newline in words of eight bytes, from the start of the bytes at hand.
 ghost use Rattle.std.specs.Prelude.{◌≡◌, ◌+◌, ◌*◌, ◌/◌, ◌^◌, ◌≤◌, ◌<◌, min, length, take, drop};
-ghost use Rattle.lines.specs.Splitting.{beforeNewline};
-ghost use Rattle.lines.specs.Search.{word_bytes, bytesIn, someNewline, reported};
-ghost use Rattle.lines.specs.Inner.{blockBytes, newlineBits};
+ghost use Rattle.lines.specs.Splitting.{before_newline};
+ghost use Rattle.lines.specs.Search.{word_bytes, bytes_in, some_newline, reported};
+ghost use Rattle.lines.specs.Inner.{block_bytes, newline_bits};
 
 // The bytes of a word.
 const WORD_BYTES: usize = 8;
@@ -19,7 +19,7 @@ const LOW_BITS: u64 = 0x7f7f_7f7f_7f7f_7f7f;
 // The highest bit of each byte of a word that is a newline, and no other bit. A byte of `other` is 0 where that of the word is a newline; then, and only
 // then, neither it nor the sum of its lower bits and 127 has the highest bit. No byte's sum reaches the next byte, so each byte is told by itself.
 fn newlines_in(word: u64) -> u64
-    ensures { result ≡ newlineBits (bytesIn word_bytes word) }
+    ensures { result ≡ newline_bits (bytes_in word_bytes word) }
 {
     let other = word ^ NEWLINES;
     let carried = (other & LOW_BITS) + LOW_BITS;
@@ -36,7 +36,7 @@ pub extern "C" fn has_newline(word: u64) -> bool
 
 // How many bytes of a word stand before its first newline; all eight where there is none.
 fn first_in(word: u64) -> usize
-    ensures { result ≡ beforeNewline (bytesIn word_bytes word) }
+    ensures { result ≡ before_newline (bytes_in word_bytes word) }
 {
     (u64::trailing_zeros(newlines_in(word)) / 8) as usize
 }
@@ -44,7 +44,7 @@ fn first_in(word: u64) -> usize
 // One byte as a number.
 fn byte_at(bytes: &[u8], i: usize) -> u64
     requires { i < length bytes.now }
-    ensures { (bytesIn 1 result ≡ take 1 (drop i bytes.now)) × (result < 2 ^ 8) }
+    ensures { (bytes_in 1 result ≡ take 1 (drop i bytes.now)) × (result < 2 ^ 8) }
 {
     bytes[i] as u64
 }
@@ -52,7 +52,7 @@ fn byte_at(bytes: &[u8], i: usize) -> u64
 // Two, the first of them lowest.
 fn pair_at(bytes: &[u8], i: usize) -> u64
     requires { i + 2 ≤ length bytes.now }
-    ensures { (bytesIn 2 result ≡ take 2 (drop i bytes.now)) × (result < 2 ^ 16) }
+    ensures { (bytes_in 2 result ≡ take 2 (drop i bytes.now)) × (result < 2 ^ 16) }
 {
     byte_at(bytes, i) + 256 * byte_at(bytes, i + 1)
 }
@@ -60,7 +60,7 @@ fn pair_at(bytes: &[u8], i: usize) -> u64
 // Four.
 fn quad_at(bytes: &[u8], i: usize) -> u64
     requires { i + 4 ≤ length bytes.now }
-    ensures { (bytesIn 4 result ≡ take 4 (drop i bytes.now)) × (result < 2 ^ 32) }
+    ensures { (bytes_in 4 result ≡ take 4 (drop i bytes.now)) × (result < 2 ^ 32) }
 {
     pair_at(bytes, i) + 65536 * pair_at(bytes, i + 2)
 }
@@ -68,15 +68,15 @@ fn quad_at(bytes: &[u8], i: usize) -> u64
 // Eight, which are a word.
 fn word_at(bytes: &[u8], i: usize) -> u64
     requires { i + word_bytes ≤ length bytes.now }
-    ensures { bytesIn word_bytes result ≡ take word_bytes (drop i bytes.now) }
+    ensures { bytes_in word_bytes result ≡ take word_bytes (drop i bytes.now) }
 {
     quad_at(bytes, i) + 4294967296 * quad_at(bytes, i + 4)
 }
 
 // Whether one of the bytes of four words is a newline.
 fn block_has_newline(bytes: &[u8], i: usize) -> bool
-    requires { i + blockBytes ≤ length bytes.now }
-    ensures { result ≡ someNewline (take blockBytes (drop i bytes.now)) }
+    requires { i + block_bytes ≤ length bytes.now }
+    ensures { result ≡ some_newline (take block_bytes (drop i bytes.now)) }
 {
     let first = newlines_in(word_at(bytes, i));
     let second = newlines_in(word_at(bytes, i + WORD_BYTES));
@@ -87,8 +87,8 @@ fn block_has_newline(bytes: &[u8], i: usize) -> bool
 
 // How many bytes stand in the whole blocks before the one that has the first newline, which is not the first block; in all whole blocks where none has one.
 fn blocks_before(bytes: &[u8]) -> usize
-    requires { blockBytes ≤ beforeNewline bytes.now }
-    ensures { result ≡ beforeNewline bytes.now / blockBytes * blockBytes }
+    requires { block_bytes ≤ before_newline bytes.now }
+    ensures { result ≡ before_newline bytes.now / block_bytes * block_bytes }
 {
     let end = bytes.len() / BLOCK_BYTES * BLOCK_BYTES;
     let mut i = BLOCK_BYTES;
@@ -103,8 +103,8 @@ fn blocks_before(bytes: &[u8]) -> usize
 
 // How many bytes stand before the first newline, none being before `from`; `end` where it is further on. A word starts at both.
 fn words_until(bytes: &[u8], from: usize, end: usize) -> usize
-    requires { (from ≤ beforeNewline bytes.now) × (from ≤ end) × (end ≤ length bytes.now) × (from ≡ from / word_bytes * word_bytes) × (end ≡ end / word_bytes * word_bytes) }
-    ensures { result ≡ min (beforeNewline bytes.now) end }
+    requires { (from ≤ before_newline bytes.now) × (from ≤ end) × (end ≤ length bytes.now) × (from ≡ from / word_bytes * word_bytes) × (end ≡ end / word_bytes * word_bytes) }
+    ensures { result ≡ min (before_newline bytes.now) end }
 {
     let mut i = from;
     while i < end {
@@ -119,7 +119,7 @@ fn words_until(bytes: &[u8], from: usize, end: usize) -> usize
 
 // Where the words end that are looked at one by one, all of them ending at `end`.
 fn near_end(end: usize) -> usize
-    ensures { result ≡ min end blockBytes }
+    ensures { result ≡ min end block_bytes }
 {
     if end < BLOCK_BYTES {
         return end;
@@ -130,7 +130,7 @@ fn near_end(end: usize) -> usize
 // How many bytes stand before the first newline in a whole word; in all whole words where none has one. Most lines end within four words, so these are
 // looked at one by one, and only those behind them four a turn.
 pub(crate) fn words_before(bytes: &[u8]) -> usize
-    ensures { result ≡ min (beforeNewline bytes.now) (length bytes.now / word_bytes * word_bytes) }
+    ensures { result ≡ min (before_newline bytes.now) (length bytes.now / word_bytes * word_bytes) }
 {
     let end = bytes.len() / WORD_BYTES * WORD_BYTES;
     let i = words_until(bytes, 0, near_end(end));

@@ -13,10 +13,10 @@ use Rattle.types.specs.declared.Plan.{Plan}
 use Rattle.types.specs.declared.Message.{Message}
 use Rattle.types.specs.declared.Message.TheVariants.{View, Vote, Vc, Qc}
 use Rattle.types.specs.declared.Run.{Run}
-use Rattle.types.specs.Quantities.{nMost, lead, correct}
-use Rattle.types.specs.Messages.{viewIn, processorIn}
-use Rattle.model.specs.State.{State, isCorrect, clockOf, view_of, enteredWord}
-use Rattle.model.specs.Moves.{Change, changed, still, also, toCorrect, entryClock, entryMessages, entering, Entry, stay, into, byView, byQuorum, taking, entries, forms, certificate, toEach, hearing, handling, arrival, arrivals}
+use Rattle.types.specs.Quantities.{n_most, lead, correct}
+use Rattle.types.specs.Messages.{view_in, processor_in}
+use Rattle.model.specs.State.{State, is_correct, clock_of, view_of, entered_word}
+use Rattle.model.specs.Moves.{Change, changed, still, also, to_correct, entry_clock, entry_messages, entering, Entry, stay, into, by_view, by_quorum, taking, entries, forms, certificate, to_each, hearing, handling, arrival, arrivals}
 use Rattle.model.specs.Events.{signing}
 use Rattle.liveness.proofs.TallyLaws.{length-added, length-heard}
 use Rattle.liveness.proofs.Flight.{Sent, Named, stamped}
@@ -26,21 +26,21 @@ use Rattle.liveness.proofs.Sending.{signature, meant, in-stamped, elem-correct, 
 
 -- they are below n
 abbrev pub Names : ℕ → List Message → Type 0
-Names n ms = (m : Message) → Elem m ms → processorIn m < n
+Names n ms = (m : Message) → Elem m ms → processor_in m < n
 
-signature-names : (d : Bool) (w p : ℕ) → processorIn (signature d w p) ≡ p
+signature-names : (d : Bool) (w p : ℕ) → processor_in (signature d w p) ≡ p
 signature-names false w p = refl
 signature-names true w p = refl
 
-certificate-names : (d : Bool) (w p : ℕ) → processorIn (certificate d w p) ≡ p
+certificate-names : (d : Bool) (w p : ℕ) → processor_in (certificate d w p) ≡ p
 certificate-names false w p = refl
 certificate-names true w p = refl
 
 entering-names : (r : Run) (t : List ℕ) (p w n : ℕ) → p < n → Names n (entering r t p w).sent
 unfolding entering
 entering-names r t p w n low m i =
-    let d = entry-sent r.plan m w p (elem-correct r m (entryMessages r.plan p w) i).0 in
-    omega (arith, ap processorIn d.1, signature-names d.0 w p)
+    let d = entry-sent r.plan m w p (elem-correct r m (entry_messages r.plan p w) i).0 in
+    omega (arith, ap processor_in d.1, signature-names d.0 w p)
 
 taking-names : (r : Run) (t : List ℕ) (p n : ℕ) (e : Entry) → p < n → Names n (taking r t p e).sent
 unfolding taking
@@ -58,20 +58,20 @@ entries-names e r t (suc k) n l m i =
 hearing-names : (q : Bool) (r : Run) (t : List ℕ) (w p : ℕ) → Names r.plan.n (hearing q r t w p).sent
 unfolding hearing
 hearing-names q r t w p m =
-    by_cond (λ (l : List Message). Elem m l → processorIn m < r.plan.n) (forms q r t w p) (toCorrect r.plan r.faulty (toEach q w r.plan.n)) []
-    (λ _ i. let g = each-got q w r.plan.n m (elem-correct r m (toEach q w r.plan.n) i).0 in
-    omega (arith, ap processorIn g.2, certificate-names q w g.0, g.1)) (λ _ i. absurd i)
+    by_cond (λ (l : List Message). Elem m l → processor_in m < r.plan.n) (forms q r t w p) (to_correct r.plan r.faulty (to_each q w r.plan.n)) []
+    (λ _ i. let g = each-got q w r.plan.n m (elem-correct r m (to_each q w r.plan.n) i).0 in
+    omega (arith, ap processor_in g.2, certificate-names q w g.0, g.1)) (λ _ i. absurd i)
 
-pub handling-names : (r : Run) (t : List ℕ) (m : Message) → processorIn m < r.plan.n → Names r.plan.n (handling r t m).sent
+pub handling-names : (r : Run) (t : List ℕ) (m : Message) → processor_in m < r.plan.n → Names r.plan.n (handling r t m).sent
 unfolding handling
 handling-names r t (View w p) low = hearing-names false r t w p
 handling-names r t (Vote w p) low = hearing-names true r t w p
-handling-names r t (Vc w p) low = taking-names r t p r.plan.n (byView r.plan (view_of r p) w) low
-handling-names r t (Qc w p) low = taking-names r t p r.plan.n (byQuorum (view_of r p) w) low
+handling-names r t (Vc w p) low = taking-names r t p r.plan.n (by_view r.plan (view_of r p) w) low
+handling-names r t (Qc w p) low = taking-names r t p r.plan.n (by_quorum (view_of r p) w) low
 
-pub signing-names : (s : State) (m : Message) → processorIn m < s.run.plan.n → Names s.run.plan.n (signing s m).sent
+pub signing-names : (s : State) (m : Message) → processor_in m < s.run.plan.n → Names s.run.plan.n (signing s m).sent
 unfolding signing
-signing-names s m low = by_cond (λ (c : Change). Names s.run.plan.n c.sent) (isCorrect s.run (lead s.run.plan (viewIn m)))
+signing-names s m low = by_cond (λ (c : Change). Names s.run.plan.n c.sent) (is_correct s.run (lead s.run.plan (view_in m)))
     (handling s.run s.tally m) (still s.run s.tally) (λ _. handling-names s.run s.tally m low) (λ _ m' i. absurd i)
 
 pub arrivals-names : (a : State) → Names a.run.plan.n (arrivals a).sent
@@ -79,16 +79,16 @@ unfolding arrivals
 arrivals-names a = entries-names (arrival a.run) a.run a.tally a.run.plan.n a.run.plan.n (omega arith)
 
 -- so what is in flight goes on naming processors that every form can hold, where no more than those are named
-pub named_more : (xs : List Sent) (now n : ℕ) (ms : List Message) → n ≤ nMost → Named xs → Names n ms → Named (xs ++ stamped now ms)
+pub named_more : (xs : List Sent) (now n : ℕ) (ms : List Message) → n ≤ n_most → Named xs → Names n ms → Named (xs ++ stamped now ms)
 named_more xs now n ms most named names x i = ⊎_elim (λ j. named x j)
     (λ j. omega (arith, names x.message (in-stamped x.message x.time now ms j).1)) (elem-cases x xs (stamped now ms) i)
 
 -- ---- all of it
 
 pub record Addressed (plan : Plan) (faulty : ℕ) (m : Message) : Type 0 where
-  pub view-low : viewIn m < plan.views
-  pub processor-low : processorIn m < plan.n
-  pub to-correct : T (correct plan faulty (meant plan m))
+  pub view_low : view_in m < plan.views
+  pub processor_low : processor_in m < plan.n
+  pub for_correct : T (correct plan faulty (meant plan m))
 
 -- a change that leaves all lengths as they are and sends only such messages
 pub record Sends (r : Run) (t : List ℕ) (c : Change) : Type 0 where
@@ -104,45 +104,45 @@ module _ (r : Run) (t : List ℕ) where
   pub entering-sends : (p w : ℕ) → p < r.plan.n → w < r.plan.views → Sends r t (entering r t p w)
   unfolding entering
   entering-sends p w low w-low = record {
-    clocks = length-set r.clocks p (entryClock r.plan (clockOf r p) w);
+    clocks = length-set r.clocks p (entry_clock r.plan (clock_of r p) w);
     views = length-set r.views p w;
-    tally = length-added t w enteredWord p;
+    tally = length-added t w entered_word p;
     addressed = λ m i.
-        let e = elem-correct r m (entryMessages r.plan p w) i in
+        let e = elem-correct r m (entry_messages r.plan p w) i in
         let d = entry-sent r.plan m w p e.0 in
         record {
-          view-low = omega (arith, ap viewIn d.1, view-is d.0);
-          processor-low = entering-names r t p w r.plan.n low m i;
-          to-correct = e.1;
+          view_low = omega (arith, ap view_in d.1, view_is d.0);
+          processor_low = entering-names r t p w r.plan.n low m i;
+          for_correct = e.1;
         };
   }
     where
-      view-is : (d : Bool) → viewIn (signature d w p) ≡ w
-      view-is false = refl
-      view-is true = refl
+      view_is : (d : Bool) → view_in (signature d w p) ≡ w
+      view_is false = refl
+      view_is true = refl
 
-  pub hearing-sends : (q : Bool) (w p : ℕ) → w < r.plan.views → Sends r t (hearing q r t w p)
+  pub hearing_sends : (q : Bool) (w p : ℕ) → w < r.plan.views → Sends r t (hearing q r t w p)
   unfolding hearing
-  hearing-sends q w p w-low = record {
+  hearing_sends q w p w-low = record {
     clocks = refl;
     views = refl;
     tally = length-heard t q w p (forms q r t w p);
     addressed = λ m. by_cond (λ (l : List Message). Elem m l → Addressed r.plan r.faulty m) (forms q r t w p)
-        (toCorrect r.plan r.faulty (toEach q w r.plan.n)) [] (λ _ i. sent m i) (λ _ i. absurd i);
+        (to_correct r.plan r.faulty (to_each q w r.plan.n)) [] (λ _ i. sent m i) (λ _ i. absurd i);
   }
     where
-      view-is : (d : Bool) (k : ℕ) → viewIn (certificate d w k) ≡ w
-      view-is false k = refl
-      view-is true k = refl
+      view_is : (d : Bool) (k : ℕ) → view_in (certificate d w k) ≡ w
+      view_is false k = refl
+      view_is true k = refl
 
-      sent : (m : Message) → Elem m (toCorrect r.plan r.faulty (toEach q w r.plan.n)) → Addressed r.plan r.faulty m
+      sent : (m : Message) → Elem m (to_correct r.plan r.faulty (to_each q w r.plan.n)) → Addressed r.plan r.faulty m
       sent m i =
-          let e = elem-correct r m (toEach q w r.plan.n) i in
+          let e = elem-correct r m (to_each q w r.plan.n) i in
           let g = each-got q w r.plan.n m e.0 in
           record {
-            view-low = omega (arith, ap viewIn g.2, view-is q g.0);
-            processor-low = omega (arith, ap processorIn g.2, certificate-names q w g.0, g.1);
-            to-correct = e.1;
+            view_low = omega (arith, ap view_in g.2, view_is q g.0);
+            processor_low = omega (arith, ap processor_in g.2, certificate-names q w g.0, g.1);
+            for_correct = e.1;
           }
 
 -- one change, and then another

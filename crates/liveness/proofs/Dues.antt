@@ -14,66 +14,66 @@ use Rattle.types.specs.declared.Plan.{Plan}
 use Rattle.types.specs.declared.Message.{Message}
 use Rattle.types.specs.declared.Message.TheVariants.{View, Vote}
 use Rattle.types.specs.Quantities.{initial, correct}
-use Rattle.types.specs.Messages.{kind_of, viewIn, processorIn, addressee}
-use Rattle.model.specs.Moves.{toCorrect, entryMessages, certificate, toEach}
-use Rattle.model.specs.Traffic.{sameStage, ofView}
+use Rattle.types.specs.Messages.{kind_of, view_in, processor_in, addressee}
+use Rattle.model.specs.Moves.{to_correct, entry_messages, certificate, to_each}
+use Rattle.model.specs.Traffic.{same_stage, of_view}
 
 -- ---- how many of a stage for a view are sent
 
-pub view-append : (stage : Bool) (w : ℕ) (a b : List Message) → ofView stage w (a ++ b) ≡ ofView stage w a + ofView stage w b
+pub view-append : (stage : Bool) (w : ℕ) (a b : List Message) → of_view stage w (a ++ b) ≡ of_view stage w a + of_view stage w b
 view-append stage w [] b = omega arith
 view-append stage w (m ∷ a) b = omega (arith, view-append stage w a b)
 
 -- only some of the messages go into the network
-posted-fewer : (plan : Plan) (faulty : ℕ) (stage : Bool) (w : ℕ) (ms : List Message) → ofView stage w (toCorrect plan faulty ms) ≤ ofView stage w ms
-unfolding toCorrect
+posted-fewer : (plan : Plan) (faulty : ℕ) (stage : Bool) (w : ℕ) (ms : List Message) → of_view stage w (to_correct plan faulty ms) ≤ of_view stage w ms
+unfolding to_correct
 posted-fewer plan faulty stage w [] = omega arith
 posted-fewer plan faulty stage w (m ∷ ms) =
-    let i : ofView stage w (toCorrect plan faulty ms) ≤ ofView stage w ms = posted-fewer plan faulty stage w ms in
-    by_cond (λ (l : List Message). ofView stage w l ≤ ofView stage w (m ∷ ms))
-    (correct plan faulty (addressee plan (kind_of m) (viewIn m) (processorIn m))) (m ∷ toCorrect plan faulty ms) (toCorrect plan faulty ms)
+    let i : of_view stage w (to_correct plan faulty ms) ≤ of_view stage w ms = posted-fewer plan faulty stage w ms in
+    by_cond (λ (l : List Message). of_view stage w l ≤ of_view stage w (m ∷ ms))
+    (correct plan faulty (addressee plan (kind_of m) (view_in m) (processor_in m))) (m ∷ to_correct plan faulty ms) (to_correct plan faulty ms)
     (λ t. omega (arith, i)) (λ t. omega (arith, i))
 
 -- on entering u: one of each stage at most, and for u
 pub entry-once : (plan : Plan) (faulty p u : ℕ) (stage : Bool) (w : ℕ)
-    → ofView stage w (toCorrect plan faulty (entryMessages plan p u)) ≤ bit (eqb u w)
-entry-once plan faulty p u stage w = omega (arith, posted-fewer plan faulty stage w (entryMessages plan p u), all)
+    → of_view stage w (to_correct plan faulty (entry_messages plan p u)) ≤ bit (eqb u w)
+entry-once plan faulty p u stage w = omega (arith, posted-fewer plan faulty stage w (entry_messages plan p u), all)
   where
-    both : (d b : Bool) → bit (sameStage d false && b) + (bit (sameStage d true && b) + 0) ≤ bit b
+    both : (d b : Bool) → bit (same_stage d false && b) + (bit (same_stage d true && b) + 0) ≤ bit b
     both true true = omega arith
     both true false = omega arith
     both false true = omega arith
     both false false = omega arith
 
-    alone : (d b : Bool) → bit (sameStage d true && b) + 0 ≤ bit b
+    alone : (d b : Bool) → bit (same_stage d true && b) + 0 ≤ bit b
     alone true true = omega arith
     alone true false = omega arith
     alone false true = omega arith
     alone false false = omega arith
 
-    all : ofView stage w (entryMessages plan p u) ≤ bit (eqb u w)
-    all = by_cond (λ (l : List Message). ofView stage w l ≤ bit (eqb u w)) (initial plan u) (View u p ∷ Vote u p ∷ []) (Vote u p ∷ [])
+    all : of_view stage w (entry_messages plan p u) ≤ bit (eqb u w)
+    all = by_cond (λ (l : List Message). of_view stage w l ≤ bit (eqb u w)) (initial plan u) (View u p ∷ Vote u p ∷ []) (Vote u p ∷ [])
         (λ t. both stage (eqb u w)) (λ t. alone stage (eqb u w))
 
 -- of a formed certificate: one to each at most, of its stage and for its view
-each-once : (d : Bool) (v k : ℕ) (stage : Bool) (w : ℕ) → ofView stage w (toEach d v k) ≡ k * bit (sameStage stage d && eqb v w)
-unfolding toEach
+each-once : (d : Bool) (v k : ℕ) (stage : Bool) (w : ℕ) → of_view stage w (to_each d v k) ≡ k * bit (same_stage stage d && eqb v w)
+unfolding to_each
 each-once d v zero stage w = omega arith
 each-once d v (suc k) stage w = omega (
   arith,
   each-once d v k stage w,
   one d,
-  suc-mul k (bit (sameStage stage d && eqb v w)),
-  view-append stage w (toEach d v k) (certificate d v k ∷ []),
+  suc-mul k (bit (same_stage stage d && eqb v w)),
+  view-append stage w (to_each d v k) (certificate d v k ∷ []),
 )
   where
-    one : (b : Bool) → ofView stage w (certificate b v k ∷ []) ≡ bit (sameStage stage b && eqb v w)
+    one : (b : Bool) → of_view stage w (certificate b v k ∷ []) ≡ bit (same_stage stage b && eqb v w)
     one true = omega arith
     one false = omega arith
 
 pub certificate-once : (plan : Plan) (faulty : ℕ) (d : Bool) (v k : ℕ) (stage : Bool) (w : ℕ)
-    → ofView stage w (toCorrect plan faulty (toEach d v k)) ≤ k * bit (sameStage stage d && eqb v w)
-certificate-once plan faulty d v k stage w = omega (arith, posted-fewer plan faulty stage w (toEach d v k), each-once d v k stage w)
+    → of_view stage w (to_correct plan faulty (to_each d v k)) ≤ k * bit (same_stage stage d && eqb v w)
+certificate-once plan faulty d v k stage w = omega (arith, posted-fewer plan faulty stage w (to_each d v k), each-once d v k stage w)
 
 -- ---- how many are due
 
@@ -138,34 +138,34 @@ module _ (n : ℕ) (a b : Progress) (grows : Grows a b) where
 
   -- the certificate of the stage d is formed for v, and was not
   pub forming-due : (d : Bool) (v : ℕ) → (T (a.formed d v) → ⊥) → T (b.formed d v) → (stage : Bool) (w : ℕ)
-      → n * bit (sameStage stage d && eqb v w) + due n a stage w ≤ due n b stage w
+      → n * bit (same_stage stage d && eqb v w) + due n a stage w ≤ due n b stage w
   forming-due d v fresh now stage w =
-      let turns : bit (sameStage stage d && eqb v w) + bit (a.formed stage w) ≤ bit (b.formed stage w) = ⊎_elim here elsewhere
-      (passes? (sameStage stage d && eqb v w)) in
+      let turns : bit (same_stage stage d && eqb v w) + bit (a.formed stage w) ≤ bit (b.formed stage w) = ⊎_elim here elsewhere
+      (passes? (same_stage stage d && eqb v w)) in
       omega (
         arith,
         mul-le-mul_left n turns,
-        mul-add n (bit (sameStage stage d && eqb v w)) (bit (a.formed stage w)),
+        mul-add n (bit (same_stage stage d && eqb v w)) (bit (a.formed stage w)),
         count-mono n (a.entered w) (b.entered w) (λ p _ t. grows.entered w p t),
       )
     where
-      same-stage : (q d' : Bool) → T (sameStage q d') → d' ≡ q
+      same-stage : (q d' : Bool) → T (same_stage q d') → d' ≡ q
       same-stage true true t = refl
       same-stage true false t = absurd t
       same-stage false true t = absurd t
       same-stage false false t = refl
 
-      here : T (sameStage stage d && eqb v w) → bit (sameStage stage d && eqb v w) + bit (a.formed stage w) ≤ bit (b.formed stage w)
+      here : T (same_stage stage d && eqb v w) → bit (same_stage stage d && eqb v w) + bit (a.formed stage w) ≤ bit (b.formed stage w)
       here t =
-          let e : d ≡ stage = same-stage stage d (T-left (sameStage stage d) (eqb v w) t) in
-          let e' : v ≡ w = eqb→eq v w (T-right (sameStage stage d) (eqb v w) t) in
+          let e : d ≡ stage = same-stage stage d (T-left (same_stage stage d) (eqb v w) t) in
+          let e' : v ≡ w = eqb→eq v w (T-right (same_stage stage d) (eqb v w) t) in
           let was : bit (a.formed stage w) ≡ 0 = ap bit (T_false (a.formed stage w) (subst (λ (z : ℕ). T (a.formed stage z) → ⊥) e'
           (subst (λ (z : Bool). T (a.formed z v) → ⊥) e fresh))) in
           let is : bit (b.formed stage w) ≡ 1 = ap bit (T_true (b.formed stage w) (subst (λ (z : ℕ). T (b.formed stage z)) e'
           (subst (λ (z : Bool). T (b.formed z v)) e now))) in
-          omega (arith, was, is, bit_le (sameStage stage d && eqb v w))
+          omega (arith, was, is, bit_le (same_stage stage d && eqb v w))
 
-      elsewhere : (T (sameStage stage d && eqb v w) → ⊥) → bit (sameStage stage d && eqb v w) + bit (a.formed stage w) ≤ bit (b.formed stage w)
+      elsewhere : (T (same_stage stage d && eqb v w) → ⊥) → bit (same_stage stage d && eqb v w) + bit (a.formed stage w) ≤ bit (b.formed stage w)
       elsewhere no' =
-          let none : bit (sameStage stage d && eqb v w) ≡ 0 = ap bit (T_false (sameStage stage d && eqb v w) no') in
+          let none : bit (same_stage stage d && eqb v w) ≡ 0 = ap bit (T_false (same_stage stage d && eqb v w) no') in
           omega (arith, none, bit-mono (a.formed stage w) (b.formed stage w) (grows.formed stage w))

@@ -7,10 +7,10 @@ use Prim.Native.Nat.{ℕ, zero, suc}
 use Rattle.types.specs.declared.Message.{Message}
 use Rattle.types.specs.declared.Event.{Event}
 use Rattle.types.specs.declared.Answer.TheVariants.{Done}
-use Rattle.model.specs.State.{State, After, accepted, checkOf, refused}
+use Rattle.model.specs.State.{State, After, accepted, check_of, refused}
 use Rattle.model.specs.Moves.{advanced, arrivals, made}
-use Rattle.model.specs.Events.{tickChecks, tickOnce, continued, ticks, effect, applied}
-use Rattle.model.specs.Traffic.{ticksPosted, posting, postedIn, deliveredBy, deliveredIn, waitBy, waitIn}
+use Rattle.model.specs.Events.{tick_checks, tick_once, continued, ticks, effect, applied}
+use Rattle.model.specs.Traffic.{ticks_posted, posting, posted_in, delivered_by, delivered_in, wait_by, wait_in}
 use Rattle.liveness.proofs.Judging.{Passes, Passed, by-judged-each, by-applied}
 use Rattle.liveness.proofs.Answers.{no-yes, refused-stays}
 
@@ -22,30 +22,30 @@ ticked s = made (advanced s) (arrivals (advanced s))
 
 -- a says that it is done, or that a check refuses it
 abbrev Goes : State → After → Type 0
-Goes s a = Passes (tickChecks s) × (a ≡ record { state = ticked s; answer = Done 1 (ticked s).run.held })
+Goes s a = Passes (tick_checks s) × (a ≡ record { state = ticked s; answer = Done 1 (ticked s).run.held })
 
 abbrev Ends : State → After → Type 0
 Ends s a = (r : ℕ) × (a ≡ refused s (suc r))
 
-goes-or-ends : (s : State) → Goes s (tickOnce s) ⊎ Ends s (tickOnce s)
-unfolding tickOnce
-goes-or-ends s = by-judged-each (λ (a : After). Goes s a ⊎ Ends s a) (refused s) (tickChecks s) _
+goes-or-ends : (s : State) → Goes s (tick_once s) ⊎ Ends s (tick_once s)
+unfolding tick_once
+goes-or-ends s = by-judged-each (λ (a : After). Goes s a ⊎ Ends s a) (refused s) (tick_checks s) _
     (λ t. inr (15, refl), (λ t. inr (16, refl), (λ t. inr (17, refl), tt))) (λ c. inl (c, refl))
 
 -- what holds where no tick is done, and of one tick before those of which it holds, holds of any number of ticks and what they post
 pub by-ticks : (Q : State → State → List Message → Type 0) → ((s : State) → Q s s [])
-    → ((s : State) → Passes (tickChecks s) → (s' : State) (ms : List Message) → Q (ticked s) s' ms → Q s s' ((arrivals (advanced s)).sent ++ ms))
-    → (m : ℕ) (s : State) → Q s (ticks m s).state (ticksPosted m s)
-unfolding ticks ticksPosted
+    → ((s : State) → Passes (tick_checks s) → (s' : State) (ms : List Message) → Q (ticked s) s' ms → Q s s' ((arrivals (advanced s)).sent ++ ms))
+    → (m : ℕ) (s : State) → Q s (ticks m s).state (ticks_posted m s)
+unfolding ticks ticks_posted
 by-ticks Q none more zero s = none s
 by-ticks Q none more (suc m) s = go (goes-or-ends s) (by-ticks Q none more m (ticked s))
   where
     Goal : After → Type 0
-    Goal a = Q s (continued s (checkOf a.answer) (ticks m a.state)).state
-        (cond (accepted a.answer) ((arrivals (advanced s)).sent ++ ticksPosted m a.state) [])
+    Goal a = Q s (continued s (check_of a.answer) (ticks m a.state)).state
+        (cond (accepted a.answer) ((arrivals (advanced s)).sent ++ ticks_posted m a.state) [])
 
-    go : Goes s (tickOnce s) ⊎ Ends s (tickOnce s) → Q (ticked s) (ticks m (ticked s)).state (ticksPosted m (ticked s)) → Goal (tickOnce s)
-    go (inl w) ih = subst Goal (sym w.1) (more s w.0 (ticks m (ticked s)).state (ticksPosted m (ticked s)) ih)
+    go : Goes s (tick_once s) ⊎ Ends s (tick_once s) → Q (ticked s) (ticks m (ticked s)).state (ticks_posted m (ticked s)) → Goal (tick_once s)
+    go (inl w) ih = subst Goal (sym w.1) (more s w.0 (ticks m (ticked s)).state (ticks_posted m (ticked s)) ih)
     go (inr w) ih = subst Goal (sym w.1) (none s)
 
 -- ---- events
@@ -80,6 +80,6 @@ module _ (e : Event) (s : State) where
 
   -- so does what holds where nothing is posted or delivered, and of what an accepted event posts and delivers
   pub by-flow : (Q : State → List Message → List Message → ℕ → Type 0) → Q s [] [] 0
-      → (Passed e s → Q (effect e s).state (posting e s) (deliveredBy e) (waitBy e s))
-      → Q (applied e s).state (postedIn e s) (deliveredIn e s) (waitIn e s)
-  by-flow Q = by-taken (λ b s'. Q s' (cond b (posting e s) []) (cond b (deliveredBy e) []) (cond b (waitBy e s) 0))
+      → (Passed e s → Q (effect e s).state (posting e s) (delivered_by e) (wait_by e s))
+      → Q (applied e s).state (posted_in e s) (delivered_in e s) (wait_in e s)
+  by-flow Q = by-taken (λ b s'. Q s' (cond b (posting e s) []) (cond b (delivered_by e) []) (cond b (wait_by e s) 0))

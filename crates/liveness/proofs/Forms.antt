@@ -7,17 +7,17 @@ use lib.ListN.{length, drop}
 use Rattle.types.specs.declared.Plan.{Plan}
 use Rattle.types.specs.declared.Form.{Form}
 use Rattle.types.specs.declared.Form.TheVariants.{Wide, Packed}
-use Rattle.types.specs.Quantities.{nMost, width, networkLeast}
+use Rattle.types.specs.Quantities.{n_most, width, network_least}
 use Rattle.types.specs.Messages.{IsKind}
-use Rattle.model.specs.State.{Held, heldWords, held_at}
+use Rattle.model.specs.State.{Held, held_words, held_at}
 use Rattle.model.specs.FormLaws.{kind-unpacked, view-unpacked, processor-unpacked, packed-again}
 
 -- what every form can hold
 pub record Holdable (h : Held) : Type 0 where
   pub kind : IsKind h.kind
-  pub processor : h.processor < nMost
+  pub processor : h.processor < n_most
 
-pub read_back : (form : Form) (h : Held) (ws : List ℕ) → Holdable h → held_at form (heldWords form h ++ ws) 0 ≡ h
+pub read_back : (form : Form) (h : Held) (ws : List ℕ) → Holdable h → held_at form (held_words form h ++ ws) 0 ≡ h
 read_back Wide h ws can = refl
 read_back Packed h ws can = λ i. record {
   kind = kind-unpacked h.kind h.view h.processor can.kind can.processor i;
@@ -27,11 +27,11 @@ read_back Packed h ws can = λ i. record {
 }
 
 -- the sending time, whatever stands before it
-pub time-back : (form : Form) (h : Held) (ws : List ℕ) → (held_at form (heldWords form h ++ ws) 0).sent ≡ h.sent
+pub time-back : (form : Form) (h : Held) (ws : List ℕ) → (held_at form (held_words form h ++ ws) 0).sent ≡ h.sent
 time-back Wide h ws = refl
 time-back Packed h ws = refl
 
-pub read-on : (form : Form) (h : Held) (ws : List ℕ) (i : ℕ) → held_at form (heldWords form h ++ ws) (suc i) ≡ held_at form ws i
+pub read-on : (form : Form) (h : Held) (ws : List ℕ) (i : ℕ) → held_at form (held_words form h ++ ws) (suc i) ≡ held_at form ws i
 read-on Wide h ws i =
     let e0 : 4 * suc i ≡ suc (suc (suc (suc (4 * i)))) = omega arith in
     let e1 : 4 * suc i + 1 ≡ suc (suc (suc (suc (4 * i + 1)))) = omega arith in
@@ -44,7 +44,7 @@ read-on Packed h ws i =
     rw (e1, e0)
 
 -- what is read is what was laid down
-pub laid-back : (form : Form) (ws : List ℕ) → width form ≤ length ws → ws ≡ heldWords form (held_at form ws 0) ++ drop (width form) ws
+pub laid-back : (form : Form) (ws : List ℕ) → width form ≤ length ws → ws ≡ held_words form (held_at form ws 0) ++ drop (width form) ws
 laid-back Wide [] l = absurd (omega arith)
 laid-back Wide (k ∷ []) l = absurd (omega arith)
 laid-back Wide (k ∷ w ∷ []) l = absurd (omega arith)
@@ -55,6 +55,6 @@ laid-back Packed (x ∷ []) l = absurd (omega arith)
 laid-back Packed (x ∷ t ∷ ws) l = ap (λ (y : ℕ). y ∷ t ∷ ws) (packed-again x t)
 
 -- the least network has room for two messages of each processor
-pub least-twice : (form : Form) (plan : Plan) → width form * (2 * plan.n) ≡ networkLeast form plan
+pub least-twice : (form : Form) (plan : Plan) → width form * (2 * plan.n) ≡ network_least form plan
 least-twice Wide plan = omega arith
 least-twice Packed plan = omega arith

@@ -20,22 +20,22 @@ use Rattle.types.specs.declared.Plan.{Plan}
 use Rattle.types.specs.declared.Message.{Message}
 use Rattle.types.specs.declared.Run.{Run}
 use Rattle.types.specs.Quantities.{lead}
-use Rattle.model.specs.State.{view_of, isCorrect, enteredWord, heardWord, marksWord, markBit, slot, word, added}
-use Rattle.model.specs.Moves.{toCorrect, needed, forms, ripe, certificate, toEach}
+use Rattle.model.specs.State.{view_of, is_correct, entered_word, heard_word, marks_word, mark_bit, slot, word, added}
+use Rattle.model.specs.Moves.{to_correct, needed, forms, ripe, certificate, to_each}
 use Rattle.liveness.proofs.TallyLaws.{heard-low, length-added, length-heard, added-same, added-other, added-member, added-below}
-use Rattle.liveness.proofs.Flight.{Sent, In, stamped, sentAs}
-use Rattle.liveness.proofs.Sending.{signature, signature-is, certificate-is, apart, meant, certificate-meant, in-stamped, stamped-in, elem-correct, correct-elem, each-gets, each-got}
+use Rattle.liveness.proofs.Flight.{Sent, In, stamped, sent_as}
+use Rattle.liveness.proofs.Sending.{signature, signature_is, certificate-is, apart, meant, certificate-meant, in-stamped, stamped-in, elem-correct, correct-elem, each-gets, each-got}
 use Rattle.liveness.proofs.Judging.{or-none}
-use Rattle.liveness.proofs.Link.{Planned, params, correct-below, lead_is, flight, Books}
+use Rattle.liveness.proofs.Link.{Planned, params, correct_below, lead_is, flight, Books}
 
 -- a stage is told by its word and by its mark
-stage-of-word : (d q : Bool) → T (eqb (heardWord d) (heardWord q)) → d ≡ q
+stage-of-word : (d q : Bool) → T (eqb (heard_word d) (heard_word q)) → d ≡ q
 stage-of-word false false t = refl
 stage-of-word false true t = absurd t
 stage-of-word true false t = absurd t
 stage-of-word true true t = refl
 
-stage-of-mark : (d q : Bool) → T (eqb (markBit d) (markBit q)) → d ≡ q
+stage-of-mark : (d q : Bool) → T (eqb (mark_bit d) (mark_bit q)) → d ≡ q
 stage-of-mark false false t = refl
 stage-of-mark false true t = absurd t
 stage-of-mark true false t = absurd t
@@ -65,97 +65,97 @@ module _ (q : Bool) (r : Run) (t : List ℕ) (ok : Planned r.plan r.faulty) {P :
   π = params r.plan r.faulty ok
 
   abbrev signers : ℕ
-  signers = insert (word t w (heardWord q)) p
+  signers = insert (word t w (heard_word q)) p
 
   abbrev pub formed-here : Bool
   formed-here = forms q r t w p
 
   abbrev with-signer : List ℕ
-  with-signer = added t w (heardWord q) p
+  with-signer = added t w (heard_word q) p
 
   abbrev pub tally-to : List ℕ
-  tally-to = cond formed-here (added with-signer w marksWord (markBit q)) with-signer
+  tally-to = cond formed-here (added with-signer w marks_word (mark_bit q)) with-signer
 
   -- the leaders' tally afterwards
   abbrev pub hearers : Tally
   hearers = record {
-    heard = λ d u x. L.heard d u x || (eqb u w && (eqb (heardWord d) (heardWord q) && eqb x p));
-    formed = λ d u. L.formed d u || (formed-here && (eqb u w && eqb (markBit d) (markBit q)));
+    heard = λ d u x. L.heard d u x || (eqb u w && (eqb (heard_word d) (heard_word q) && eqb x p));
+    formed = λ d u. L.formed d u || (formed-here && (eqb u w && eqb (mark_bit d) (mark_bit q)));
   }
 
-  row-long : slot w marksWord < length t
-  row-long = omega (arith, books.rows)
+  row_long : slot w marks_word < length t
+  row_long = omega (arith, books.rows)
 
-  word-long : slot w (heardWord q) < length t
+  word-long : slot w (heard_word q) < length t
   word-long = omega (arith, books.rows, heard-low q)
 
   pub length_to : length tally-to ≡ length t
   length_to = length-heard t q w p formed-here
 
   -- the words but the marks are those with the signer
-  word-to : (u j : ℕ) → j < marksWord → word tally-to u j ≡ word with-signer u j
-  word-to u j l = by_cond (λ (x : List ℕ). word x u j ≡ word with-signer u j) formed-here (added with-signer w marksWord (markBit q)) with-signer
-      (λ f. added-other with-signer w marksWord (markBit q) u j (omega arith)) (λ f. refl)
+  word-to : (u j : ℕ) → j < marks_word → word tally-to u j ≡ word with-signer u j
+  word-to u j l = by_cond (λ (x : List ℕ). word x u j ≡ word with-signer u j) formed-here (added with-signer w marks_word (mark_bit q)) with-signer
+      (λ f. added-other with-signer w marks_word (mark_bit q) u j (omega arith)) (λ f. refl)
 
-  marks-to : (d : Bool) (u : ℕ) → member (word tally-to u marksWord) (markBit d) ≡
-      (member (word t u marksWord) (markBit d) || (formed-here && (eqb u w && eqb (markBit d) (markBit q))))
+  marks-to : (d : Bool) (u : ℕ) → member (word tally-to u marks_word) (mark_bit d) ≡
+      (member (word t u marks_word) (mark_bit d) || (formed-here && (eqb u w && eqb (mark_bit d) (mark_bit q))))
   marks-to d u = go formed-here
     where
-      same : word with-signer u marksWord ≡ word t u marksWord
-      same = added-other t w (heardWord q) p u marksWord (omega (arith, heard-low q))
+      same : word with-signer u marks_word ≡ word t u marks_word
+      same = added-other t w (heard_word q) p u marks_word (omega (arith, heard-low q))
 
-      go : (f : Bool) → member (word (cond f (added with-signer w marksWord (markBit q)) with-signer) u marksWord) (markBit d)
-          ≡ (member (word t u marksWord) (markBit d) || (f && (eqb u w && eqb (markBit d) (markBit q))))
+      go : (f : Bool) → member (word (cond f (added with-signer w marks_word (mark_bit q)) with-signer) u marks_word) (mark_bit d)
+          ≡ (member (word t u marks_word) (mark_bit d) || (f && (eqb u w && eqb (mark_bit d) (mark_bit q))))
       go true =
-          added-member with-signer w marksWord (markBit q) (omega arith) (rw (length-added t w (heardWord q) p) row-long) u marksWord (markBit d) (omega arith)
-          ∙ ap (λ (x : ℕ). member x (markBit d) || (eqb u w && eqb (markBit d) (markBit q))) same
-      go false = ap (λ (x : ℕ). member x (markBit d)) same ∙ sym (or-none (member (word t u marksWord) (markBit d)) false (λ x. x))
+          added-member with-signer w marks_word (mark_bit q) (omega arith) (rw (length-added t w (heard_word q) p) row_long) u marks_word (mark_bit d) (omega arith)
+          ∙ ap (λ (x : ℕ). member x (mark_bit d) || (eqb u w && eqb (mark_bit d) (mark_bit q))) same
+      go false = ap (λ (x : ℕ). member x (mark_bit d)) same ∙ sym (or-none (member (word t u marks_word) (mark_bit d)) false (λ x. x))
 
   pub hear-books : Books r.plan r.clocks r.views tally-to P hearers
   hear-books = record {
-    clocks-long = books.clocks-long;
-    views-long = books.views-long;
+    clocks_long = books.clocks_long;
+    views_long = books.views_long;
     rows = rw length_to books.rows;
     clock = books.clock;
     view = books.view;
     entered = λ u x l. books.entered u x l ∙ ap (λ (y : ℕ). member y x)
-        (sym (word-to u enteredWord (omega arith) ∙ added-other t w (heardWord q) p u enteredWord (omega (arith, heard-low q))));
+        (sym (word-to u entered_word (omega arith) ∙ added-other t w (heard_word q) p u entered_word (omega (arith, heard-low q))));
     heard = λ d u x l.
-        ap (λ (b : Bool). b || (eqb u w && (eqb (heardWord d) (heardWord q) && eqb x p))) (books.heard d u x l)
-        ∙ sym (ap (λ (y : ℕ). member y x) (word-to u (heardWord d) (heard-low d).1)
-        ∙ added-member t w (heardWord q) p (omega (arith, heard-low q)) word-long u (heardWord d) x (omega (arith, heard-low d)));
-    formed = λ d u l. ap (λ (b : Bool). b || (formed-here && (eqb u w && eqb (markBit d) (markBit q)))) (books.formed d u l) ∙ sym (marks-to d u);
-    sets_below = λ u j l h. rw (word-to u j h) (added-below t w (heardWord q) p (omega (arith, heard-low q)) word-long r.plan.n u j (omega arith)
+        ap (λ (b : Bool). b || (eqb u w && (eqb (heard_word d) (heard_word q) && eqb x p))) (books.heard d u x l)
+        ∙ sym (ap (λ (y : ℕ). member y x) (word-to u (heard_word d) (heard-low d).1)
+        ∙ added-member t w (heard_word q) p (omega (arith, heard-low q)) word-long u (heard_word d) x (omega (arith, heard-low d)));
+    formed = λ d u l. ap (λ (b : Bool). b || (formed-here && (eqb u w && eqb (mark_bit d) (mark_bit q)))) (books.formed d u l) ∙ sym (marks-to d u);
+    sets_below = λ u j l h. rw (word-to u j h) (added-below t w (heard_word q) p (omega (arith, heard-low q)) word-long r.plan.n u j (omega arith)
         p-low (books.sets_below u j l h));
   }
 
   -- the signers are counted as they are in the protocol
   counted : count r.plan.n (hearers.heard q w) ≡ size signers
   counted =
-      let e : word tally-to w (heardWord q) ≡ signers = word-to w (heardWord q) (heard-low q).1 ∙ added-same t w (heardWord q) p word-long in
+      let e : word tally-to w (heard_word q) ≡ signers = word-to w (heard_word q) (heard-low q).1 ∙ added-same t w (heard_word q) p word-long in
       count-ext r.plan.n (hearers.heard q w) (member signers) (λ x l. hear-books.heard q w x w-low ∙ ap (λ (y : ℕ). member y x) e)
-      ∙ sym (size-count r.plan.n signers (insert-below r.plan.n (word t w (heardWord q)) p p-low
-      (books.sets_below w (heardWord q) w-low (heard-low q).1)))
+      ∙ sym (size-count r.plan.n signers (insert-below r.plan.n (word t w (heard_word q)) p p-low
+      (books.sets_below w (heard_word q) w-low (heard-low q).1)))
 
   forms-many : T formed-here → needed q r.plan ≤ size signers
   unfolding ripe
   forms-many f =
       leb→le _ _ (T-left (leb (needed q r.plan) (size signers)) _
-      (T-left (leb (needed q r.plan) (size signers) && not (member (word t w marksWord) (markBit q))) _ f))
+      (T-left (leb (needed q r.plan) (size signers) && not (member (word t w marks_word) (mark_bit q))) _ f))
 
   forms-first : T formed-here → T (L.formed q w) → ⊥
   unfolding ripe
-  forms-first f x = T_not (member (word t w marksWord) (markBit q))
+  forms-first f x = T_not (member (word t w marks_word) (mark_bit q))
       (T-right (leb (needed q r.plan) (size signers)) _ (T-left
-      (leb (needed q r.plan) (size signers) && not (member (word t w marksWord) (markBit q))) _ f))
+      (leb (needed q r.plan) (size signers) && not (member (word t w marks_word) (mark_bit q))) _ f))
       (rw (books.formed q w w-low) at x)
 
   forms-if : needed q r.plan ≤ size signers → (T (L.formed q w) → ⊥) → T (q || leb (view_of r (lead r.plan w)) w) → T formed-here
   unfolding ripe
   forms-if m no' v =
-      T_and (leb (needed q r.plan) (size signers) && not (member (word t w marksWord) (markBit q))) _
+      T_and (leb (needed q r.plan) (size signers) && not (member (word t w marks_word) (mark_bit q))) _
       (T_and (leb (needed q r.plan) (size signers)) _ (le→leb _ _ m)
-      (not_T (member (word t w marksWord) (markBit q)) (λ x. no' (rw (books.formed q w w-low) x))))
+      (not_T (member (word t w marks_word) (mark_bit q)) (λ x. no' (rw (books.formed q w w-low) x))))
       v
 
   allowed-here : Allowed π P q w → T (q || leb (view_of r (lead r.plan w)) w)
@@ -166,46 +166,46 @@ module _ (q : Bool) (r : Run) (t : List ℕ) (ok : Planned r.plan r.faulty) {P :
       go false a = let l : view_of r (lead r.plan w) ≤ w = rw (books.view (proto.lead π w), lead_is r.plan r.faulty ok w) at a in le→leb _ _ l
 
   mark_made : T formed-here → T (hearers.formed q w)
-  mark_made f = or_right (L.formed q w) (formed-here && (eqb w w && eqb (markBit q) (markBit q)))
-      (T_and formed-here _ f (T_and (eqb w w) _ (eq→eqb w w refl) (eq→eqb (markBit q) (markBit q) refl)))
+  mark_made f = or_right (L.formed q w) (formed-here && (eqb w w && eqb (mark_bit q) (mark_bit q)))
+      (T_and formed-here _ f (T_and (eqb w w) _ (eq→eqb w w refl) (eq→eqb (mark_bit q) (mark_bit q) refl)))
 
   -- ys is what is left of the messages in flight, xs, without the signature
   module _ (now : ℕ) (xs ys : List Sent) (kept : (m : Message) (s : ℕ) → In m s ys → In m s xs)
       (gone : (m : Message) (s : ℕ) → In m s xs → In m s ys ⊎ (m ≡ signature q w p))
-      (from : (T (isCorrect r p) → ⊥) ⊎ ((s : ℕ) × In (signature q w p) s xs)) (led : T (isCorrect r (lead r.plan w))) where
+      (from : (T (is_correct r p) → ⊥) ⊎ ((s : ℕ) × In (signature q w p) s xs)) (led : T (is_correct r (lead r.plan w))) where
     abbrev all_of : List Message
-    all_of = toCorrect r.plan r.faulty (toEach q w r.plan.n)
+    all_of = to_correct r.plan r.faulty (to_each q w r.plan.n)
 
-    abbrev pub sent-of : List Message
-    sent-of = cond formed-here all_of []
+    abbrev pub sent_of : List Message
+    sent_of = cond formed-here all_of []
 
     -- what is sent is the certificate, to correct processors
-    sent_is : (m : Message) (s : ℕ) → In m s (stamped now sent-of) → T formed-here × (s ≡ now) × ((x : ℕ) × (m ≡ certificate q w x) × T (isCorrect r x))
+    sent_is : (m : Message) (s : ℕ) → In m s (stamped now sent_of) → T formed-here × (s ≡ now) × ((x : ℕ) × (m ≡ certificate q w x) × T (is_correct r x))
     sent_is m s i =
         let a = in-chosen m s now formed-here all_of i in
         let b = in-stamped m s now all_of a.1 in
-        let c = elem-correct r m (toEach q w r.plan.n) b.1 in
+        let c = elem-correct r m (to_each q w r.plan.n) b.1 in
         let e = each-got q w r.plan.n m c.0 in
-        (a.0, b.0, (e.0, e.2, subst (λ (x : ℕ). T (isCorrect r x)) (ap (meant r.plan) e.2 ∙ certificate-meant r.plan q w e.0) c.1))
+        (a.0, b.0, (e.0, e.2, subst (λ (x : ℕ). T (is_correct r x)) (ap (meant r.plan) e.2 ∙ certificate-meant r.plan q w e.0) c.1))
 
-    pub heard : Hear π P L hearers (flight xs) (flight (ys ++ stamped now sent-of)) now q w p
+    pub heard : Hear π P L hearers (flight xs) (flight (ys ++ stamped now sent_of)) now q w p
     unfolding proto.lead proto.row
     heard = record {
       led = led;
       from = from;
-      heard-old = λ d u x y. or_left (L.heard d u x) (eqb u w && (eqb (heardWord d) (heardWord q) && eqb x p)) y;
-      heard-new = λ d u x y. ⊎_elim (λ z. inl z)
+      heard_old = λ d u x y. or_left (L.heard d u x) (eqb u w && (eqb (heard_word d) (heard_word q) && eqb x p)) y;
+      heard_new = λ d u x y. ⊎_elim (λ z. inl z)
           (λ z. let z' = T-right (eqb u w) _ z in inr (
-            stage-of-word d q (T-left (eqb (heardWord d) (heardWord q)) _ z'),
+            stage-of-word d q (T-left (eqb (heard_word d) (heard_word q)) _ z'),
             eqb→eq u w
                 (T-left (eqb u w) _ z),
-            eqb→eq x p (T-right (eqb (heardWord d) (heardWord q)) _ z'),
+            eqb→eq x p (T-right (eqb (heard_word d) (heard_word q)) _ z'),
           ))
-          (or_cases (L.heard d u x) (eqb u w && (eqb (heardWord d) (heardWord q) && eqb x p)) y);
-      heard-now = or_right (L.heard q w p) (eqb w w && (eqb (heardWord q) (heardWord q) && eqb p p))
-          (T_and (eqb w w) _ (eq→eqb w w refl) (T_and (eqb (heardWord q) (heardWord q)) _ (eq→eqb (heardWord q) (heardWord q) refl) (eq→eqb p p refl)));
-      formed-old = λ d u y. or_left (L.formed d u) (formed-here && (eqb u w && eqb (markBit d) (markBit q))) y;
-      formed-new = λ d u y. ⊎_elim (λ z. inl z)
+          (or_cases (L.heard d u x) (eqb u w && (eqb (heard_word d) (heard_word q) && eqb x p)) y);
+      heard_now = or_right (L.heard q w p) (eqb w w && (eqb (heard_word q) (heard_word q) && eqb p p))
+          (T_and (eqb w w) _ (eq→eqb w w refl) (T_and (eqb (heard_word q) (heard_word q)) _ (eq→eqb (heard_word q) (heard_word q) refl) (eq→eqb p p refl)));
+      formed_old = λ d u y. or_left (L.formed d u) (formed-here && (eqb u w && eqb (mark_bit d) (mark_bit q))) y;
+      formed_new = λ d u y. ⊎_elim (λ z. inl z)
           (λ z. let z' = T-right formed-here _ z in
           inr (
             stage-of-mark d q (T-right (eqb u w) _ z'),
@@ -213,23 +213,23 @@ module _ (q : Bool) (r : Run) (t : List ℕ) (ok : Planned r.plan r.faulty) {P :
             needed-enough r.plan r.faulty ok q _
                 (rw counted (forms-many (T-left formed-here _ z))),
           ))
-          (or_cases (L.formed d u) (formed-here && (eqb u w && eqb (markBit d) (markBit q))) y);
-      formed-now = λ e a. ⊎_elim (λ z. or_left (L.formed q w) (formed-here && (eqb w w && eqb (markBit q) (markBit q))) z)
+          (or_cases (L.formed d u) (formed-here && (eqb u w && eqb (mark_bit d) (mark_bit q))) y);
+      formed_now = λ e a. ⊎_elim (λ z. or_left (L.formed q w) (formed-here && (eqb w w && eqb (mark_bit q) (mark_bit q))) z)
           (λ z. mark_made (forms-if (rw counted at (enough-needed r.plan r.faulty ok q _ e)) z (allowed-here a))) (passes? (L.formed q w));
-      signature-old = λ d u x s y. ⊎_elim (λ z. inl (elem-left (sentAs (signature d u x) s) ys (stamped now sent-of) z)) (λ z. inr (signature-is d q u w x p z))
+      signature_old = λ d u x s y. ⊎_elim (λ z. inl (elem-left (sent_as (signature d u x) s) ys (stamped now sent_of) z)) (λ z. inr (signature_is d q u w x p z))
           (gone (signature d u x) s y);
-      signature-new = λ d u x s y. ⊎_elim (λ z. kept (signature d u x) s z)
+      signature_new = λ d u x s y. ⊎_elim (λ z. kept (signature d u x) s z)
           (λ z. let a = sent_is (signature d u x) s z in absurd (apart d q u w x a.2.0 a.2.1))
-          (elem-cases (sentAs (signature d u x) s) ys (stamped now sent-of) y);
-      certificate-old = λ d u x s y. ⊎_elim (λ z. elem-left (sentAs (certificate d u x) s) ys (stamped now sent-of) z) (λ z. absurd (apart q d w u p x (sym z)))
+          (elem-cases (sent_as (signature d u x) s) ys (stamped now sent_of) y);
+      certificate_old = λ d u x s y. ⊎_elim (λ z. elem-left (sent_as (certificate d u x) s) ys (stamped now sent_of) z) (λ z. absurd (apart q d w u p x (sym z)))
           (gone (certificate d u x) s y);
-      certificate-new = λ d u x s y. ⊎_elim (λ z. inl (kept (certificate d u x) s z))
+      certificate_new = λ d u x s y. ⊎_elim (λ z. inl (kept (certificate d u x) s z))
           (λ z. let a = sent_is (certificate d u x) s z in let e = certificate-is d q u w x a.2.0 a.2.1 in
           inr (e.0, e.1, a.1, rw e.2 a.2.2, forms-first a.0, mark_made a.0))
-          (elem-cases (sentAs (certificate d u x) s) ys (stamped now sent-of) y);
-      sent = λ no' f x c. elem-right (sentAs (certificate q w x) now) ys (stamped now sent-of) (chosen-in (certificate q w x) now now formed-here all_of
-          (⊎_elim (λ z. absurd (no' z)) (λ z. T-left formed-here _ z) (or_cases (L.formed q w) (formed-here && (eqb w w && eqb (markBit q) (markBit q))) f))
-          (stamped-in (certificate q w x) now all_of (correct-elem r (certificate q w x) (toEach q w r.plan.n)
-          (each-gets q w r.plan.n x (correct-below r.plan r.faulty x c))
-          (subst (λ (y : ℕ). T (isCorrect r y)) (sym (certificate-meant r.plan q w x)) c))));
+          (elem-cases (sent_as (certificate d u x) s) ys (stamped now sent_of) y);
+      sent = λ no' f x c. elem-right (sent_as (certificate q w x) now) ys (stamped now sent_of) (chosen-in (certificate q w x) now now formed-here all_of
+          (⊎_elim (λ z. absurd (no' z)) (λ z. T-left formed-here _ z) (or_cases (L.formed q w) (formed-here && (eqb w w && eqb (mark_bit q) (mark_bit q))) f))
+          (stamped-in (certificate q w x) now all_of (correct-elem r (certificate q w x) (to_each q w r.plan.n)
+          (each-gets q w r.plan.n x (correct_below r.plan r.faulty x c))
+          (subst (λ (y : ℕ). T (is_correct r y)) (sym (certificate-meant r.plan q w x)) c))));
     }

@@ -13,11 +13,11 @@ use Rattle.types.specs.declared.Message.{Message}
 use Rattle.types.specs.declared.Event.{Event}
 use Rattle.types.specs.declared.Event.TheVariants.{Deliver, Sign, Show, Settle, Tick}
 use Rattle.types.specs.declared.Form.{Form}
-use Rattle.types.specs.Quantities.{rowWords, networkLeast, networkMost}
-use Rattle.types.specs.Messages.{lacksForm}
+use Rattle.types.specs.Quantities.{row_words, network_least, network_most}
+use Rattle.types.specs.Messages.{lacks_form}
 use Rattle.model.specs.State.{State, After, refused}
-use Rattle.model.specs.Checks.{Check, judged, networkOutside, lengthsOutside, unsound, namedOutside, is_at, place_of, notHeld}
-use Rattle.model.specs.Events.{inputChecks, changeChecks, checks, effect, applied}
+use Rattle.model.specs.Checks.{Check, judged, network_outside, lengths_outside, unsound, named_outside, is_at, place_of, not_held}
+use Rattle.model.specs.Events.{input_checks, change_checks, checks, effect, applied}
 
 -- none of the checks refuses
 abbrev pub Passes : List Check → Type 0
@@ -68,15 +68,15 @@ passes-both (x ∷ xs) ys c = let b = passes-both xs ys c.1 in ((c.0, b.0), b.1)
 
 -- none of them refuses
 pub record Passed (e : Event) (s : State) : Type 0 where
-  pub form : T (lacksForm e) → ⊥
+  pub form : T (lacks_form e) → ⊥
   pub sound : T (unsound s) → ⊥
-  pub input : Passes (inputChecks e s)
-  pub outcome : Passes (changeChecks e s)
+  pub input : Passes (input_checks e s)
+  pub outcome : Passes (change_checks e s)
 
 pub passed : (e : Event) (s : State) → Passes (checks e s) → Passed e s
 unfolding checks
 passed e s c =
-    let b = passes-both (inputChecks e s) (changeChecks e s) c.1.1 in
+    let b = passes-both (input_checks e s) (change_checks e s) c.1.1 in
     record { form = c.0; sound = c.1.0; input = b.0; outcome = b.1 }
 
 -- what holds of the refusals, and of its effect where none refuses, holds of an event
@@ -85,12 +85,12 @@ unfolding applied
 by-applied Q e s f g = by-judged Q (refused s) (checks e s) (effect e s) f (λ c. g (passed e s c))
 
 -- the same by the check that refuses: 1, 9, or a later one
-pub by-applied-each {κ} : (Q : After → Type κ) (e : Event) (s : State) → (T (lacksForm e) → Q (refused s 1)) → (T (unsound s) → Q (refused s 9))
+pub by-applied-each {κ} : (Q : After → Type κ) (e : Event) (s : State) → (T (lacks_form e) → Q (refused s 1)) → (T (unsound s) → Q (refused s 9))
     → ((r : ℕ) → 9 < r → Q (refused s r)) → (Passed e s → Q (effect e s)) → Q (applied e s)
 unfolding applied checks
 by-applied-each Q e s one nine later g = by-judged-each Q (refused s) (checks e s) (effect e s) (one, (nine, others e)) (λ c. g (passed e s c))
   where
-    others : (d : Event) → Refusals (λ r. Q (refused s r)) (inputChecks d s ++ changeChecks d s)
+    others : (d : Event) → Refusals (λ r. Q (refused s r)) (input_checks d s ++ change_checks d s)
     others (Deliver m) = (
       λ t. later 10 (omega arith),
       (λ t. later 11 (omega arith), (λ t. later 13 (omega arith), (λ t. later 17 (omega arith), (λ t. later 18 (omega arith), tt)))),
@@ -131,7 +131,7 @@ not-leb a b no' = ⊎_elim (λ (l : a ≤ b). absurd (no' (le→leb a b l))) (λ
 -- ---- single checks
 
 -- check 10 passed
-pub named-within : (plan : Plan) (p w : ℕ) → (T (namedOutside plan p w) → ⊥) → (p < plan.n) × (w < plan.views)
+pub named-within : (plan : Plan) (p w : ℕ) → (T (named_outside plan p w) → ⊥) → (p < plan.n) × (w < plan.views)
 named-within plan p w no' = (
   ⊎_elim (λ (l : plan.n ≤ p). absurd (no' (or_left (leb plan.n p) (leb plan.views w) (le→leb _ _ l)))) (λ l. l) (le? plan.n p),
   ⊎_elim (λ (l : plan.views ≤ w). absurd (no' (or_right (leb plan.n p) (leb plan.views w) (le→leb _ _ l)))) (λ l. l) (le? plan.views w),
@@ -139,21 +139,21 @@ named-within plan p w no' = (
 
 -- check 6 passed
 pub record Lengths (form : Form) (plan : Plan) (tally network : ℕ) : Type 0 where
-  pub rows : rowWords * plan.views ≤ tally
-  pub least : networkLeast form plan ≤ network
-  pub most : network ≤ networkMost
+  pub rows : row_words * plan.views ≤ tally
+  pub least : network_least form plan ≤ network
+  pub most : network ≤ network_most
 
-pub lengths-within : (form : Form) (plan : Plan) (t n : ℕ) → (T (lengthsOutside form plan t n) → ⊥) → Lengths form plan t n
+pub lengths-within : (form : Form) (plan : Plan) (t n : ℕ) → (T (lengths_outside form plan t n) → ⊥) → Lengths form plan t n
 lengths-within form plan t n no' =
-    let a = neither (ltb t (rowWords * plan.views)) (networkOutside form plan n) no' in
-    let b = neither (ltb n (networkLeast form plan)) (ltb networkMost n) a.1 in
+    let a = neither (ltb t (row_words * plan.views)) (network_outside form plan n) no' in
+    let b = neither (ltb n (network_least form plan)) (ltb network_most n) a.1 in
     record { rows = not-ltb _ _ a.0; least = not-ltb _ _ b.0; most = not-ltb _ _ b.1 }
 
-pub network-within : (form : Form) (plan : Plan) (t n : ℕ) → (T (lengthsOutside form plan t n) → ⊥) → networkOutside form plan n ≡ false
-network-within form plan t n no' = T_false (networkOutside form plan n) (neither (ltb t (rowWords * plan.views)) (networkOutside form plan n) no').1
+pub network-within : (form : Form) (plan : Plan) (t n : ℕ) → (T (lengths_outside form plan t n) → ⊥) → network_outside form plan n ≡ false
+network-within form plan t n no' = T_false (network_outside form plan n) (neither (ltb t (row_words * plan.views)) (network_outside form plan n) no').1
 
 -- check 13 passed
-pub place_inside : (s : State) (m : Message) → (T (notHeld s m) → ⊥) → place_of s m < s.run.held
+pub place_inside : (s : State) (m : Message) → (T (not_held s m) → ⊥) → place_of s m < s.run.held
 place_inside s m is_held_lem = ⊎_elim
     (λ (e : place_of s m ≡ s.run.held). absurd (is_held_lem (eq→eqb _ _ e)))
     (λ ne. omega (arith, first-le (is_at s.form s.network m) s.run.held))

@@ -34,17 +34,17 @@ use Rattle.types.specs.declared.Plan.{Plan}
 use Rattle.types.specs.declared.Event.{Event}
 use Rattle.types.specs.declared.Event.TheVariants.{Deliver, Sign, Show, Settle, Tick}
 use Rattle.types.specs.declared.Setup.{Setup}
-use Rattle.types.specs.Quantities.{perLeader, tolerated, lead, correct}
-use Rattle.model.specs.State.{State, After, clockOf, view_of, checkOf, accepted}
-use Rattle.model.specs.Checks.{supporting, tooFarAhead, unsound}
-use Rattle.model.specs.Opening.{opened, openingChecks, opening}
-use Rattle.model.specs.Events.{nowSettled, ticks, tickRun, effect, applied}
-use Rattle.model.specs.Processors.{Moved, clockAt, entryBy, moving-check, movingBy, stepChecks, refusing, stepped}
-use Rattle.model.specs.Lists.{after, ClockCondition, Since, since, sinceSettling, ticksDone, ticksSince, formedSince}
-use Rattle.liveness.specs.Promises.{settlingBound, Certified, DemandThree, StaysSound, OpeningReaches, EventReaches, ReachableSound, StaysSame, NeverBack, RefusedProcessorStays}
+use Rattle.types.specs.Quantities.{per_leader, tolerated, lead, correct}
+use Rattle.model.specs.State.{State, After, clock_of, view_of, check_of, accepted}
+use Rattle.model.specs.Checks.{supporting, too_far_ahead, unsound}
+use Rattle.model.specs.Opening.{opened, opening_checks, opening}
+use Rattle.model.specs.Events.{now_settled, ticks, tick_run, effect, applied}
+use Rattle.model.specs.Processors.{Moved, clock_at, entry_by, moving-check, moving_by, step_checks, refusing, stepped}
+use Rattle.model.specs.Lists.{after, ClockCondition, Since, since, since_settling, ticks_done, ticks_since, formed_since}
+use Rattle.liveness.specs.Promises.{settling_bound, Certified, DemandThree, StaysSound, OpeningReaches, EventReaches, ReachableSound, StaysSame, NeverBack, RefusedProcessorStays}
 use Rattle.liveness.specs.Live.{setup, unopened, events, past_bound, opening-accepted}
-use Rattle.liveness.proofs.Link.{Planned, params, correct-count, third}
-use Rattle.liveness.proofs.Tracks.{Tracked, Leads, stays, leads-on}
+use Rattle.liveness.proofs.Link.{Planned, params, correct_count, third}
+use Rattle.liveness.proofs.Tracks.{Tracked, Leads, stays, leads_on}
 use Rattle.liveness.proofs.Judging.{Passes, by-judged, by-applied, by-applied-each}
 use Rattle.liveness.proofs.Events.{at-own-plan, event-leads}
 use Rattle.liveness.proofs.Opens.{planned, opened-tracked, opened-lengths, opening-done}
@@ -57,19 +57,19 @@ use Rattle.liveness.proofs.Marks.{Marked, marked-during}
 -- ---- the clock condition
 
 own-clocks : (s : State) (ok : Planned s.run.plan s.run.faulty) → Tracked s.run.plan s.run.faulty ok s → ClockCondition s.run
-unfolding tooFarAhead
+unfolding too_far_ahead
 own-clocks s ok x = some-none _ s.run.plan.n (λ q l t.
     let c = T-left (correct s.run.plan s.run.faulty q) _ t in
-    let few : supporting s.run.plan s.run.faulty s.run.clocks (clockOf s.run q) < tolerated s.run.plan + 1 =
+    let few : supporting s.run.plan s.run.faulty s.run.clocks (clock_of s.run q) < tolerated s.run.plan + 1 =
     ltb→lt _ _ (T-right (correct s.run.plan s.run.faulty q) _ t) in
     omega (
       arith,
       x.holds.processors.near q c,
       count-mono s.run.plan.n (nearby (params s.run.plan s.run.faulty ok) x.processors (x.processors.clock q))
-          (λ r. correct s.run.plan s.run.faulty r && leb (clockOf s.run q) (clockOf s.run r + s.run.plan.gamma)) (λ r l' y.
+          (λ r. correct s.run.plan s.run.faulty r && leb (clock_of s.run q) (clock_of s.run r + s.run.plan.gamma)) (λ r l' y.
           let h : x.processors.clock q ≤ x.processors.clock r + s.run.plan.gamma =
           leb→le _ _ (T-right (correct s.run.plan s.run.faulty r) _ y) in
-          let h' : clockOf s.run q ≤ clockOf s.run r + s.run.plan.gamma = omega (arith, x.books.clock q, x.books.clock r) in
+          let h' : clock_of s.run q ≤ clock_of s.run r + s.run.plan.gamma = omega (arith, x.books.clock q, x.books.clock r) in
           T_and (correct s.run.plan s.run.faulty r) _ (T-left (correct s.run.plan s.run.faulty r) _ y) (le→leb _ _ h')),
     ))
 
@@ -83,11 +83,11 @@ module _ (plan : Plan) (faulty : ℕ) (ok : Planned plan faulty) where
   π = params plan faulty ok
 
   -- the network settles
-  settled-tracked : (s : State) → Tracked plan faulty ok s → Tracked plan faulty ok (nowSettled s)
-  unfolding nowSettled
+  settled-tracked : (s : State) → Tracked plan faulty ok s → Tracked plan faulty ok (now_settled s)
+  unfolding now_settled
   settled-tracked s x = record {
-    plan-is = x.plan-is;
-    faulty-is = x.faulty-is;
+    plan_is = x.plan_is;
+    faulty_is = x.faulty_is;
     messages = x.messages;
     processors = x.processors;
     tally = x.tally;
@@ -104,93 +104,93 @@ module _ (plan : Plan) (faulty : ℕ) (ok : Planned plan faulty) where
   -- where a list of events leads, settling or not
   pub record Follows (s s' : State) : Type 0 where
     pub tracked : Tracked plan faulty ok s'
-    pub tally-length : length s'.tally ≡ length s.tally
-    pub network-length : length s'.network ≡ length s.network
-    pub view-up : (p : ℕ) → T (correct plan faulty p) → view_of s.run p ≤ view_of s'.run p
-    pub clock-up : (p : ℕ) → T (correct plan faulty p) → clockOf s.run p ≤ clockOf s'.run p
+    pub tally_length : length s'.tally ≡ length s.tally
+    pub network_length : length s'.network ≡ length s.network
+    pub view_up : (p : ℕ) → T (correct plan faulty p) → view_of s.run p ≤ view_of s'.run p
+    pub clock_up : (p : ℕ) → T (correct plan faulty p) → clock_of s.run p ≤ clock_of s'.run p
 
-  follows-none : (s : State) → Tracked plan faulty ok s → Follows s s
-  follows-none s x = record { tracked = x; tally-length = refl; network-length = refl; view-up = λ p c. omega arith; clock-up = λ p c. omega arith }
+  follows_none : (s : State) → Tracked plan faulty ok s → Follows s s
+  follows_none s x = record { tracked = x; tally_length = refl; network_length = refl; view_up = λ p c. omega arith; clock_up = λ p c. omega arith }
 
   follows_both : (s s' s'' : State) → Follows s s' → Follows s' s'' → Follows s s''
   follows_both s s' s'' a b = record {
     tracked = b.tracked;
-    tally-length = b.tally-length ∙ a.tally-length;
-    network-length = b.network-length ∙ a.network-length;
-    view-up = λ p c. omega (arith, a.view-up p c, b.view-up p c);
-    clock-up = λ p c. omega (arith, a.clock-up p c, b.clock-up p c);
+    tally_length = b.tally_length ∙ a.tally_length;
+    network_length = b.network_length ∙ a.network_length;
+    view_up = λ p c. omega (arith, a.view_up p c, b.view_up p c);
+    clock_up = λ p c. omega (arith, a.clock_up p c, b.clock_up p c);
   }
 
-  follows-leads : (s : State) (x : Tracked plan faulty ok s) (s' : State) → Leads plan faulty ok s x s' → Follows s s'
-  follows-leads s x s' l = record {
+  follows_leads : (s : State) (x : Tracked plan faulty ok s) (s' : State) → Leads plan faulty ok s x s' → Follows s s'
+  follows_leads s x s' l = record {
     tracked = l.to;
-    tally-length = l.tally-length;
-    network-length = l.network-length;
-    view-up = λ p c. omega (arith, steps-view-up π l.way p c, x.books.view p, l.to.books.view p);
-    clock-up = λ p c. omega (arith, steps-clock-up π l.way p c, x.books.clock p, l.to.books.clock p);
+    tally_length = l.tally_length;
+    network_length = l.network_length;
+    view_up = λ p c. omega (arith, steps-view-up π l.way p c, x.books.view p, l.to.books.view p);
+    clock_up = λ p c. omega (arith, steps-clock-up π l.way p c, x.books.clock p, l.to.books.clock p);
   }
 
-  pub follows-event : (e : Event) (s : State) → Tracked plan faulty ok s → Follows s (applied e s).state
-  unfolding effect nowSettled
-  follows-event (Deliver m) s x = follows-leads s x _ (event-leads plan faulty ok (Deliver m) tt s x)
-  follows-event (Sign m) s x = follows-leads s x _ (event-leads plan faulty ok (Sign m) tt s x)
-  follows-event (Show m) s x = follows-leads s x _ (event-leads plan faulty ok (Show m) tt s x)
-  follows-event Settle s x = by-applied (λ (a : After). Follows s a.state) Settle s (λ r. follows-none s x)
-      (λ c. record { tracked = settled-tracked s x; tally-length = refl; network-length = refl; view-up = λ p d. omega arith; clock-up = λ p d. omega arith })
-  follows-event (Tick m) s x = follows-leads s x _ (event-leads plan faulty ok (Tick m) tt s x)
+  pub follows_event : (e : Event) (s : State) → Tracked plan faulty ok s → Follows s (applied e s).state
+  unfolding effect now_settled
+  follows_event (Deliver m) s x = follows_leads s x _ (event-leads plan faulty ok (Deliver m) tt s x)
+  follows_event (Sign m) s x = follows_leads s x _ (event-leads plan faulty ok (Sign m) tt s x)
+  follows_event (Show m) s x = follows_leads s x _ (event-leads plan faulty ok (Show m) tt s x)
+  follows_event Settle s x = by-applied (λ (a : After). Follows s a.state) Settle s (λ r. follows_none s x)
+      (λ c. record { tracked = settled-tracked s x; tally_length = refl; network_length = refl; view_up = λ p d. omega arith; clock_up = λ p d. omega arith })
+  follows_event (Tick m) s x = follows_leads s x _ (event-leads plan faulty ok (Tick m) tt s x)
 
   follows : (es : List Event) (s : State) → Tracked plan faulty ok s → Follows s (after s es)
   unfolding after
-  follows [] s x = follows-none s x
-  follows (e ∷ es) s x = let a = follows-event e s x in follows_both s (applied e s).state (after (applied e s).state es) a
+  follows [] s x = follows_none s x
+  follows (e ∷ es) s x = let a = follows_event e s x in follows_both s (applied e s).state (after (applied e s).state es) a
       (follows es (applied e s).state a.tracked)
 
   -- ---- after settling
 
   -- from a settled run every event, a second settle among them, is a run of the protocol
-  leads-settled : (e : Event) (s : State) (x : Tracked plan faulty ok s) → T s.run.settled → Leads plan faulty ok s x (applied e s).state
-  leads-settled (Deliver m) s x z = event-leads plan faulty ok (Deliver m) tt s x
-  leads-settled (Sign m) s x z = event-leads plan faulty ok (Sign m) tt s x
-  leads-settled (Show m) s x z = event-leads plan faulty ok (Show m) tt s x
-  leads-settled Settle s x z = by-applied (λ (a : After). Leads plan faulty ok s x a.state) Settle s (λ r. stays plan faulty ok s x)
+  leads_settled : (e : Event) (s : State) (x : Tracked plan faulty ok s) → T s.run.settled → Leads plan faulty ok s x (applied e s).state
+  leads_settled (Deliver m) s x z = event-leads plan faulty ok (Deliver m) tt s x
+  leads_settled (Sign m) s x z = event-leads plan faulty ok (Sign m) tt s x
+  leads_settled (Show m) s x z = event-leads plan faulty ok (Show m) tt s x
+  leads_settled Settle s x z = by-applied (λ (a : After). Leads plan faulty ok s x a.state) Settle s (λ r. stays plan faulty ok s x)
       (λ c. absurd (c.input.0 z))
-  leads-settled (Tick m) s x z = event-leads plan faulty ok (Tick m) tt s x
+  leads_settled (Tick m) s x z = event-leads plan faulty ok (Tick m) tt s x
 
-  leads-all : (es : List Event) (s : State) (x : Tracked plan faulty ok s) → T s.run.settled → Leads plan faulty ok s x (after s es)
+  leads_all : (es : List Event) (s : State) (x : Tracked plan faulty ok s) → T s.run.settled → Leads plan faulty ok s x (after s es)
   unfolding after
-  leads-all [] s x z = stays plan faulty ok s x
-  leads-all (e ∷ es) s x z =
-      let a = leads-settled e s x z in
-      leads-on plan faulty ok a (leads-all es (applied e s).state a.to (subst T (sym (steps-flag π a.way)) z))
+  leads_all [] s x z = stays plan faulty ok s x
+  leads_all (e ∷ es) s x z =
+      let a = leads_settled e s x z in
+      leads_on plan faulty ok a (leads_all es (applied e s).state a.to (subst T (sym (steps-flag π a.way)) z))
 
   -- views stay below the limit
-  view-limit : (s : State) (x : Tracked plan faulty ok s) (p : ℕ) → T (correct plan faulty p) → x.processors.view p < plan.views
-  view-limit s x p c = lt_of_mul-lt-mul_right plan.gamma (omega (arith, x.holds.processors.low p c, x.below p c, x.books.clock p))
+  view_limit : (s : State) (x : Tracked plan faulty ok s) (p : ℕ) → T (correct plan faulty p) → x.processors.view p < plan.views
+  view_limit s x p c = lt_of_mul-lt-mul_right plan.gamma (omega (arith, x.holds.processors.low p c, x.below p c, x.books.clock p))
 
   module _ (s : State) (x : Tracked plan faulty ok s) (es : List Event)
-      (far : perLeader plan * (size faulty + 1) * plan.gamma + plan.gamma + 4 * plan.delta < ticksDone (nowSettled s) es) where
-    way : Leads plan faulty ok (nowSettled s) (settled-tracked s x) (after (nowSettled s) es)
-    unfolding nowSettled
-    way = leads-all es (nowSettled s) (settled-tracked s x) tt
+      (far : per_leader plan * (size faulty + 1) * plan.gamma + plan.gamma + 4 * plan.delta < ticks_done (now_settled s) es) where
+    way : Leads plan faulty ok (now_settled s) (settled-tracked s x) (after (now_settled s) es)
+    unfolding now_settled
+    way = leads_all es (now_settled s) (settled-tracked s x) tt
 
-    long : perLeader plan * (size faulty + 1) * plan.gamma + plan.gamma + 4 * plan.delta < runs.ticksIn π way.way
-    long = omega (arith, far, (steps-kept π way.way).0, ticks-are-time (nowSettled s) es)
+    long : per_leader plan * (size faulty + 1) * plan.gamma + plan.gamma + 4 * plan.delta < runs.ticks_in π way.way
+    long = omega (arith, far, (steps-kept π way.way).0, ticks-are-time (now_settled s) es)
 
     found : Reached π x.tally way.to.processors way.to.tally
-    unfolding nowSettled settled-tracked
+    unfolding now_settled settled-tracked
     found = reached x.holds way.way long
 
-    found-low : found.v < plan.views
-    found-low =
-        let r = some-correct π (correct plan faulty) (omega (arith, correct-count plan faulty ok, ok.faulty-few, third plan faulty ok)) in
-        omega (arith, found.later r.0 r.1, view-limit (after (nowSettled s) es) way.to r.0 r.1)
+    found_low : found.v < plan.views
+    found_low =
+        let r = some-correct π (correct plan faulty) (omega (arith, correct_count plan faulty ok, ok.faulty_few, third plan faulty ok)) in
+        omega (arith, found.later r.0 r.1, view_limit (after (now_settled s) es) way.to r.0 r.1)
 
-    formed-then : Marked (after (nowSettled s) es).tally found.v
-    formed-then = rw (way.to.books.formed true found.v found-low) at found.formed
+    formed_then : Marked (after (now_settled s) es).tally found.v
+    formed_then = rw (way.to.books.formed true found.v found_low) at found.formed
 
-    unformed : Marked (nowSettled s).tally found.v → ⊥
-    unfolding nowSettled
-    unformed t = found.since (rw (x.books.formed true found.v found-low) t)
+    unformed : Marked (now_settled s).tally found.v → ⊥
+    unfolding now_settled
+    unformed t = found.since (rw (x.books.formed true found.v found_low) t)
 
 -- ---- demand 3
 
@@ -200,16 +200,16 @@ CertifiedAfter u s es = Certified u s es (after s es).run
 
 module _ (u : Setup) (ok : Planned u.plan u.faulty) where
   -- the accepted settle is the first of the list
-  at-settling : (s : State) → Tracked u.plan u.faulty ok s → (es : List Event) → sinceSettling s (Settle ∷ es) ≡ since (nowSettled s) es
-      → (applied Settle s).state ≡ nowSettled s → settlingBound u < ticksDone (nowSettled s) es → CertifiedAfter u s (Settle ∷ es)
+  at-settling : (s : State) → Tracked u.plan u.faulty ok s → (es : List Event) → since_settling s (Settle ∷ es) ≡ since (now_settled s) es
+      → (applied Settle s).state ≡ now_settled s → settling_bound u < ticks_done (now_settled s) es → CertifiedAfter u s (Settle ∷ es)
   unfolding after proto.lead proto.row
   at-settling s x es e e' far =
       let y = found u.plan u.faulty ok s x es far in
       record {
         view = y.v;
         led = y.led;
-        formed = subst (λ (i : Since). T (formedSince i y.v)) (sym e)
-            (marked-during es (nowSettled s) y.v (unformed u.plan u.faulty ok s x es far) (formed-then u.plan u.faulty ok s x es far));
+        formed = subst (λ (i : Since). T (formed_since i y.v)) (sym e)
+            (marked-during es (now_settled s) y.v (unformed u.plan u.faulty ok s x es far) (formed_then u.plan u.faulty ok s x es far));
         later = λ p c.
             let l : y.v < view_of (after (applied Settle s).state es).run p = subst (λ (a : State). y.v < view_of (after a es).run p) (sym e')
             (omega (arith, y.later p c, (way u.plan u.faulty ok s x es far).to.books.view p)) in
@@ -217,43 +217,43 @@ module _ (u : Setup) (ok : Planned u.plan u.faulty) where
       }
 
   -- an event before it
-  onward : (e : Event) (es : List Event) (s : State) → sinceSettling s (e ∷ es) ≡ sinceSettling (applied e s).state es
+  onward : (e : Event) (es : List Event) (s : State) → since_settling s (e ∷ es) ≡ since_settling (applied e s).state es
       → CertifiedAfter u (applied e s).state es → CertifiedAfter u s (e ∷ es)
   unfolding after
-  onward e es s i x = record { view = x.view; led = x.led; formed = subst (λ (j : Since). T (formedSince j x.view)) (sym i) x.formed; later = x.later }
+  onward e es s i x = record { view = x.view; led = x.led; formed = subst (λ (j : Since). T (formed_since j x.view)) (sym i) x.formed; later = x.later }
 
-  certified : (es : List Event) (s : State) → Tracked u.plan u.faulty ok s → settlingBound u < ticksSince (sinceSettling s es) → CertifiedAfter u s es
-  unfolding sinceSettling
+  certified : (es : List Event) (s : State) → Tracked u.plan u.faulty ok s → settling_bound u < ticks_since (since_settling s es) → CertifiedAfter u s es
+  unfolding since_settling
   certified [] s x far = absurd (omega arith)
   certified (Deliver m ∷ es) s x far = onward (Deliver m) es s refl
-      (certified es (applied (Deliver m) s).state (follows-event u.plan u.faulty ok (Deliver m) s x).tracked far)
+      (certified es (applied (Deliver m) s).state (follows_event u.plan u.faulty ok (Deliver m) s x).tracked far)
   certified (Sign m ∷ es) s x far = onward (Sign m) es s refl
-      (certified es (applied (Sign m) s).state (follows-event u.plan u.faulty ok (Sign m) s x).tracked far)
+      (certified es (applied (Sign m) s).state (follows_event u.plan u.faulty ok (Sign m) s x).tracked far)
   certified (Show m ∷ es) s x far = onward (Show m) es s refl
-      (certified es (applied (Show m) s).state (follows-event u.plan u.faulty ok (Show m) s x).tracked far)
+      (certified es (applied (Show m) s).state (follows_event u.plan u.faulty ok (Show m) s x).tracked far)
   certified (Tick m ∷ es) s x far = onward (Tick m) es s refl
-      (certified es (applied (Tick m) s).state (follows-event u.plan u.faulty ok (Tick m) s x).tracked far)
-  certified (Settle ∷ es) s x far = go (settle-cases s) (certified es (applied Settle s).state (follows-event u.plan u.faulty ok Settle s x).tracked)
+      (certified es (applied (Tick m) s).state (follows_event u.plan u.faulty ok (Tick m) s x).tracked far)
+  certified (Settle ∷ es) s x far = go (settle-cases s) (certified es (applied Settle s).state (follows_event u.plan u.faulty ok Settle s x).tracked)
     where
-      go : ((accepted (applied Settle s).answer ≡ true) × ((applied Settle s).state ≡ nowSettled s)) ⊎ (accepted (applied Settle s).answer ≡ false)
-          → (settlingBound u < ticksSince (sinceSettling (applied Settle s).state es) → CertifiedAfter u (applied Settle s).state es) → CertifiedAfter u s (Settle ∷ es)
+      go : ((accepted (applied Settle s).answer ≡ true) × ((applied Settle s).state ≡ now_settled s)) ⊎ (accepted (applied Settle s).answer ≡ false)
+          → (settling_bound u < ticks_since (since_settling (applied Settle s).state es) → CertifiedAfter u (applied Settle s).state es) → CertifiedAfter u s (Settle ∷ es)
       go (inl y) ih =
-          let i : sinceSettling s (Settle ∷ es) ≡ since (nowSettled s) es =
-          ap (λ (b : Bool). cond b (since (applied Settle s).state es) (sinceSettling (applied Settle s).state es)) y.0
+          let i : since_settling s (Settle ∷ es) ≡ since (now_settled s) es =
+          ap (λ (b : Bool). cond b (since (applied Settle s).state es) (since_settling (applied Settle s).state es)) y.0
           ∙ ap (λ (a : State). since a es) y.1 in
-          at-settling s x es i y.1 (subst (λ (j : Since). settlingBound u < ticksSince j) i far)
+          at-settling s x es i y.1 (subst (λ (j : Since). settling_bound u < ticks_since j) i far)
       go (inr y) ih =
-          let i : sinceSettling s (Settle ∷ es) ≡ sinceSettling (applied Settle s).state es =
-          ap (λ (b : Bool). cond b (since (applied Settle s).state es) (sinceSettling (applied Settle s).state es)) y in
-          onward Settle es s i (ih (subst (λ (j : Since). settlingBound u < ticksSince j) i far))
+          let i : since_settling s (Settle ∷ es) ≡ since_settling (applied Settle s).state es =
+          ap (λ (b : Bool). cond b (since (applied Settle s).state es) (since_settling (applied Settle s).state es)) y in
+          onward Settle es s i (ih (subst (λ (j : Since). settling_bound u < ticks_since j) i far))
 
 -- what an accepted opening leaves
-pub opened-so : (u : Setup) (before : State) → T (accepted (opening u before).answer) → Passes (openingChecks u before)
+pub opened-so : (u : Setup) (before : State) → T (accepted (opening u before).answer) → Passes (opening_checks u before)
     × ((opening u before).state ≡ opened u before)
 opened-so u before t = let o = opening-done u before t in (o.0, ap (λ (a : After). a.state) o.1)
 
 module _ (u : Setup) (before : State) (t : T (accepted (opening u before).answer)) where
-  pub c₀ : Passes (openingChecks u before)
+  pub c₀ : Passes (opening_checks u before)
   c₀ = (opened-so u before t).0
 
   pub tracked₀ : Tracked u.plan u.faulty (planned u before c₀) (opening u before).state
@@ -275,18 +275,18 @@ never_back u before t xs ys p c =
     let x = tracked-after u before t xs in
     let f = follows u.plan u.faulty (planned u before (c₀ u before t)) ys (after (opening u before).state xs) x in
     subst (λ (s : State). (view_of (after (opening u before).state xs).run p ≤ view_of s.run p)
-    × (clockOf (after (opening u before).state xs).run p ≤ clockOf s.run p))
-    (sym (list_law (opening u before).state xs ys)) (f.view-up p c, f.clock-up p c)
+    × (clock_of (after (opening u before).state xs).run p ≤ clock_of s.run p))
+    (sym (list_law (opening u before).state xs ys)) (f.view_up p c, f.clock_up p c)
 
 pub stays_same : StaysSame
 stays_same u before t es =
     let f = follows u.plan u.faulty (planned u before (c₀ u before t)) es (opening u before).state (tracked₀ u before t) in
     let l = lengths in
     record {
-      plan = f.tracked.plan-is;
-      faulty = f.tracked.faulty-is;
-      tally = f.tally-length ∙ l.0;
-      network = f.network-length ∙ l.1;
+      plan = f.tracked.plan_is;
+      faulty = f.tracked.faulty_is;
+      tally = f.tally_length ∙ l.0;
+      network = f.network_length ∙ l.1;
       form = events-stay (opening u before).state es ∙ opening-stays u before;
     }
   where
@@ -294,8 +294,8 @@ stays_same u before t es =
     lengths = subst (λ (s : State). (length s.tally ≡ length before.tally) × (length s.network ≡ length before.network))
         (sym (opened-so u before t).1) (opened-lengths u before (c₀ u before t))
 
-effect-not-nine : (e : Event) (s : State) → checkOf (effect e s).answer ≢ 9
-unfolding effect tickRun
+effect-not-nine : (e : Event) (s : State) → check_of (effect e s).answer ≢ 9
+unfolding effect tick_run
 effect-not-nine (Deliver m) s = omega arith
 effect-not-nine (Sign m) s = omega arith
 effect-not-nine (Show m) s = omega arith
@@ -303,8 +303,8 @@ effect-not-nine Settle s = omega arith
 effect-not-nine (Tick m) s = subst (λ (k : ℕ). k ≢ 9) (sym (answered-check (ticks m s))) (ticks-not-nine m s)
 
 -- no event of a sound run is answered by check 9
-not-nine : (e : Event) (s : State) → (T (unsound s) → ⊥) → checkOf (applied e s).answer ≢ 9
-not-nine e s no' = by-applied-each (λ (a : After). checkOf a.answer ≢ 9) e s
+not-nine : (e : Event) (s : State) → (T (unsound s) → ⊥) → check_of (applied e s).answer ≢ 9
+not-nine e s no' = by-applied-each (λ (a : After). check_of a.answer ≢ 9) e s
     (λ t. omega arith) (λ t. absurd (no' t)) (λ r l. omega arith) (λ c. effect-not-nine e s)
 
 pub stays-sound : StaysSound
@@ -335,9 +335,9 @@ reachable-sound s x = ap unsound x.is ∙ tracked-sound x.setup.plan x.setup.fau
 pub refused-processor-stays : RefusedProcessorStays
 unfolding stepped
 refused-processor-stays plan c i =
-    let next = movingBy plan c i in
-    by-judged (λ (m : Moved). m.check ≢ 0 → (m.processor ≡ c) × (m.sent ≡ [])) (refusing c) (stepChecks plan c i next.processor.clock) next
-    (λ r ended. (refl, refl)) (λ x ended. absurd (ended (moving-check plan c.number (clockAt c i) c.view (entryBy plan c i))))
+    let next = moving_by plan c i in
+    by-judged (λ (m : Moved). m.check ≢ 0 → (m.processor ≡ c) × (m.sent ≡ [])) (refusing c) (step_checks plan c i next.processor.clock) next
+    (λ r ended. (refl, refl)) (λ x ended. absurd (ended (moving-check plan c.number (clock_at c i) c.view (entry_by plan c i))))
 
 -- ---- a run to which the settling half applies: f is t, and the first leader is faulty
 

@@ -6,10 +6,10 @@ use mathlib.Core.List.{List, [], ◌∷◌}
 use Prim.Native.Nat.{ℕ, zero, suc, ◌+◌}
 use Rattle.types.specs.declared.Event.{Event}
 use Rattle.types.specs.declared.Event.TheVariants.{Deliver, Sign, Show, Settle, Tick}
-use Rattle.model.specs.State.{State, After, checkOf, accepted, refused}
+use Rattle.model.specs.State.{State, After, check_of, accepted, refused}
 use Rattle.model.specs.Moves.{made}
-use Rattle.model.specs.Events.{without, nowSettled, tickChecks, tickOnce, continued, ticks, tickRun, effect, applied}
-use Rattle.model.specs.Lists.{after, since, sinceSettling, ticksDone}
+use Rattle.model.specs.Events.{without, now_settled, tick_checks, tick_once, continued, ticks, tick_run, effect, applied}
+use Rattle.model.specs.Lists.{after, since, since_settling, ticks_done}
 use Rattle.liveness.specs.Promises.{Settled, SettledSince}
 use Rattle.liveness.proofs.Judging.{by-judged, by-applied}
 use Rattle.liveness.proofs.Events.{Moving}
@@ -20,21 +20,21 @@ use Rattle.liveness.proofs.Answers.{no-yes, refused-stays}
 abbrev Alike : State → State → Type 0
 Alike s s' = (s'.run.settled ≡ s.run.settled) × (s'.run.gst ≡ s.run.gst)
 
-alike-once : (s : State) → Alike s (tickOnce s).state
-unfolding tickOnce made
-alike-once s = by-judged (λ (a : After). Alike s a.state) (refused s) (tickChecks s) _ (λ r. (refl, refl)) (λ c. (refl, refl))
+alike-once : (s : State) → Alike s (tick_once s).state
+unfolding tick_once made
+alike-once s = by-judged (λ (a : After). Alike s a.state) (refused s) (tick_checks s) _ (λ r. (refl, refl)) (λ c. (refl, refl))
 
 alike-ticks : (m : ℕ) (s : State) → Alike s (ticks m s).state
 unfolding ticks
 alike-ticks zero s = (refl, refl)
-alike-ticks (suc m) s = go (checkOf (tickOnce s).answer) (alike-ticks m (tickOnce s).state)
+alike-ticks (suc m) s = go (check_of (tick_once s).answer) (alike-ticks m (tick_once s).state)
   where
-    go : (r : ℕ) → Alike (tickOnce s).state (ticks m (tickOnce s).state).state → Alike s (continued s r (ticks m (tickOnce s).state)).state
+    go : (r : ℕ) → Alike (tick_once s).state (ticks m (tick_once s).state).state → Alike s (continued s r (ticks m (tick_once s).state)).state
     go zero y = (y.0 ∙ (alike-once s).0, y.1 ∙ (alike-once s).1)
     go (suc r) y = (refl, refl)
 
 alike-effect : (e : Event) → Moving e → (s : State) → Alike s (effect e s).state
-unfolding effect made without tickRun
+unfolding effect made without tick_run
 alike-effect (Deliver m) v s = (refl, refl)
 alike-effect (Sign m) v s = (refl, refl)
 alike-effect (Show m) v s = (refl, refl)
@@ -61,18 +61,18 @@ stays-settled (e ∷ es) s z =
     (x.0 ∙ y.0, x.1 ∙ y.1)
 
 -- a settle is accepted and settles, or is refused
-pub settle-cases : (s : State) → ((accepted (applied Settle s).answer ≡ true) × ((applied Settle s).state ≡ nowSettled s))
+pub settle-cases : (s : State) → ((accepted (applied Settle s).answer ≡ true) × ((applied Settle s).state ≡ now_settled s))
     ⊎ (accepted (applied Settle s).answer ≡ false)
 unfolding effect
-settle-cases s = by-applied (λ (a : After). ((accepted a.answer ≡ true) × (a.state ≡ nowSettled s)) ⊎ (accepted a.answer ≡ false))
+settle-cases s = by-applied (λ (a : After). ((accepted a.answer ≡ true) × (a.state ≡ now_settled s)) ⊎ (accepted a.answer ≡ false))
     Settle s (λ r. inr refl) (λ c. inl (refl, refl))
 
-now-settled : (s : State) → ((nowSettled s).run.settled ≡ true) × ((nowSettled s).run.gst ≡ (nowSettled s).run.time)
-unfolding nowSettled
+now-settled : (s : State) → ((now_settled s).run.settled ≡ true) × ((now_settled s).run.gst ≡ (now_settled s).run.time)
+unfolding now_settled
 now-settled s = (refl, refl)
 
 pub settled-since : SettledSince
-unfolding after sinceSettling
+unfolding after since_settling
 settled-since s un [] = record { flag = un; time = λ e. no-yes (sym e) }
 settled-since s un (Deliver m ∷ es) = let x = settled-since (applied (Deliver m) s).state ((alike-event (Deliver m) tt s).0 ∙ un) es in
     record { flag = x.flag; time = x.time }
@@ -85,15 +85,15 @@ settled-since s un (Tick m ∷ es) = let x = settled-since (applied (Tick m) s).
 settled-since s un (Settle ∷ es) = go (settle-cases s) (λ i. settled-since (applied Settle s).state i es)
   where
     Goal : Bool → Type 0
-    Goal b = Settled s (Settle ∷ es) (cond b (since (applied Settle s).state es) (sinceSettling (applied Settle s).state es))
+    Goal b = Settled s (Settle ∷ es) (cond b (since (applied Settle s).state es) (since_settling (applied Settle s).state es))
 
-    go : ((accepted (applied Settle s).answer ≡ true) × ((applied Settle s).state ≡ nowSettled s)) ⊎ (accepted (applied Settle s).answer ≡ false)
-        → ((applied Settle s).state.run.settled ≡ false → Settled (applied Settle s).state es (sinceSettling (applied Settle s).state es))
+    go : ((accepted (applied Settle s).answer ≡ true) × ((applied Settle s).state ≡ now_settled s)) ⊎ (accepted (applied Settle s).answer ≡ false)
+        → ((applied Settle s).state.run.settled ≡ false → Settled (applied Settle s).state es (since_settling (applied Settle s).state es))
         → Goal (accepted (applied Settle s).answer)
     go (inl y) ih = subst Goal (sym y.0) (record {
       flag = z.0 ∙ now.0;
       time = λ e. ticks-are-time (applied Settle s).state es
-          ∙ ap (λ (t : ℕ). t + ticksDone (applied Settle s).state es) (sym (z.1 ∙ now.1));
+          ∙ ap (λ (t : ℕ). t + ticks_done (applied Settle s).state es) (sym (z.1 ∙ now.1));
     })
       where
         now : ((applied Settle s).state.run.settled ≡ true) × ((applied Settle s).state.run.gst ≡ (applied Settle s).state.run.time)

@@ -9,11 +9,11 @@ use Rattle.base.specs.Tests.{passes?, T-left, T-right, eq→eqb}
 use Rattle.protocol.specs.Params.{Params}
 use Rattle.protocol.specs.Quorum.{some-correct}
 use Rattle.types.specs.declared.Plan.{Plan}
-use Rattle.types.specs.Quantities.{endTime, correct}
+use Rattle.types.specs.Quantities.{end_time, correct}
 use Rattle.model.specs.State.{State}
 use Rattle.model.specs.Checks.{unsound}
-use Rattle.liveness.proofs.Link.{Planned, params, correct-count, third}
-use Rattle.liveness.proofs.Tracks.{Tracked, tracked-inside}
+use Rattle.liveness.proofs.Link.{Planned, params, correct_count, third}
+use Rattle.liveness.proofs.Tracks.{Tracked, tracked_inside}
 use Rattle.liveness.proofs.Naming.{in-flight-addressed, in-flight-past}
 use Rattle.liveness.proofs.Judging.{nor}
 use Rattle.liveness.proofs.Soundness.{of-sound}
@@ -30,11 +30,11 @@ module _ (s : State) (ok : Planned s.run.plan s.run.faulty) (x : Tracked s.run.p
   abbrev π : Params
   π = params plan faulty ok
 
-  time-sound : T (leb (endTime plan) s.run.time) → ⊥
+  time-sound : T (leb (end_time plan) s.run.time) → ⊥
   time-sound t =
       let r = some-correct π (correct plan faulty)
-      (omega (arith, correct-count plan faulty ok, ok.faulty-few, third plan faulty ok)) in
-      let g : endTime plan ≤ s.run.time = leb→le _ _ t in
+      (omega (arith, correct_count plan faulty ok, ok.faulty_few, third plan faulty ok)) in
+      let g : end_time plan ≤ s.run.time = leb→le _ _ t in
       omega (arith, x.early r.0 r.1, x.below r.0 r.1)
 
   settling-sound : s.run.gst ≤ s.run.time
@@ -53,7 +53,7 @@ module _ (s : State) (ok : Planned s.run.plan s.run.faulty) (x : Tracked s.run.p
   }
 
   sound : unsound s ≡ false
-  sound = of-sound s (sound-lasts s lasts (tracked-inside plan faulty ok s x)) time-sound
+  sound = of-sound s (sound-lasts s lasts (tracked_inside plan faulty ok s x)) time-sound
 
 pub tracked-sound : (plan : Plan) (faulty : ℕ) (ok : Planned plan faulty) (s : State) → Tracked plan faulty ok s → unsound s ≡ false
 tracked-sound = at-own-plan (λ plan' faulty' ok' s' x'. unsound s' ≡ false) sound

@@ -11,19 +11,19 @@ use lib.Seq.{get_or-set_same, get_or-set_other, set_out}
 use Rattle.base.specs.Tests.{T_and, T-left, T-right, or_left, or_right, or_cases, T-iff, le?, eq?, eq→eqb}
 use Rattle.base.specs.Sets.{member, insert}
 use Rattle.base.specs.SetLaws.{member-insert, insert-below}
-use Rattle.model.specs.State.{heardWord, marksWord, markBit, slot, word, added}
-use Rattle.model.specs.Moves.{heardTally}
+use Rattle.model.specs.State.{heard_word, marks_word, mark_bit, slot, word, added}
+use Rattle.model.specs.Moves.{heard_tally}
 
-pub heard-low : (d : Bool) → (0 < heardWord d) × (heardWord d < marksWord)
+pub heard-low : (d : Bool) → (0 < heard_word d) × (heard_word d < marks_word)
 heard-low false = omega arith
 heard-low true = omega arith
 
 pub length-added : (t : List ℕ) (w j p : ℕ) → length (added t w j p) ≡ length t
 length-added t w j p = length-set t (slot w j) (insert (word t w j) p)
 
-pub length-heard : (t : List ℕ) (q : Bool) (w p : ℕ) (formed : Bool) → length (heardTally t q w p formed) ≡ length t
-length-heard t q w p true = length-added (added t w (heardWord q) p) w marksWord (markBit q) ∙ length-added t w (heardWord q) p
-length-heard t q w p false = length-added t w (heardWord q) p
+pub length-heard : (t : List ℕ) (q : Bool) (w p : ℕ) (formed : Bool) → length (heard_tally t q w p formed) ≡ length t
+length-heard t q w p true = length-added (added t w (heard_word q) p) w marks_word (mark_bit q) ∙ length-added t w (heard_word q) p
+length-heard t q w p false = length-added t w (heard_word q) p
 
 module _ (t : List ℕ) (w j p : ℕ) where
   pub added-same : slot w j < length t → word (added t w j p) w j ≡ insert (word t w j) p

@@ -12,13 +12,13 @@ use Rattle.types.specs.Quantities.{width}
 use Rattle.types.proofs.MessageLaws.{same-message}
 use Rattle.model.specs.State.{Held, held_at, capacity}
 use Rattle.model.specs.FormLaws.{room-of-words}
-use Rattle.model.specs.Checks.{someNonZero}
-use Rattle.liveness.proofs.Flight.{Sent, sentAs, numbers, laid, laid-beyond, Named, laid-first, laid_on}
+use Rattle.model.specs.Checks.{some_non_zero}
+use Rattle.liveness.proofs.Flight.{Sent, sent_as, numbers, laid, laid-beyond, Named, laid-first, laid_on}
 use Rattle.liveness.proofs.Link.{Wire, wire-length}
 
 -- ---- one network
 
-zeros-sound : (z : ℕ) → T (someNonZero (replicate z 0)) → ⊥
+zeros-sound : (z : ℕ) → T (some_non_zero (replicate z 0)) → ⊥
 zeros-sound zero t = t
 zeros-sound (suc z) t = zeros-sound z t
 
@@ -30,8 +30,8 @@ module _ {form : Form} {ws : List ℕ} {held : ℕ} {xs : List Sent} (wire : Wir
       let l : held ≤ capacity form ws = room-of-words form held (length ws) (omega (arith, wire-length wire)) in
       omega arith
 
-  pub wire-tail : T (someNonZero (drop (width form * held) ws)) → ⊥
-  wire-tail t = zeros-sound wire.spare (subst (λ (l : List ℕ). T (someNonZero l)) beyond t)
+  pub wire-tail : T (some_non_zero (drop (width form * held) ws)) → ⊥
+  wire-tail t = zeros-sound wire.spare (subst (λ (l : List ℕ). T (some_non_zero l)) beyond t)
     where
       beyond : drop (width form * held) ws ≡ replicate wire.spare 0
       beyond = rw (wire.number, wire.words) (laid-beyond form xs wire.spare)
@@ -48,7 +48,7 @@ numbers-alone : (x y : Sent) → numbers x ≡ numbers y → x ≡ y
 numbers-alone x y e =
     let m : x.message ≡ y.message = same-message x.message y.message (ap (λ (h : Held). h.kind) e) (ap (λ (h : Held). h.view) e)
     (ap (λ (h : Held). h.processor) e) in
-    λ i. sentAs (m i) (e i).sent
+    λ i. sent_as (m i) (e i).sent
 
 module _ (f g : Form) where
   laid-alike : (xs : List Sent) (y z i : ℕ) → Named xs → i < length xs → held_at f (laid f xs y) i ≡ held_at g (laid g xs z) i

@@ -7,17 +7,17 @@ use Rattle.types.specs.declared.Event.TheVariants.{Deliver, Sign, Show, Settle, 
 use Rattle.types.specs.declared.Answer.{Answer}
 use Rattle.types.specs.declared.Answer.TheVariants.{Done, Stopped, Refused}
 use Rattle.model.specs.State.{State}
-use Rattle.model.specs.Rows.{definitions, plan_of, standard, zeroes, setupOf, lent, wide, numbersOf, Row, agreeing}
-use Rattle.liveness.specs.Carrying.{Line, opens, happens, lineAfter, lineAnswers, refusedForNetwork, CanHold}
+use Rattle.model.specs.Rows.{definitions, plan_of, standard, zeroes, setup_of, lent, wide, numbers_of, Row, agreeing}
+use Rattle.liveness.specs.Carrying.{Line, opens, happens, line_after, line_answers, refused_for_network, CanHold}
 
 -- 1 for each line that is refused for the network, 0 for the others
 shorts : State → List Line → List ℕ
 shorts s [] = []
-shorts s (x ∷ ls) = cond (refusedForNetwork x s) 1 0 ∷ shorts (lineAfter x s).state ls
+shorts s (x ∷ ls) = cond (refused_for_network x s) 1 0 ∷ shorts (line_after x s).state ls
 
 -- the answers, and which of them are refused for the network
 abbrev answered : State → List Line → List Answer → List ℕ → Row
-answered s ls xs ys = (shorts s ls ∷ map numbersOf (lineAnswers s ls), ys ∷ map numbersOf xs)
+answered s ls xs ys = (shorts s ls ∷ map numbers_of (line_answers s ls), ys ∷ map numbers_of xs)
 
 -- ---- lines that both can hold
 
@@ -26,9 +26,9 @@ lines =
     -- an event before any run
     happens Settle
     -- a start clock too far ahead; a tally too short for nine views
-    ∷ opens (setupOf standard 0 (9 ∷ 0 ∷ 0 ∷ 0 ∷ [])) ∷ opens (setupOf (plan_of 4 2 4 9) 0 zeroes)
+    ∷ opens (setup_of standard 0 (9 ∷ 0 ∷ 0 ∷ 0 ∷ [])) ∷ opens (setup_of (plan_of 4 2 4 9) 0 zeroes)
     -- accepted; the second view message completes a view certificate for each
-    ∷ opens (setupOf standard 0 zeroes) ∷ happens (Deliver (View 0 0)) ∷ happens (Deliver (View 0 1))
+    ∷ opens (setup_of standard 0 zeroes) ∷ happens (Deliver (View 0 0)) ∷ happens (Deliver (View 0 1))
     -- no such view, no initial view, a correct signer, no such message, no such certificate
     ∷ happens (Deliver (Vote 6 0)) ∷ happens (Deliver (View 1 0)) ∷ happens (Sign (Vote 0 0)) ∷ happens (Deliver (Vote 5 0)) ∷ happens (Show (Qc 0 1))
     -- settled: two ticks of three, and none, as messages sent at 0 are to be delivered first
@@ -40,24 +40,24 @@ told =
     Refused 9 ∷ Refused 8 ∷ Refused 6 ∷ Done 0 8 ∷ Done 0 7 ∷ Done 0 10 ∷ Refused 10 ∷ Refused 11 ∷ Refused 12 ∷ Refused 13 ∷ Refused 14 ∷ Done 0 10
     ∷ Stopped 2 10 16 ∷ Refused 16 ∷ []
 
-abbrev packedNetwork : State
-packedNetwork = lent 24 20
+abbrev packed_network : State
+packed_network = lent 24 20
 
-abbrev wideNetwork : State
-wideNetwork = wide (lent 24 40)
+abbrev wide_network : State
+wide_network = wide (lent 24 40)
 
 -- ---- lines that one can't
 
 unfoldable delivered : List Line
-delivered = opens (setupOf standard 0 zeroes) ∷ happens (Deliver (View 0 0)) ∷ happens (Deliver (Vote 0 0)) ∷ happens (Deliver (View 0 1)) ∷ []
+delivered = opens (setup_of standard 0 zeroes) ∷ happens (Deliver (View 0 0)) ∷ happens (Deliver (Vote 0 0)) ∷ happens (Deliver (View 0 1)) ∷ []
 
 unfoldable ticked : List Line
-ticked = opens (setupOf standard 0 (replicate 4 10)) ∷ happens (Tick 2) ∷ []
+ticked = opens (setup_of standard 0 (replicate 4 10)) ∷ happens (Tick 2) ∷ []
 
 pub holding : List Row
 holding =
-    answered packedNetwork lines told (replicate 14 0)
-    ∷ answered wideNetwork lines told (replicate 14 0)
+    answered packed_network lines told (replicate 14 0)
+    ∷ answered wide_network lines told (replicate 14 0)
     -- nine messages in 35 words
     ∷ answered (lent 24 35) delivered (Done 0 8 ∷ Done 0 7 ∷ Done 0 6 ∷ Done 0 9 ∷ []) (0 ∷ 0 ∷ 0 ∷ 0 ∷ [])
     ∷ answered (wide (lent 24 35)) delivered (Done 0 8 ∷ Done 0 7 ∷ Done 0 6 ∷ Refused 18 ∷ []) (0 ∷ 0 ∷ 0 ∷ 1 ∷ [])
@@ -70,29 +70,29 @@ holding =
     ∷ []
 
 pub holding-hold : agreeing 0 holding ≡ length holding
-unfolding holding shorts lines delivered ticked lineAnswers definitions
+unfolding holding shorts lines delivered ticked line_answers definitions
 holding-hold = refl
 
 -- ---- so `CanHold` is met
 
-allHeld : State → List Line → Bool
-allHeld s [] = true
-allHeld s (x ∷ ls) = not (refusedForNetwork x s) && allHeld (lineAfter x s).state ls
+all_held : State → List Line → Bool
+all_held s [] = true
+all_held s (x ∷ ls) = not (refused_for_network x s) && all_held (line_after x s).state ls
 
-can-hold : (s : State) (ls : List Line) → T (allHeld s ls) → CanHold s ls
-unfolding allHeld CanHold
+can-hold : (s : State) (ls : List Line) → T (all_held s ls) → CanHold s ls
+unfolding all_held CanHold
 can-hold s [] t = tt
 can-hold s (x ∷ ls) t =
-    (no (refusedForNetwork x s) (T-left (not (refusedForNetwork x s)) _ t), can-hold (lineAfter x s).state ls (T-right (not (refusedForNetwork x s)) _ t))
+    (no (refused_for_network x s) (T-left (not (refused_for_network x s)) _ t), can-hold (line_after x s).state ls (T-right (not (refused_for_network x s)) _ t))
   where
     no : (b : Bool) → T (not b) → T b → ⊥
     no true t' u = t'
     no false t' u = u
 
-packed-holds : CanHold packedNetwork lines
-unfolding allHeld lines definitions
-packed-holds = can-hold packedNetwork lines tt
+packed-holds : CanHold packed_network lines
+unfolding all_held lines definitions
+packed-holds = can-hold packed_network lines tt
 
-wide-holds : CanHold wideNetwork lines
-unfolding allHeld lines definitions
-wide-holds = can-hold wideNetwork lines tt
+wide-holds : CanHold wide_network lines
+unfolding all_held lines definitions
+wide-holds = can-hold wide_network lines tt

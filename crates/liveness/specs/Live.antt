@@ -11,20 +11,20 @@ use Rattle.types.specs.declared.Event.{Event}
 use Rattle.types.specs.declared.Event.TheVariants.{Deliver, Settle, Tick}
 use Rattle.types.specs.declared.Answer.{Answer}
 use Rattle.types.specs.declared.Setup.{Setup}
-use Rattle.types.specs.Quantities.{tolerated, perLeader, perLeaderUsual, correct}
+use Rattle.types.specs.Quantities.{tolerated, per_leader, per_leader_usual, correct}
 use Rattle.model.specs.State.{State, view_of, accepted}
 use Rattle.model.specs.Opening.{opening}
-use Rattle.model.specs.Lists.{after, Since, sinceSettling, ticksDone, ticksSince, formedIn, formedDuring, formedSince}
-use Rattle.liveness.specs.Promises.{settlingBound, Certified}
-use Rattle.model.specs.Rows.{definitions, planWith, plan_of, zeroes, setupOf, lent, answers}
+use Rattle.model.specs.Lists.{after, Since, since_settling, ticks_done, ticks_since, formed_in, formed_during, formed_since}
+use Rattle.liveness.specs.Promises.{settling_bound, Certified}
+use Rattle.model.specs.Rows.{definitions, plan_with, plan_of, zeroes, setup_of, lent, answers}
 
-allAccepted : List Answer → Bool
-allAccepted [] = true
-allAccepted (x ∷ xs) = accepted x && allAccepted xs
+all_accepted : List Answer → Bool
+all_accepted [] = true
+all_accepted (x ∷ xs) = accepted x && all_accepted xs
 
 -- 1 for each view below k whose quorum certificate was formed since settling, 0 for the others
-formedBelow : ℕ → Since → List ℕ
-formedBelow k i = listed (λ w. cond (formedSince i w) 1 0) k
+formed_below : ℕ → Since → List ℕ
+formed_below k i = listed (λ w. cond (formed_since i w) 1 0) k
 
 -- what holds of processors 1 to 3 holds of every correct one of four, the first of which is faulty
 by-correct : (Q : ℕ → Type 0) → Q 1 → Q 2 → Q 3 → (p : ℕ) → T (ltb p 4 && not (member 1 p)) → Q p
@@ -41,7 +41,7 @@ by-correct Q a b c (suc (suc (suc (suc p)))) i =
 
 -- the faulty processors: the leader of views 0 to 2 alone
 unfoldable pub setup : Setup
-setup = setupOf (plan_of 4 1 2 12) 1 zeroes
+setup = setup_of (plan_of 4 1 2 12) 1 zeroes
 
 abbrev pub unopened : State
 unopened = lent 48 64
@@ -77,18 +77,18 @@ unfolding setup definitions
 most-faulty = refl
 
 -- no event is refused
-accepted-all : allAccepted (answers start events) ≡ true
-unfolding allAccepted setup events definitions
+accepted-all : all_accepted (answers start events) ≡ true
+unfolding all_accepted setup events definitions
 accepted-all = refl
 
 -- 19 ticks since settling: one more than the bound
-pub past_bound : ticksSince (sinceSettling start (take 62 events)) ≡ settlingBound setup + 1
-unfolding setup events sinceSettling ticksDone definitions
+pub past_bound : ticks_since (since_settling start (take 62 events)) ≡ settling_bound setup + 1
+unfolding setup events since_settling ticks_done definitions
 past_bound = refl
 
 -- quorum certificates formed since settling: views 3 to 8, of the views 0 to 11
-formed-since : formedBelow 12 (sinceSettling start events) ≡ (0 ∷ 0 ∷ 0 ∷ 1 ∷ 1 ∷ 1 ∷ 1 ∷ 1 ∷ 1 ∷ 0 ∷ 0 ∷ 0 ∷ [])
-unfolding formedBelow setup events sinceSettling formedIn formedDuring definitions
+formed-since : formed_below 12 (since_settling start events) ≡ (0 ∷ 0 ∷ 0 ∷ 1 ∷ 1 ∷ 1 ∷ 1 ∷ 1 ∷ 1 ∷ 0 ∷ 0 ∷ 0 ∷ [])
+unfolding formed_below setup events since_settling formed_in formed_during definitions
 formed-since = refl
 
 -- every correct processor is in view 9
@@ -98,7 +98,7 @@ later-views = by-correct (λ p. view_of (after start events).run p ≡ 9) refl r
 
 -- so what demand 3 promises is met, by the earliest of these certificates
 kept : Certified setup start events (after start events).run
-unfolding setup events sinceSettling formedIn formedDuring definitions
+unfolding setup events since_settling formed_in formed_during definitions
 kept = record { view = 3; led = tt; formed = tt; later = λ p c. omega (arith, later-views p c) }
 
 -- ---- past it with 2 views per leader, whose slot is 4Δ and no more
@@ -106,18 +106,18 @@ kept = record { view = 3; led = tt; formed = tt; later = λ p c. omega (arith, l
 -- start clocks as far apart as checks 7 and 8 let them be: the last processor is a tick from view 2, the one before it a slot behind, and the
 -- leader of view 2 starts only now
 unfoldable tight : Setup
-tight = setupOf (planWith 4 1 4 10 2) 1 (0 ∷ 0 ∷ 3 ∷ 7 ∷ [])
+tight = setup_of (plan_with 4 1 4 10 2) 1 (0 ∷ 0 ∷ 3 ∷ 7 ∷ [])
 
-abbrev tightUnopened : State
-tightUnopened = lent 40 64
+abbrev tight_unopened : State
+tight_unopened = lent 40 64
 
-abbrev tightStart : State
-tightStart = (opening tight tightUnopened).state
+abbrev tight_start : State
+tight_start = (opening tight tight_unopened).state
 
 -- the last one enters view 2 at time 1, the one before it at 5 and, by their view certificate, the leader at 7; the leader's vote is heard at 8,
 -- a slot and three delays after the first, and at 9 the last one leaves for view 4
-unfoldable tightEvents : List Event
-tightEvents =
+unfoldable tight_events : List Event
+tight_events =
     Settle ∷ Tick 2
     ∷ Deliver (View 2 3) ∷ Deliver (Vote 2 3) ∷ Tick 4
     ∷ Deliver (View 2 2) ∷ Deliver (Vote 2 2) ∷ Tick 1
@@ -135,8 +135,8 @@ tightEvents =
     ∷ Deliver (Qc 7 1) ∷ Deliver (Qc 7 2) ∷ Deliver (Qc 7 3) ∷ Tick 4
     ∷ []
 
-tight-accepted : allAccepted ((opening tight tightUnopened).answer ∷ answers tightStart tightEvents) ≡ true
-unfolding allAccepted tight tightEvents definitions
+tight-accepted : all_accepted ((opening tight tight_unopened).answer ∷ answers tight_start tight_events) ≡ true
+unfolding all_accepted tight tight_events definitions
 tight-accepted = refl
 
 tight-most-faulty : size tight.faulty ≡ tolerated tight.plan
@@ -144,81 +144,81 @@ unfolding tight definitions
 tight-most-faulty = refl
 
 -- 25 ticks since settling: one more than the bound
-tight-past-bound : ticksSince (sinceSettling tightStart tightEvents) ≡ settlingBound tight + 1
-unfolding tight tightEvents sinceSettling ticksDone definitions
+tight-past-bound : ticks_since (since_settling tight_start tight_events) ≡ settling_bound tight + 1
+unfolding tight tight_events since_settling ticks_done definitions
 tight-past-bound = refl
 
 -- quorum certificates formed since settling: views 2 and 4 to 7, of the views 0 to 9; view 3 has no vote of the one that left
-tight-formed : formedBelow 10 (sinceSettling tightStart tightEvents) ≡ (0 ∷ 0 ∷ 1 ∷ 0 ∷ 1 ∷ 1 ∷ 1 ∷ 1 ∷ 0 ∷ 0 ∷ [])
-unfolding formedBelow tight tightEvents sinceSettling formedIn formedDuring definitions
+tight-formed : formed_below 10 (since_settling tight_start tight_events) ≡ (0 ∷ 0 ∷ 1 ∷ 0 ∷ 1 ∷ 1 ∷ 1 ∷ 1 ∷ 0 ∷ 0 ∷ [])
+unfolding formed_below tight tight_events since_settling formed_in formed_during definitions
 tight-formed = refl
 
 -- every correct processor is in view 8
-tight-later : (p : ℕ) → T (correct tight.plan tight.faulty p) → view_of (after tightStart tightEvents).run p ≡ 8
-unfolding tight tightEvents definitions
-tight-later = by-correct (λ p. view_of (after tightStart tightEvents).run p ≡ 8) refl refl refl
+tight-later : (p : ℕ) → T (correct tight.plan tight.faulty p) → view_of (after tight_start tight_events).run p ≡ 8
+unfolding tight tight_events definitions
+tight-later = by-correct (λ p. view_of (after tight_start tight_events).run p ≡ 8) refl refl refl
 
-tight-kept : Certified tight tightStart tightEvents (after tightStart tightEvents).run
-unfolding tight tightEvents sinceSettling formedIn formedDuring definitions
+tight-kept : Certified tight tight_start tight_events (after tight_start tight_events).run
+unfolding tight tight_events since_settling formed_in formed_during definitions
 tight-kept = record { view = 2; led = tt; formed = tt; later = λ p c. omega (arith, tight-later p c) }
 
 -- ---- not past it: the views of two faulty leaders pass by clock alone
 
 -- the faulty ones: of seven processors, the leaders of views 0 to 2k−1; the next leader's k views are the last
 unfoldable slow : ℕ → ℕ → Setup
-slow k gamma = setupOf (planWith 7 1 gamma (3 * k) k) 3 []
+slow k gamma = setup_of (plan_with 7 1 gamma (3 * k) k) 3 []
 
-abbrev slowUnopened : State
-slowUnopened = lent 96 64
+abbrev slow_unopened : State
+slow_unopened = lent 96 64
 
-abbrev slowStart : ℕ → ℕ → State
-slowStart k gamma = (opening (slow k gamma) slowUnopened).state
+abbrev slow_start : ℕ → ℕ → State
+slow_start k gamma = (opening (slow k gamma) slow_unopened).state
 
 -- all enter view 2k at time 2kΓ, and what they send may still be on its way a tick later
-unfoldable slowEvents : ℕ → ℕ → List Event
-slowEvents k gamma = Settle ∷ Tick (2 * k * gamma + 1) ∷ []
+unfoldable slow_events : ℕ → ℕ → List Event
+slow_events k gamma = Settle ∷ Tick (2 * k * gamma + 1) ∷ []
 
-abbrev slowAnswers : ℕ → ℕ → List Answer
-slowAnswers k gamma = (opening (slow k gamma) slowUnopened).answer ∷ answers (slowStart k gamma) (slowEvents k gamma)
+abbrev slow_answers : ℕ → ℕ → List Answer
+slow_answers k gamma = (opening (slow k gamma) slow_unopened).answer ∷ answers (slow_start k gamma) (slow_events k gamma)
 
-abbrev slowSince : ℕ → ℕ → Since
-slowSince k gamma = sinceSettling (slowStart k gamma) (slowEvents k gamma)
+abbrev slow_since : ℕ → ℕ → Since
+slow_since k gamma = since_settling (slow_start k gamma) (slow_events k gamma)
 
 -- with 2, 3 and 8 views per leader, and a slot of 4Δ, 3Δ and 2Δ
-abbrev eachSlow : {A : Type 0} → (ℕ → ℕ → A) → List A
-eachSlow f = f 2 4 ∷ f 3 3 ∷ f 8 2 ∷ []
+abbrev each_slow : {A : Type 0} → (ℕ → ℕ → A) → List A
+each_slow f = f 2 4 ∷ f 3 3 ∷ f 8 2 ∷ []
 
-slow-accepted : eachSlow (λ k gamma. allAccepted (slowAnswers k gamma)) ≡ replicate 3 true
-unfolding allAccepted slow slowEvents definitions
+slow-accepted : each_slow (λ k gamma. all_accepted (slow_answers k gamma)) ≡ replicate 3 true
+unfolding all_accepted slow slow_events definitions
 slow-accepted = refl
 
-slow-most-faulty : eachSlow (λ k gamma. size (slow k gamma).faulty) ≡ eachSlow (λ k gamma. tolerated (slow k gamma).plan)
+slow-most-faulty : each_slow (λ k gamma. size (slow k gamma).faulty) ≡ each_slow (λ k gamma. tolerated (slow k gamma).plan)
 unfolding slow definitions
 slow-most-faulty = refl
 
 -- so many ticks since settling, and no certificate of any view
-slow-ticks : eachSlow (λ k gamma. ticksSince (slowSince k gamma)) ≡ (17 ∷ 19 ∷ 33 ∷ [])
-unfolding slow slowEvents sinceSettling ticksDone definitions
+slow-ticks : each_slow (λ k gamma. ticks_since (slow_since k gamma)) ≡ (17 ∷ 19 ∷ 33 ∷ [])
+unfolding slow slow_events since_settling ticks_done definitions
 slow-ticks = refl
 
-none-formed : eachSlow (λ k gamma. formedBelow (3 * k) (slowSince k gamma)) ≡ eachSlow (λ k gamma. replicate (3 * k) 0)
-unfolding formedBelow slow slowEvents sinceSettling formedIn formedDuring definitions
-none-formed = refl
+none_formed : each_slow (λ k gamma. formed_below (3 * k) (slow_since k gamma)) ≡ each_slow (λ k gamma. replicate (3 * k) 0)
+unfolding formed_below slow slow_events since_settling formed_in formed_during definitions
+none_formed = refl
 
 -- so it must not be due yet: a bound below them would promise too much
-not-due : eachSlow (λ k gamma. leb (ticksSince (slowSince k gamma)) (settlingBound (slow k gamma))) ≡ replicate 3 true
-unfolding slow slowEvents sinceSettling ticksDone definitions
+not-due : each_slow (λ k gamma. leb (ticks_since (slow_since k gamma)) (settling_bound (slow k gamma))) ≡ replicate 3 true
+unfolding slow slow_events since_settling ticks_done definitions
 not-due = refl
 
 -- ---- the bound elsewhere: with k views per leader, and nobody, one and two faulty of seven
 
-boundsWith : ℕ → List ℕ
-boundsWith k = map (λ faulty. settlingBound (setupOf (planWith 7 2 9 40 k) faulty [])) (0 ∷ 1 ∷ 3 ∷ [])
+bounds_with : ℕ → List ℕ
+bounds_with k = map (λ faulty. settling_bound (setup_of (plan_with 7 2 9 40 k) faulty [])) (0 ∷ 1 ∷ 3 ∷ [])
 
-bounds : map boundsWith (2 ∷ 3 ∷ 5 ∷ 8 ∷ []) ≡ ((35 ∷ 53 ∷ 71 ∷ []) ∷ (44 ∷ 71 ∷ 98 ∷ []) ∷ (62 ∷ 107 ∷ 152 ∷ []) ∷ (89 ∷ 161 ∷ 233 ∷ []) ∷ [])
-unfolding boundsWith definitions
+bounds : map bounds_with (2 ∷ 3 ∷ 5 ∷ 8 ∷ []) ≡ ((35 ∷ 53 ∷ 71 ∷ []) ∷ (44 ∷ 71 ∷ 98 ∷ []) ∷ (62 ∷ 107 ∷ 152 ∷ []) ∷ (89 ∷ 161 ∷ 233 ∷ []) ∷ [])
+unfolding bounds_with definitions
 bounds = refl
 
 -- and of every setup with the usual views per leader: (3f+4)Γ + 4Δ
-pub usual-bound : (u : Setup) → perLeader u.plan ≡ perLeaderUsual → settlingBound u ≡ (3 * size u.faulty + 4) * u.plan.gamma + 4 * u.plan.delta
+pub usual-bound : (u : Setup) → per_leader u.plan ≡ per_leader_usual → settling_bound u ≡ (3 * size u.faulty + 4) * u.plan.gamma + 4 * u.plan.delta
 usual-bound u usual = rw usual (omega arith)

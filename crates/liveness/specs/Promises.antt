@@ -11,26 +11,26 @@ use Rattle.types.specs.declared.Run.{Run}
 use Rattle.types.specs.declared.Setup.{Setup}
 use Rattle.types.specs.declared.Processor.{Processor}
 use Rattle.types.specs.declared.Input.{Input}
-use Rattle.types.specs.Quantities.{nMost, perLeader, lead, correct}
-use Rattle.types.specs.Messages.{voteStage}
-use Rattle.model.specs.State.{State, clockOf, view_of, marksWord, markBit, word, checkOf, ticksOf, accepted, refused}
-use Rattle.model.specs.Checks.{timeUnsound, unsound, unsoundForGood}
+use Rattle.types.specs.Quantities.{n_most, per_leader, lead, correct}
+use Rattle.types.specs.Messages.{vote_stage}
+use Rattle.model.specs.State.{State, clock_of, view_of, marks_word, mark_bit, word, check_of, ticks_of, accepted, refused}
+use Rattle.model.specs.Checks.{time_unsound, unsound, unsound_for_good}
 use Rattle.model.specs.Opening.{opening}
-use Rattle.model.specs.Events.{tickOnce, Ticks, ticks, applied}
+use Rattle.model.specs.Events.{tick_once, Ticks, ticks, applied}
 use Rattle.model.specs.Processors.{stepped}
-use Rattle.model.specs.Lists.{after, ClockCondition, Since, sinceSettling, hasSettled, ticksDone, ticksSince, formedIn, formedSince}
+use Rattle.model.specs.Lists.{after, ClockCondition, Since, since_settling, has_settled, ticks_done, ticks_since, formed_in, formed_since}
 
 -- ---- demand 3
 
 -- "The settling bound becomes k(f+1)Γ + Γ + 4Δ", "f is the mask's ones"; where k is 3 that is (3f+4)Γ + 4Δ (`usual-bound`, in Live)
-abbrev pub settlingBound : Setup → ℕ
-settlingBound u = perLeader u.plan * (size u.faulty + 1) * u.plan.gamma + u.plan.gamma + 4 * u.plan.delta
+abbrev pub settling_bound : Setup → ℕ
+settling_bound u = per_leader u.plan * (size u.faulty + 1) * u.plan.gamma + u.plan.gamma + 4 * u.plan.delta
 
 -- some correct leader has formed a quorum certificate since settling, and every correct processor is in a later view of r, which es left
 pub record Certified (u : Setup) (s : State) (es : List Event) (r : Run) : Type 0 where
   pub view : ℕ
   pub led : T (correct u.plan u.faulty (lead u.plan view))
-  pub formed : T (formedSince (sinceSettling s es) view)
+  pub formed : T (formed_since (since_settling s es) view)
   pub later : (p : ℕ) → T (correct u.plan u.faulty p) → view + 1 ≤ view_of r p
 
 -- For every setup, every run and lent buffers at hand, if the opening is accepted: for every list of events and every number of its first
@@ -40,7 +40,7 @@ abbrev pub DemandThree : Type 0
 DemandThree =
     (u : Setup) (before : State) → T (accepted (opening u before).answer) → (es : List Event) (i : ℕ)
     → ClockCondition (after (opening u before).state (take i es)).run
-    × (settlingBound u < ticksSince (sinceSettling (opening u before).state (take i es))
+    × (settling_bound u < ticks_since (since_settling (opening u before).state (take i es))
     → Certified u (opening u before).state (take i es) (after (opening u before).state (take i es)).run)
 
 -- ---- what goes with it, from an accepted opening on
@@ -49,7 +49,7 @@ DemandThree =
 abbrev pub StaysSound : Type 0
 StaysSound =
     (u : Setup) (before : State) → T (accepted (opening u before).answer) → (es : List Event) (e : Event)
-    → checkOf (applied e (after (opening u before).state es)).answer ≢ 9
+    → check_of (applied e (after (opening u before).state es)).answer ≢ 9
 
 -- a state that some accepted opening and the events after it have left
 pub record Reachable (s : State) : Type 0 where
@@ -86,7 +86,7 @@ abbrev pub NeverBack : Type 0
 NeverBack =
     (u : Setup) (before : State) → T (accepted (opening u before).answer) → (xs ys : List Event) (p : ℕ) → T (correct u.plan u.faulty p)
     → (view_of (after (opening u before).state xs).run p ≤ view_of (after (opening u before).state (xs ++ ys)).run p)
-    × (clockOf (after (opening u before).state xs).run p ≤ clockOf (after (opening u before).state (xs ++ ys)).run p)
+    × (clock_of (after (opening u before).state xs).run p ≤ clock_of (after (opening u before).state (xs ++ ys)).run p)
 
 -- ---- of any run and buffers, opened here or not
 
@@ -118,62 +118,62 @@ OpensAlike = (u v : Setup) → SameStart u v → (s : State) → opening u s ≡
 
 -- the ticks counted, which are those that the events answer, are the time gained
 abbrev pub TicksAreTime : Type 0
-TicksAreTime = (s : State) (es : List Event) → (after s es).run.time ≡ s.run.time + ticksDone s es
+TicksAreTime = (s : State) (es : List Event) → (after s es).run.time ≡ s.run.time + ticks_done s es
 
 -- an unsettled run is settled by a list exactly where the list has the accepted settle, and has then the settling time of that event: the
 -- time is that and the ticks since
 pub record Settled (s : State) (es : List Event) (i : Since) : Type 0 where
-  pub flag : (after s es).run.settled ≡ hasSettled i
-  pub time : hasSettled i ≡ true → (after s es).run.time ≡ (after s es).run.gst + ticksSince i
+  pub flag : (after s es).run.settled ≡ has_settled i
+  pub time : has_settled i ≡ true → (after s es).run.time ≡ (after s es).run.gst + ticks_since i
 
 abbrev pub SettledSince : Type 0
-SettledSince = (s : State) → s.run.settled ≡ false → (es : List Event) → Settled s es (sinceSettling s es)
+SettledSince = (s : State) → s.run.settled ≡ false → (es : List Event) → Settled s es (since_settling s es)
 
 -- check 9 is the part of it that lasts, or the time
 abbrev pub UnsoundParts : Type 0
-UnsoundParts = (s : State) → unsound s ≡ (unsoundForGood s || timeUnsound s)
+UnsoundParts = (s : State) → unsound s ≡ (unsound_for_good s || time_unsound s)
 
 -- the tables have an entry for every processor that there may be
 pub record Tabled (r : Run) : Type 0 where
-  pub clocks : length r.clocks ≡ nMost
-  pub views : length r.views ≡ nMost
+  pub clocks : length r.clocks ≡ n_most
+  pub views : length r.views ≡ n_most
 
 -- what that part says of a run no event changes, accepted or refused, whatever the tally holds: of events in turn it need be asked once, and
 -- before each of them the time alone
 abbrev pub EventsLast : Type 0
-EventsLast = (e : Event) (s : State) → Tabled s.run → (unsoundForGood (applied e s).state ≡ unsoundForGood s) × Tabled (applied e s).state.run
+EventsLast = (e : Event) (s : State) → Tabled s.run → (unsound_for_good (applied e s).state ≡ unsound_for_good s) × Tabled (applied e s).state.run
 
 -- the mark of a view's quorum certificate
-abbrev pub quorumMark : List ℕ → ℕ → Bool
-quorumMark t w = member (word t w marksWord) (markBit voteStage)
+abbrev pub quorum_mark : List ℕ → ℕ → Bool
+quorum_mark t w = member (word t w marks_word) (mark_bit vote_stage)
 
 -- an event turns it exactly where rule 5 forms the certificate
 abbrev pub MarksAreFormed : Type 0
-MarksAreFormed = (s : State) (e : Event) (w : ℕ) → formedIn e s w ≡ (not (quorumMark s.tally w) && quorumMark (applied e s).state.tally w)
+MarksAreFormed = (s : State) (e : Event) (w : ℕ) → formed_in e s w ≡ (not (quorum_mark s.tally w) && quorum_mark (applied e s).state.tally w)
 
 -- what the answer to m ticks says, a being what they leave: all were done; or some, and the next single tick is refused by the check answered; or
 -- none, and the first is
 abbrev pub TickAnswer : ℕ → State → State → Answer → Type 0
 TickAnswer m s a (Done c h) = (c ≡ m) × (h ≡ a.run.held) × (a.run.time ≡ s.run.time + c)
-TickAnswer m s a (Stopped c h r) = (0 < c) × (c < m) × (h ≡ a.run.held) × (a.run.time ≡ s.run.time + c) × (tickOnce a ≡ refused a r)
-TickAnswer m s a (Refused r) = (a ≡ s) × (tickOnce s ≡ refused s r)
+TickAnswer m s a (Stopped c h r) = (0 < c) × (c < m) × (h ≡ a.run.held) × (a.run.time ≡ s.run.time + c) × (tick_once a ≡ refused a r)
+TickAnswer m s a (Refused r) = (a ≡ s) × (tick_once s ≡ refused s r)
 
 abbrev pub TicksAnswered : Type 0
 TicksAnswered = (m : ℕ) (s : State) → 0 < m → unsound s ≡ false → TickAnswer m s (applied (Tick m) s).state (applied (Tick m) s).answer
 
 -- a run of a + b ticks is one of a ticks and then, unless a check ended that, one of b
-abbrev pub countedFrom : ℕ → Ticks → Ticks
-countedFrom a x = record { state = x.state; count = a + x.count; check = x.check }
+abbrev pub counted_from : ℕ → Ticks → Ticks
+counted_from a x = record { state = x.state; count = a + x.count; check = x.check }
 
 abbrev pub TicksAdd : Type 0
 TicksAdd =
     (a b : ℕ) (s : State)
-    → ((ticks a s).check ≡ 0 → ticks (a + b) s ≡ countedFrom a (ticks b (ticks a s).state)) × ((ticks a s).check ≢ 0 → ticks (a + b) s ≡ ticks a s)
+    → ((ticks a s).check ≡ 0 → ticks (a + b) s ≡ counted_from a (ticks b (ticks a s).state)) × ((ticks a s).check ≢ 0 → ticks (a + b) s ≡ ticks a s)
 
 -- the answer that a check, the ticks done and the messages held tell
-abbrev pub answerFrom : ℕ → ℕ → ℕ → Answer
-answerFrom check done held = cond (eqb check 0) (Done done held) (cond (eqb done 0) (Refused check) (Stopped done held check))
+abbrev pub answer_from : ℕ → ℕ → ℕ → Answer
+answer_from check done held = cond (eqb check 0) (Done done held) (cond (eqb done 0) (Refused check) (Stopped done held check))
 
 -- the numbers of an event's answer, with the messages held after it, tell the answer
 abbrev pub AnswersTold : Type 0
-AnswersTold = (e : Event) (s : State) → let a = applied e s in answerFrom (checkOf a.answer) (ticksOf a.answer) a.state.run.held ≡ a.answer
+AnswersTold = (e : Event) (s : State) → let a = applied e s in answer_from (check_of a.answer) (ticks_of a.answer) a.state.run.held ≡ a.answer

@@ -4,8 +4,8 @@ use Rattle.std.specs.Prelude.{◌≡◌, true, false, ◌*◌, eqb, length, take
 use Rattle.types.specs.declared.Event.{Event}
 use Rattle.types.specs.declared.Event.TheVariants.{Tick}
 use Rattle.types.specs.declared.Setup.{Setup}
-use Rattle.types.specs.Quantities.{rowWords}
-use Rattle.model.specs.State.{State, checkOf, accepted}
+use Rattle.types.specs.Quantities.{row_words}
+use Rattle.model.specs.State.{State, check_of, accepted}
 use Rattle.model.specs.Checks.{unsound, overdue}
 use Rattle.model.specs.Opening.{opening}
 use Rattle.model.specs.Events.{applied}
@@ -15,7 +15,7 @@ pub record SameWithin (s s' : State) : Type 0 where
   pub run : s.run ≡ s'.run
   pub network : s.network ≡ s'.network
   pub form : s.form ≡ s'.form
-  pub tally : take (rowWords * s.run.plan.views) s.tally ≡ take (rowWords * s.run.plan.views) s'.tally
+  pub tally : take (row_words * s.run.plan.views) s.tally ≡ take (row_words * s.run.plan.views) s'.tally
   pub lengths : length s.tally ≡ length s'.tally
 
 -- tally words beyond the views are never read: an event is answered alike, and what it leaves is the same but for them
@@ -39,4 +39,4 @@ OpensWithin =
 
 -- a single tick of a sound run is refused as overdue exactly where a message is overdue
 abbrev pub RefusedAsOverdue : Type 0
-RefusedAsOverdue = (s : State) → unsound s ≡ false → eqb (checkOf (applied (Tick 1) s).answer) 16 ≡ overdue s
+RefusedAsOverdue = (s : State) → unsound s ≡ false → eqb (check_of (applied (Tick 1) s).answer) 16 ≡ overdue s

@@ -6,8 +6,8 @@ use Rattle.base.specs.Tests.{T-right, T_false, by_cond}
 use Rattle.types.specs.declared.Message.{Message}
 use Rattle.types.specs.declared.Event.{Event}
 use Rattle.types.specs.declared.Event.TheVariants.{Deliver, Settle, Tick}
-use Rattle.model.specs.State.{State, Held, roomIn}
-use Rattle.model.specs.Checks.{heldIs, is_at, timeUnsound, overdueAt, overdue}
+use Rattle.model.specs.State.{State, Held, room_in}
+use Rattle.model.specs.Checks.{held_is, is_at, time_unsound, overdue_at, overdue}
 use Rattle.buffers.specs.declared.Stored.TheVariants.{Holds}
 use Rattle.buffers.specs.Kinds.{stored}
 use Rattle.buffers.proofs.Storing.{held-stored}
@@ -17,10 +17,10 @@ use Rattle.liveness.proofs.Link.{wire-read}
 use Rattle.liveness.proofs.Soundness.{SoundRun}
 use Rattle.liveness.proofs.Addressing.{Addressed}
 use Rattle.liveness.proofs.Lasting.{Lasts, lasts-of, lasts-planned, lasts-named}
-use Rattle.lines.specs.Forms.{eventForm, EventLine}
+use Rattle.lines.specs.Forms.{event_form, EventLine}
 use Rattle.loads.specs.declared.Turn.{Turn}
-use Rattle.loads.specs.Draws.{nextSeed, draw}
-use Rattle.loads.specs.Loads.{Point, deliveryOf, delivery, refusedOverdue, ticking, delivers, chosen, stepTurn, settleDue, settleTurn, turn}
+use Rattle.loads.specs.Draws.{next_seed, draw}
+use Rattle.loads.specs.Loads.{Point, delivery_of, delivery, refused_overdue, ticking, delivers, chosen, step_turn, settle_due, settle_turn, turn}
 
 -- ---- of a sound run
 
@@ -31,7 +31,7 @@ module _ (s : State) (sound : SoundRun s) where
   -- what stands at a place within the messages held is a message, which names a view and a processor that there are
   pub record Holding (i : ℕ) : Type 0 where
     pub message : Message
-    pub stored-as : stored s.form s.network i ≡ Holds message
+    pub is_stored : stored s.form s.network i ≡ Holds message
     pub shows : T (is_at s.form s.network message i)
     pub addressed : Addressed s.run.plan s.run.faulty message
 
@@ -40,47 +40,47 @@ module _ (s : State) (sound : SoundRun s) where
       let x = lasts in
       let a = wire-read x.wire (lasts-named s x) i l in
       let m : Message = a.sent.message in
-      let fits : i < roomIn s = omega (arith, not-ltb (roomIn s) s.run.held sound.room) in
+      let fits : i < room_in s = omega (arith, not-ltb (room_in s) s.run.held sound.room) in
       record {
         message = m;
-        stored-as = held-stored s.form s.network i m a.sent.time fits a.is;
-        shows = subst (λ (h : Held). T (heldIs m h)) (sym a.is) (held-itself a.sent.time m);
+        is_stored = held-stored s.form s.network i m a.sent.time fits a.is;
+        shows = subst (λ (h : Held). T (held_is m h)) (sym a.is) (held-itself a.sent.time m);
         addressed = (x.fine a.sent a.within).0;
       }
 
-  pub held-delivery : (i : ℕ) (l : i < s.run.held) → delivery s i ≡ Deliver (held i l).message
-  held-delivery i l = ap deliveryOf (held i l).stored-as
+  pub held_delivery : (i : ℕ) (l : i < s.run.held) → delivery s i ≡ Deliver (held i l).message
+  held_delivery i l = ap delivery_of (held i l).is_stored
 
-  message-line : (m : Message) → Addressed s.run.plan s.run.faulty m → EventLine (eventForm (Deliver m)) (Deliver m)
-  message-line m a =
+  message_line : (m : Message) → Addressed s.run.plan s.run.faulty m → EventLine (event_form (Deliver m)) (Deliver m)
+  message_line m a =
       let ok = lasts-planned s lasts in
-      let v = ok.views-most in
-      let n = ok.n-most in
-      record { formed = refl; below = (omega (arith, a.view-low), (omega (arith, a.processor-low), tt)); bytes = refl }
+      let v = ok.views_at_most in
+      let n = ok.n_at_most in
+      record { formed = refl; below = (omega (arith, a.view_low), (omega (arith, a.processor_low), tt)); bytes = refl }
 
 -- what holds of the delivery of each message held, and of a tick where none is overdue, holds of what is chosen
-pub by-chosen : (Q : Event → Type 0) (x : Point) → ((i : ℕ) → i < x.state.run.held → Q (delivery x.state i)) → (refusedOverdue x.state ≡ false → Q (Tick 1)) → Q (chosen x)
+pub by-chosen : (Q : Event → Type 0) (x : Point) → ((i : ℕ) → i < x.state.run.held → Q (delivery x.state i)) → (refused_overdue x.state ≡ false → Q (Tick 1)) → Q (chosen x)
 unfolding chosen ticking overdue
 by-chosen Q x at tick =
     let s : State = x.state in
-    let d : ℕ = draw (nextSeed (nextSeed x.seed)) in
+    let d : ℕ = draw (next_seed (next_seed x.seed)) in
     by_cond Q (delivers x) (delivery s (d % s.run.held)) (ticking s)
-    (λ t. let l : 0 < s.run.held = ltb→lt _ _ (T-right (ltb (draw (nextSeed x.seed) % 4) 2) (ltb 0 s.run.held) t) in at (d % s.run.held) (mod-lt d l))
-    (λ t. by_cond Q (refusedOverdue s) (delivery s (first (overdueAt s) s.run.held)) (Tick 1)
-    (λ o. at (first (overdueAt s) s.run.held) (first_some (overdueAt s) s.run.held
-    (T-right s.run.settled (some (overdueAt s) s.run.held) (T-right (not (timeUnsound s)) (overdue s) o))))
-    (λ o. tick (T_false (refusedOverdue s) o)))
+    (λ t. let l : 0 < s.run.held = ltb→lt _ _ (T-right (ltb (draw (next_seed x.seed) % 4) 2) (ltb 0 s.run.held) t) in at (d % s.run.held) (mod-lt d l))
+    (λ t. by_cond Q (refused_overdue s) (delivery s (first (overdue_at s) s.run.held)) (Tick 1)
+    (λ o. at (first (overdue_at s) s.run.held) (first_some (overdue_at s) s.run.held
+    (T-right s.run.settled (some (overdue_at s) s.run.held) (T-right (not (time_unsound s)) (overdue s) o))))
+    (λ o. tick (T_false (refused_overdue s) o)))
 
 -- and with settling, of what a load does next
-pub by_turn : (Q : Event → Type 0) (settle : ℕ) (x : Point) → ((i : ℕ) → i < x.state.run.held → Q (delivery x.state i)) → (refusedOverdue x.state ≡ false → Q (Tick 1))
+pub by_turn : (Q : Event → Type 0) (settle : ℕ) (x : Point) → ((i : ℕ) → i < x.state.run.held → Q (delivery x.state i)) → (refused_overdue x.state ≡ false → Q (Tick 1))
     → ((T x.state.run.settled → ⊥) → Q Settle) → Q (turn settle x).event
 unfolding turn
-by_turn Q settle x at tick due = by_cond (λ (k : Turn). Q k.event) (settleDue settle x) (settleTurn x) (stepTurn x)
+by_turn Q settle x at tick due = by_cond (λ (k : Turn). Q k.event) (settle_due settle x) (settle_turn x) (step_turn x)
     (λ t. due (T_not x.state.run.settled (T-right (eqb x.step settle) (not x.state.run.settled) t))) (λ t. by-chosen Q x at tick)
 
-pub turn-line : (settle : ℕ) (x : Point) → SoundRun x.state → EventLine (eventForm (turn settle x).event) (turn settle x).event
-turn-line settle x sound = by_turn (λ (e : Event). EventLine (eventForm e) e) settle x
-    (λ i l. subst (λ (e : Event). EventLine (eventForm e) e) (sym (held-delivery x.state sound i l))
-    (message-line x.state sound (held x.state sound i l).message (held x.state sound i l).addressed))
+pub turn-line : (settle : ℕ) (x : Point) → SoundRun x.state → EventLine (event_form (turn settle x).event) (turn settle x).event
+turn-line settle x sound = by_turn (λ (e : Event). EventLine (event_form e) e) settle x
+    (λ i l. subst (λ (e : Event). EventLine (event_form e) e) (sym (held_delivery x.state sound i l))
+    (message_line x.state sound (held x.state sound i l).message (held x.state sound i l).addressed))
     (λ o. record { formed = refl; below = (omega arith, tt); bytes = refl })
     (λ u. record { formed = refl; below = tt; bytes = refl })

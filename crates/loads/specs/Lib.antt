@@ -1,5 +1,5 @@
 -- What the contracts cite, and rows.
 pub mod Draws
 pub mod Loads
-pub mod Contracts
+pub mod Clauses
 pub mod Examples

@@ -1,12 +1,12 @@
 // What a load out of a seed number does next: the draws, and the event that they choose.
 ghost use Rattle.std.specs.Prelude.{◌≡◌, ℕ, ◌*◌, ◌%◌, ◌^◌, not, ◌&&◌, List, if◌then◌else◌, ◌==◌};
 ghost use Rattle.base.specs.Scan.{first};
-ghost use Rattle.types.specs.Runs.{isSettled};
+ghost use Rattle.types.specs.Runs.{is_settled};
 ghost use Rattle.model.specs.State.{state_of, run_from};
-ghost use Rattle.model.specs.Checks.{atEnd, late, lateAt};
+ghost use Rattle.model.specs.Checks.{at_end, late, late_at};
 ghost use Rattle.buffers.specs.Kinds.{stored};
-ghost use Rattle.loads.specs.Draws.{nextSeed, draw};
-ghost use Rattle.loads.specs.Loads.{point_of, deliveryOf, ticking, stepTurn, turn};
+ghost use Rattle.loads.specs.Draws.{next_seed, draw};
+ghost use Rattle.loads.specs.Loads.{point_of, delivery_of, ticking, step_turn, turn};
 
 use buffers::Stored;
 use types::{Event, Form, Head, Plan};
@@ -43,7 +43,7 @@ fn wrapping_mul(a: u64, b: u64) -> u64
 
 // The next seed.
 fn next_seed(s: u64) -> u64
-    ensures { result ≡ nextSeed s }
+    ensures { result ≡ next_seed s }
 {
     std::num::wrapping_add_u64(wrapping_mul(s, MULTIPLIER), INCREMENT)
 }
@@ -75,7 +75,7 @@ fn is_late(gst: u64, delta: u64, time: u64, sent: u64) -> bool
 
 // The first of the held messages that is late, or how many are held.
 fn first_late(gst: u64, delta: u64, time: u64, held: usize, network: &[u64]) -> usize
-    ensures { result ≡ first (lateAt gst delta time Form.Packed network.now) held }
+    ensures { result ≡ first (late_at gst delta time Form.Packed network.now) held }
 {
     let mut i = 0;
     while i < held {
@@ -89,7 +89,7 @@ fn first_late(gst: u64, delta: u64, time: u64, held: usize, network: &[u64]) -> 
 
 // The delivery of message i.
 fn delivery(network: &[u64], i: usize) -> Event
-    ensures { result ≡ deliveryOf (stored Form.Packed network.now i) }
+    ensures { result ≡ delivery_of (stored Form.Packed network.now i) }
 {
     match buffers::decode(Form::Packed, network, i) {
         Stored::Holds(message) => Event::Deliver(message),
@@ -99,7 +99,7 @@ fn delivery(network: &[u64], i: usize) -> Event
 
 // Whether the time is at the clock time of the view limit, or later, whatever the plan: its product with the slot may be beyond 64 bits.
 fn is_over(plan: Plan, time: u64) -> bool
-    ensures { result ≡ atEnd plan time }
+    ensures { result ≡ at_end plan time }
 {
     if plan.gamma == 0 {
         return true;
@@ -109,7 +109,7 @@ fn is_over(plan: Plan, time: u64) -> bool
 
 // What becomes of a tick where message i is the first that is overdue.
 fn substitute(plan: Plan, time: u64, network: &[u64], i: usize) -> Event
-    ensures { result ≡ (if atEnd plan time then Event.Tick 1 else deliveryOf (stored Form.Packed network.now i)) }
+    ensures { result ≡ (if at_end plan time then Event.Tick 1 else delivery_of (stored Form.Packed network.now i)) }
 {
     if is_over(plan, time) {
         return Event::Tick(1);
@@ -132,7 +132,7 @@ fn tick_or_deliver(head: Head, network: &[u64]) -> Event
 
 // A step of the load. Nothing is asked of the draw where nothing is held.
 fn step(head: Head, seed: u64, network: &[u64]) -> Turn
-    ensures { (c v t : List ℕ) (k : ℕ) → result ≡ stepTurn (point_of (state_of (run_from head c v) t network.now) seed k) }
+    ensures { (c v t : List ℕ) (k : ℕ) → result ≡ step_turn (point_of (state_of (run_from head c v) t network.now) seed k) }
 {
     let once = next_seed(seed);
     if head.held == 0 {
@@ -160,7 +160,7 @@ fn step(head: Head, seed: u64, network: &[u64]) -> Turn
 
 // Whether the load settles before the next step.
 fn settle_due(next: u64, settle: u64, settled: u64) -> bool
-    ensures { result ≡ (next == settle && not (isSettled settled)) }
+    ensures { result ≡ (next == settle && not (is_settled settled)) }
 {
     if next == settle {
         return settled != 1;

@@ -8,22 +8,22 @@ use Rattle.types.specs.declared.Setup.{Setup}
 use Rattle.types.specs.declared.Counts.{Counts}
 use Rattle.types.specs.declared.Totals.{Totals}
 use Rattle.types.specs.declared.Traffic.{Traffic}
-use Rattle.types.specs.Traffic.{countsOf, trafficOf, noCounts, noTraffic}
-use Rattle.types.specs.Messages.{kind_of, viewIn, stageOf}
-use Rattle.model.specs.State.{State, with_run, withTraffic, heldIn, accepted}
+use Rattle.types.specs.Traffic.{counts_of, traffic_of, no_counts, no_traffic}
+use Rattle.types.specs.Messages.{kind_of, view_in, stage_of}
+use Rattle.model.specs.State.{State, with_run, with_traffic, held_in, accepted}
 use Rattle.model.specs.Moves.{entries, handling, advanced, arrivals}
 use Rattle.model.specs.Checks.{unsound}
-use Rattle.model.specs.Opening.{blank, firstEntry, opening}
-use Rattle.model.specs.Events.{delivering, signing, waitOf, tickOnce, applied}
+use Rattle.model.specs.Opening.{blank, first_entry, opening}
+use Rattle.model.specs.Events.{delivering, signing, wait_of, tick_once, applied}
 use Rattle.model.specs.Lists.{after}
 
 -- ---- "The sums are those of the schedule's history": what each event posts and delivers
 
 -- what the single ticks post, up to m of them and before the first that is refused
-unfoldable pub ticksPosted : ℕ → State → List Message
-ticksPosted zero s = []
-ticksPosted (suc m) s =
-    let a = tickOnce s in cond (accepted a.answer) ((arrivals (advanced s)).sent ++ ticksPosted m a.state) []
+unfoldable pub ticks_posted : ℕ → State → List Message
+ticks_posted zero s = []
+ticks_posted (suc m) s =
+    let a = tick_once s in cond (accepted a.answer) ((arrivals (advanced s)).sent ++ ticks_posted m a.state) []
 
 -- what an event posts where it is accepted
 unfoldable pub posting : Event → State → List Message
@@ -31,100 +31,100 @@ posting (Deliver m) s = (delivering s m).sent
 posting (Sign m) s = (signing s m).sent
 posting (Show m) s = (handling s.run s.tally m).sent
 posting Settle s = []
-posting (Tick m) s = ticksPosted m s
+posting (Tick m) s = ticks_posted m s
 
-abbrev pub postedIn : Event → State → List Message
-postedIn e s = cond (accepted (applied e s).answer) (posting e s) []
+abbrev pub posted_in : Event → State → List Message
+posted_in e s = cond (accepted (applied e s).answer) (posting e s) []
 
 -- the message that it delivers, if it does
-abbrev pub deliveredBy : Event → List Message
-deliveredBy (Deliver m) = m ∷ []
-deliveredBy (Sign m) = []
-deliveredBy (Show m) = []
-deliveredBy Settle = []
-deliveredBy (Tick m) = []
+abbrev pub delivered_by : Event → List Message
+delivered_by (Deliver m) = m ∷ []
+delivered_by (Sign m) = []
+delivered_by (Show m) = []
+delivered_by Settle = []
+delivered_by (Tick m) = []
 
-abbrev pub deliveredIn : Event → State → List Message
-deliveredIn e s = cond (accepted (applied e s).answer) (deliveredBy e) []
+abbrev pub delivered_in : Event → State → List Message
+delivered_in e s = cond (accepted (applied e s).answer) (delivered_by e) []
 
 -- and for how long that was in flight
-abbrev pub waitBy : Event → State → ℕ
-waitBy (Deliver m) s = waitOf s m
-waitBy (Sign m) s = 0
-waitBy (Show m) s = 0
-waitBy Settle s = 0
-waitBy (Tick m) s = 0
+abbrev pub wait_by : Event → State → ℕ
+wait_by (Deliver m) s = wait_of s m
+wait_by (Sign m) s = 0
+wait_by (Show m) s = 0
+wait_by Settle s = 0
+wait_by (Tick m) s = 0
 
-abbrev pub waitIn : Event → State → ℕ
-waitIn e s = cond (accepted (applied e s).answer) (waitBy e s) 0
+abbrev pub wait_in : Event → State → ℕ
+wait_in e s = cond (accepted (applied e s).answer) (wait_by e s) 0
 
 -- events in turn
-unfoldable pub postedDuring : State → List Event → List Message
-postedDuring s [] = []
-postedDuring s (e ∷ es) = postedIn e s ++ postedDuring (applied e s).state es
+unfoldable pub posted_during : State → List Event → List Message
+posted_during s [] = []
+posted_during s (e ∷ es) = posted_in e s ++ posted_during (applied e s).state es
 
-unfoldable pub deliveredDuring : State → List Event → List Message
-deliveredDuring s [] = []
-deliveredDuring s (e ∷ es) = deliveredIn e s ++ deliveredDuring (applied e s).state es
+unfoldable pub delivered_during : State → List Event → List Message
+delivered_during s [] = []
+delivered_during s (e ∷ es) = delivered_in e s ++ delivered_during (applied e s).state es
 
-unfoldable pub waitsDuring : State → List Event → ℕ
-waitsDuring s [] = 0
-waitsDuring s (e ∷ es) = waitIn e s + waitsDuring (applied e s).state es
+unfoldable pub waits_during : State → List Event → ℕ
+waits_during s [] = 0
+waits_during s (e ∷ es) = wait_in e s + waits_during (applied e s).state es
 
 -- what the first entries post
-abbrev pub postedFirst : Setup → State → List Message
-postedFirst u before = let b = blank u before in (entries (firstEntry u) b.run b.tally u.plan.n).sent
+abbrev pub posted_first : Setup → State → List Message
+posted_first u before = let b = blank u before in (entries (first_entry u) b.run b.tally u.plan.n).sent
 
 -- "for a whole run": from its opening on
-abbrev pub everPosted : Setup → State → List Event → List Message
-everPosted u before es = postedFirst u before ++ postedDuring (opening u before).state es
+abbrev pub ever_posted : Setup → State → List Event → List Message
+ever_posted u before es = posted_first u before ++ posted_during (opening u before).state es
 
 -- ---- how many they are
 
 -- "by kind"
-abbrev pub ofKind : ℕ → List Message → ℕ
-ofKind k [] = 0
-ofKind k (m ∷ ms) = bit (eqb (kind_of m) k) + ofKind k ms
+abbrev pub of_kind : ℕ → List Message → ℕ
+of_kind k [] = 0
+of_kind k (m ∷ ms) = bit (eqb (kind_of m) k) + of_kind k ms
 
-abbrev pub countsIn : List Message → Counts
-countsIn ms = countsOf (ofKind 1 ms) (ofKind 2 ms) (ofKind 3 ms) (ofKind 4 ms)
+abbrev pub counts_in : List Message → Counts
+counts_in ms = counts_of (of_kind 1 ms) (of_kind 2 ms) (of_kind 3 ms) (of_kind 4 ms)
 
 -- whether a message's stage is the one asked for
-abbrev pub sameStage : Bool → Bool → Bool
-sameStage true b = b
-sameStage false b = not b
+abbrev pub same_stage : Bool → Bool → Bool
+same_stage true b = b
+same_stage false b = not b
 
 -- "for any one view .. view messages and view certificates together"; and so votes and quorum certificates
-abbrev pub ofView : Bool → ℕ → List Message → ℕ
-ofView stage w [] = 0
-ofView stage w (m ∷ ms) = bit (sameStage stage (stageOf m) && eqb (viewIn m) w) + ofView stage w ms
+abbrev pub of_view : Bool → ℕ → List Message → ℕ
+of_view stage w [] = 0
+of_view stage w (m ∷ ms) = bit (same_stage stage (stage_of m) && eqb (view_in m) w) + of_view stage w ms
 
 -- ---- a run with other sums
 
-abbrev pub withSums : Traffic → State → State
-withSums x s = with_run (withTraffic x s.run) s
+abbrev pub with_sums : Traffic → State → State
+with_sums x s = with_run (with_traffic x s.run) s
 
 -- ---- the report
 
 -- "those held", by kind: of the messages in the network
-abbrev pub heldOfKind : State → ℕ → ℕ
-heldOfKind s k = count s.run.held (λ i. eqb (heldIn s i).kind k)
+abbrev pub held_of_kind : State → ℕ → ℕ
+held_of_kind s k = count s.run.held (λ i. eqb (held_in s i).kind k)
 
-abbrev pub heldCounts : State → Counts
-heldCounts s = countsOf (heldOfKind s 1) (heldOfKind s 2) (heldOfKind s 3) (heldOfKind s 4)
+abbrev pub held_counts : State → Counts
+held_counts s = counts_of (held_of_kind s 1) (held_of_kind s 2) (held_of_kind s 3) (held_of_kind s 4)
 
 -- what is to be reported of a run by its history, es being the events since its opening: "sent and delivered by kind, those held, and the sum of waits"
-abbrev pub historyTotals : Setup → State → List Event → Totals
-historyTotals u before es =
+abbrev pub history_totals : Setup → State → List Event → Totals
+history_totals u before es =
     let s = (opening u before).state in
     record {
       check = 0;
-      traffic = trafficOf (countsIn (everPosted u before es)) (countsIn (deliveredDuring s es)) (waitsDuring s es);
-      held = heldCounts (after s es);
+      traffic = traffic_of (counts_in (ever_posted u before es)) (counts_in (delivered_during s es)) (waits_during s es);
+      held = held_counts (after s es);
     }
 
 -- "In a run handed in (unsound: 9) the sums go unchecked"; a refused report tells nothing
 unfoldable pub totals : State → Totals
 totals s =
-    cond (unsound s) (record { check = 9; traffic = noTraffic; held = noCounts })
-    (record { check = 0; traffic = s.run.traffic; held = heldCounts s })
+    cond (unsound s) (record { check = 9; traffic = no_traffic; held = no_counts })
+    (record { check = 0; traffic = s.run.traffic; held = held_counts s })

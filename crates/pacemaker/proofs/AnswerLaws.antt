@@ -14,10 +14,10 @@ use Rattle.types.specs.declared.Input.{Input}
 use Rattle.types.specs.declared.Input.TheVariants.{Tick, Vc, Qc}
 use Rattle.types.specs.declared.Sends.{Sends}
 use Rattle.types.specs.declared.Stepped.TheVariants.{Sent, Refused}
-use Rattle.types.specs.Quantities.{initial, clockTime}
+use Rattle.types.specs.Quantities.{initial, clock_time}
 use Rattle.model.specs.Moves.{Entry, stay, into}
-use Rattle.model.specs.Checks.{atEnd}
-use Rattle.model.specs.Processors.{Moved, Gives, messagesOf, moving, moving-check, movingBy, clockAt, entryBy, processorUnsound, refusing, stepped}
+use Rattle.model.specs.Checks.{at_end}
+use Rattle.model.specs.Processors.{Moved, Gives, messages_of, moving, moving-check, moving_by, clock_at, entry_by, processor_unsound, refusing, stepped}
 use Rattle.pacemaker.specs.Steps.{ending, stepping, Named}
 use Rattle.pacemaker.proofs.StepLaws.{ends, goes_on, certified, voted, is-stepping}
 
@@ -26,7 +26,7 @@ use Rattle.pacemaker.proofs.StepLaws.{ends, goes_on, certified, voted, is-steppi
 pub sent-check : {m : Moved} {c : Processor} {x : Sends} → Gives m c (Sent x) → m.check ≡ 0
 sent-check g = sym g.check
 
-pub sent-messages : {m : Moved} {c : Processor} {x : Sends} → Gives m c (Sent x) → messagesOf c.number x ≡ m.sent
+pub sent-messages : {m : Moved} {c : Processor} {x : Sends} → Gives m c (Sent x) → messages_of c.number x ≡ m.sent
 sent-messages g = g.sent
 
 pub refused-check : {m : Moved} {c : Processor} {r : ℕ} → Gives m c (Refused r) → r ≡ m.check
@@ -37,43 +37,43 @@ refused-some {m = m} g = let ne : m.check ≡ 0 → ⊥ = eqb-false m.check 0 (s
 
 -- ---- a step of a sound processor below n
 
-is-ending : (plan : Plan) (c : Processor) (i : Input) → Named plan i → ending plan c (movingBy plan c i) ≡ stepping plan c i
+is-ending : (plan : Plan) (c : Processor) (i : Input) → Named plan i → ending plan c (moving_by plan c i) ≡ stepping plan c i
 is-ending plan c Tick named = refl
 is-ending plan c (Vc w) named = certified plan c w _ named.0 named.1 refl
 is-ending plan c (Qc w) named = voted plan c w _ named refl
 
-module _ (plan : Plan) (c : Processor) (i : Input) (sound : processorUnsound plan c ≡ false) (below-n : c.number < plan.n) (named : Named plan i) where
+module _ (plan : Plan) (c : Processor) (i : Input) (sound : processor_unsound plan c ≡ false) (below-n : c.number < plan.n) (named : Named plan i) where
   -- it makes its move where the clock stays before the end
-  pub steps : atEnd plan (movingBy plan c i).processor.clock ≡ false → stepped plan c i ≡ movingBy plan c i
-  steps e = sym (goes_on plan c (movingBy plan c i) e ∙ is-ending plan c i named ∙ is-stepping plan c i sound below-n)
+  pub steps : at_end plan (moving_by plan c i).processor.clock ≡ false → stepped plan c i ≡ moving_by plan c i
+  steps e = sym (goes_on plan c (moving_by plan c i) e ∙ is-ending plan c i named ∙ is-stepping plan c i sound below-n)
 
   -- and is refused by 17 elsewhere
-  pub stops : atEnd plan (movingBy plan c i).processor.clock ≡ true → stepped plan c i ≡ refusing c 17
-  stops e = sym (ends plan c (movingBy plan c i) e ∙ is-ending plan c i named ∙ is-stepping plan c i sound below-n)
+  pub stops : at_end plan (moving_by plan c i).processor.clock ≡ true → stepped plan c i ≡ refusing c 17
+  stops e = sym (ends plan c (moving_by plan c i) e ∙ is-ending plan c i named ∙ is-stepping plan c i sound below-n)
 
   -- so the answer tells which
-  pub sent-before-end : (d : Processor) (x : Sends) → Gives (stepped plan c i) d (Sent x) → atEnd plan (movingBy plan c i).processor.clock ≡ false
-  sent-before-end d x g = go (atEnd plan (movingBy plan c i).processor.clock) refl
+  pub sent-before-end : (d : Processor) (x : Sends) → Gives (stepped plan c i) d (Sent x) → at_end plan (moving_by plan c i).processor.clock ≡ false
+  sent-before-end d x g = go (at_end plan (moving_by plan c i).processor.clock) refl
     where
-      go : (t : Bool) → atEnd plan (movingBy plan c i).processor.clock ≡ t → t ≡ false
+      go : (t : Bool) → at_end plan (moving_by plan c i).processor.clock ≡ t → t ≡ false
       go true e = let z : (stepped plan c i).check ≡ 17 = ap (λ (m : Moved). m.check) (stops e) in absurd (omega (arith, sent-check g))
       go false e = refl
 
-  pub refused-at-end : (d : Processor) (r : ℕ) → Gives (stepped plan c i) d (Refused r) → (r ≡ 17) × (atEnd plan (movingBy plan c i).processor.clock ≡ true)
-  refused-at-end d r g = go (atEnd plan (movingBy plan c i).processor.clock) refl
+  pub refused-at-end : (d : Processor) (r : ℕ) → Gives (stepped plan c i) d (Refused r) → (r ≡ 17) × (at_end plan (moving_by plan c i).processor.clock ≡ true)
+  refused-at-end d r g = go (at_end plan (moving_by plan c i).processor.clock) refl
     where
-      go : (t : Bool) → atEnd plan (movingBy plan c i).processor.clock ≡ t → (r ≡ 17) × (t ≡ true)
+      go : (t : Bool) → at_end plan (moving_by plan c i).processor.clock ≡ t → (r ≡ 17) × (t ≡ true)
       go true e = (refused-check g ∙ ap (λ (m : Moved). m.check) (stops e), refl)
       go false e =
           let z : (stepped plan c i).check ≡ 0 =
-          ap (λ (m : Moved). m.check) (steps e) ∙ moving-check plan c.number (clockAt c i) c.view (entryBy plan c i) in
+          ap (λ (m : Moved). m.check) (steps e) ∙ moving-check plan c.number (clock_at c i) c.view (entry_by plan c i) in
           absurd (omega (arith, refused-some g))
 
 -- a tick adds 1 to the clock, whether or not a view is entered
-pub tick-clock : (plan : Plan) (c : Processor) → (movingBy plan c Tick).processor.clock ≡ c.clock + 1
+pub tick-clock : (plan : Plan) (c : Processor) → (moving_by plan c Tick).processor.clock ≡ c.clock + 1
 tick-clock plan c = by_cond (λ (e : Entry). (moving plan c.number (c.clock + 1) c.view e).processor.clock ≡ c.clock + 1)
     (eqb ((c.clock + 1) % plan.gamma) 0 && initial plan w) (into w) stay
-    (λ t. sym (cond_no _ _ _ _ (le-ltb (c.clock + 1) (clockTime plan w) (div-mul-le_self (c.clock + 1) plan.gamma)) refl)) (λ t. refl)
+    (λ t. sym (cond_no _ _ _ _ (le-ltb (c.clock + 1) (clock_time plan w) (div-mul-le_self (c.clock + 1) plan.gamma)) refl)) (λ t. refl)
   where
     w : ℕ
     w = (c.clock + 1) / plan.gamma

@@ -18,13 +18,13 @@ use Rattle.types.specs.declared.Sends.{Sends}
 use Rattle.types.specs.declared.Sends.TheVariants.{Vote as VoteFor, ViewAndVote}
 use Rattle.types.specs.declared.Stepped.{Stepped}
 use Rattle.types.specs.declared.Stepped.TheVariants.{Refused}
-use Rattle.types.specs.Quantities.{initial, clockTime, endTime}
-use Rattle.model.specs.Moves.{Entry, stay, into, entryClock, entryMessages, byClock, byQuorum, byView}
-use Rattle.model.specs.Checks.{atEnd}
-use Rattle.model.specs.Processors.{Moved, Gives, messagesOf, sending, moving, processorUnsound, refusing, stepped}
+use Rattle.types.specs.Quantities.{initial, clock_time, end_time}
+use Rattle.model.specs.Moves.{Entry, stay, into, entry_clock, entry_messages, by_clock, by_quorum, by_view}
+use Rattle.model.specs.Checks.{at_end}
+use Rattle.model.specs.Processors.{Moved, Gives, messages_of, sending, moving, processor_unsound, refusing, stepped}
 use Rattle.pacemaker.specs.Limits.{Sound}
-use Rattle.pacemaker.specs.Steps.{ending, entryInto, stepping}
-use Rattle.pacemaker.proofs.LimitLaws.{gamma-positive}
+use Rattle.pacemaker.specs.Steps.{ending, entry_into, stepping}
+use Rattle.pacemaker.proofs.LimitLaws.{gamma_positive}
 
 -- ---- the answer
 
@@ -37,64 +37,64 @@ gives-refusal c r l = record { processor = refl; sent = refl; check = refl; acce
 -- ---- check 17
 
 module _ (plan : Plan) (c : Processor) (m : Moved) where
-  pub ends : atEnd plan m.processor.clock ≡ true → refusing c 17 ≡ ending plan c m
+  pub ends : at_end plan m.processor.clock ≡ true → refusing c 17 ≡ ending plan c m
   ends e = cond_yes _ _ _ _ e refl
 
-  pub goes_on : atEnd plan m.processor.clock ≡ false → m ≡ ending plan c m
+  pub goes_on : at_end plan m.processor.clock ≡ false → m ≡ ending plan c m
   goes_on e = cond_no _ _ _ _ e refl
 
 -- ---- entering a view
 
-entry-sends : (plan : Plan) (p w : ℕ) → messagesOf p (cond (initial plan w) (ViewAndVote w) (VoteFor w)) ≡ entryMessages plan p w
+entry-sends : (plan : Plan) (p w : ℕ) → messages_of p (cond (initial plan w) (ViewAndVote w) (VoteFor w)) ≡ entry_messages plan p w
 entry-sends plan p w = by-test (initial plan w)
   where
-    by-test : (t : Bool) → messagesOf p (cond t (ViewAndVote w) (VoteFor w)) ≡ cond t (View w p ∷ Vote w p ∷ []) (Vote w p ∷ [])
+    by-test : (t : Bool) → messages_of p (cond t (ViewAndVote w) (VoteFor w)) ≡ cond t (View w p ∷ Vote w p ∷ []) (Vote w p ∷ [])
     by-test true = refl
     by-test false = refl
 
 -- what is made of the clock, its view's time and the messages is the entry into w
-pub entered : (plan : Plan) (c : Processor) (clock w t next : ℕ) (x : Sends) → t ≡ clockTime plan w → next ≡ cond (ltb clock t) t clock
+pub entered : (plan : Plan) (c : Processor) (clock w t next : ℕ) (x : Sends) → t ≡ clock_time plan w → next ≡ cond (ltb clock t) t clock
     → x ≡ cond (initial plan w) (ViewAndVote w) (VoteFor w)
-    → sending (record { number = c.number; clock = next; view = w }) (messagesOf c.number x) ≡ moving plan c.number clock c.view (into w)
+    → sending (record { number = c.number; clock = next; view = w }) (messages_of c.number x) ≡ moving plan c.number clock c.view (into w)
 entered plan c clock w t next x is-t is-next is_x i = record {
   processor = record { number = c.number; clock = (is-next ∙ ap (λ (u : ℕ). cond (ltb clock u) u clock) is-t) i; view = w };
-  sent = (ap (messagesOf c.number) is_x ∙ entry-sends plan c.number w) i;
+  sent = (ap (messages_of c.number) is_x ∙ entry-sends plan c.number w) i;
   check = 0;
 }
 
 -- of a sound processor's entries that into the view limit ends, and no other does
 module _ (plan : Plan) (c : Processor) (s : Sound plan c) (w : ℕ) where
-  pub entry-ends : plan.views ≤ w → refusing c 17 ≡ entryInto plan c w
-  entry-ends l = ends plan c _ (le-leb (endTime plan) (entryClock plan c.clock w) (omega (arith, late, forward)))
+  pub entry-ends : plan.views ≤ w → refusing c 17 ≡ entry_into plan c w
+  entry-ends l = ends plan c _ (le-leb (end_time plan) (entry_clock plan c.clock w) (omega (arith, late, forward)))
     where
       time : ℕ
-      time = clockTime plan w
+      time = clock_time plan w
 
-      late : endTime plan ≤ time
+      late : end_time plan ≤ time
       late = mul-le-mul_right plan.gamma l
 
-      forward : time ≡ entryClock plan c.clock w
-      forward = cond_yes _ _ _ _ (lt-ltb c.clock time (omega (arith, late, s.before-end))) refl
+      forward : time ≡ entry_clock plan c.clock w
+      forward = cond_yes _ _ _ _ (lt-ltb c.clock time (omega (arith, late, s.before_end))) refl
 
-  pub entry-goes-on : w < plan.views → moving plan c.number c.clock c.view (into w) ≡ entryInto plan c w
-  entry-goes-on l = goes_on plan c _ (lt-leb (endTime plan) _ (by_cond (λ (x : ℕ). x < endTime plan) (ltb c.clock time) time c.clock
-      (λ t. early) (λ t. s.before-end)))
+  pub entry-goes-on : w < plan.views → moving plan c.number c.clock c.view (into w) ≡ entry_into plan c w
+  entry-goes-on l = goes_on plan c _ (lt-leb (end_time plan) _ (by_cond (λ (x : ℕ). x < end_time plan) (ltb c.clock time) time c.clock
+      (λ t. early) (λ t. s.before_end)))
     where
       time : ℕ
-      time = clockTime plan w
+      time = clock_time plan w
 
-      early : time < endTime plan
-      early = omega (arith, mul-le-mul_right plan.gamma l, gamma-positive plan s.within)
+      early : time < end_time plan
+      early = omega (arith, mul-le-mul_right plan.gamma l, gamma_positive plan s.within)
 
 -- and one that stays as it is goes on
 pub stays : (plan : Plan) (c : Processor) → Sound plan c → sending c [] ≡ ending plan c (moving plan c.number c.clock c.view stay)
-stays plan c s = goes_on plan c (sending c []) (lt-leb _ _ s.before-end)
+stays plan c s = goes_on plan c (sending c []) (lt-leb _ _ s.before_end)
 
 -- ---- rules 1 to 3
 
 module _ (plan : Plan) (c : Processor) where
   -- a tick that makes the entry e
-  pub ticked : (e : Entry) → e ≡ byClock plan (c.clock + 1) → ending plan c (moving plan c.number (c.clock + 1) c.view e) ≡ stepping plan c Tick
+  pub ticked : (e : Entry) → e ≡ by_clock plan (c.clock + 1) → ending plan c (moving plan c.number (c.clock + 1) c.view e) ≡ stepping plan c Tick
   ticked e is = ap (λ (x : Entry). ending plan c (moving plan c.number (c.clock + 1) c.view x)) is
 
   module _ (w : ℕ) where
@@ -105,44 +105,44 @@ module _ (plan : Plan) (c : Processor) where
     not-initial l i = cond_no _ _ _ _ (lt-leb _ _ l) (cond_yes _ _ _ _ (not-no _ i) refl)
 
     -- a view certificate that makes the entry e
-    pub certified : (e : Entry) → w < plan.views → initial plan w ≡ true → e ≡ byView plan c.view w
+    pub certified : (e : Entry) → w < plan.views → initial plan w ≡ true → e ≡ by_view plan c.view w
         → ending plan c (moving plan c.number c.clock c.view e) ≡ stepping plan c (Vc w)
     certified e l i is = cond_no _ _ _ _ (lt-leb _ _ l) (cond_no _ _ _ _ (not_yes _ i)
         (ap (λ (x : Entry). ending plan c (moving plan c.number c.clock c.view x)) is))
 
-    pub above : initial plan w ≡ true → c.view < w → into w ≡ byView plan c.view w
+    pub above : initial plan w ≡ true → c.view < w → into w ≡ by_view plan c.view w
     above i l = cond_yes _ _ _ _ (and_both _ _ i (lt-ltb _ _ l)) refl
 
-    pub not-above : w ≤ c.view → stay ≡ byView plan c.view w
+    pub not-above : w ≤ c.view → stay ≡ by_view plan c.view w
     not-above l = cond_no _ _ _ _ (and-not-second (initial plan w) _ (le-ltb _ _ l)) refl
 
     pub no-view-voted : plan.views ≤ w → refusing c 10 ≡ stepping plan c (Qc w)
     no-view-voted l = cond_yes _ _ _ _ (le-leb _ _ l) refl
 
     -- a quorum certificate that makes the entry e
-    pub voted : (e : Entry) → w < plan.views → e ≡ byQuorum c.view w
+    pub voted : (e : Entry) → w < plan.views → e ≡ by_quorum c.view w
         → ending plan c (moving plan c.number c.clock c.view e) ≡ stepping plan c (Qc w)
     voted e l is = cond_no _ _ _ _ (lt-leb _ _ l)
         (ap (λ (x : Entry). ending plan c (moving plan c.number c.clock c.view x)) is)
 
-    pub at-or-above : c.view ≤ w → into (w + 1) ≡ byQuorum c.view w
+    pub at-or-above : c.view ≤ w → into (w + 1) ≡ by_quorum c.view w
     at-or-above l = cond_yes _ _ _ _ (le-leb _ _ l) refl
 
-    pub below : w < c.view → stay ≡ byQuorum c.view w
+    pub below : w < c.view → stay ≡ by_quorum c.view w
     below l = cond_no _ _ _ _ (lt-leb _ _ l) refl
 
 -- ---- checks 9 and 10
 
 module _ (plan : Plan) (c : Processor) where
-  pub refused-unsound : (i : Input) → processorUnsound plan c ≡ true → refusing c 9 ≡ stepped plan c i
+  pub refused-unsound : (i : Input) → processor_unsound plan c ≡ true → refusing c 9 ≡ stepped plan c i
   unfolding stepped
   refused-unsound i e = cond_yes _ _ _ _ e refl
 
-  pub refused-processor : (i : Input) → processorUnsound plan c ≡ false → plan.n ≤ c.number → refusing c 10 ≡ stepped plan c i
+  pub refused-processor : (i : Input) → processor_unsound plan c ≡ false → plan.n ≤ c.number → refusing c 10 ≡ stepped plan c i
   unfolding stepped
   refused-processor i e l = cond_no _ _ _ _ e (cond_yes _ _ _ _ (le-leb _ _ l) refl)
 
-  pub is-stepping : (i : Input) → processorUnsound plan c ≡ false → c.number < plan.n → stepping plan c i ≡ stepped plan c i
+  pub is-stepping : (i : Input) → processor_unsound plan c ≡ false → c.number < plan.n → stepping plan c i ≡ stepped plan c i
   unfolding stepped
   is-stepping Tick e l = cond_no _ _ _ _ e (cond_no _ _ _ _ (lt-leb _ _ l) refl)
   is-stepping (Vc w) e l = cond_no _ _ _ _ e (cond_no _ _ _ _ (lt-leb _ _ l) refl)

@@ -2,33 +2,33 @@
 use Rattle.std.specs.Prelude.{◌≡◌, true, [], ◌∷◌, ℕ, ◌*◌, ◌≤◌, ◌<◌}
 use Rattle.types.specs.declared.Plan.{Plan}
 use Rattle.types.specs.declared.Processor.{Processor}
-use Rattle.types.specs.Quantities.{nLeast, nMost, deltaLeast, deltaMost, gammaMost, viewsLeast, viewsMost, perLeader, perLeaderLeast, turnStart, nextInitial, clockTime, endTime}
-use Rattle.model.specs.Checks.{judged, nOutside, delaysOutside, viewsOutside}
+use Rattle.types.specs.Quantities.{n_least, n_most, delta_least, delta_most, gamma_most, views_least, views_most, per_leader, per_leader_least, turn_start, next_initial, clock_time, end_time}
+use Rattle.model.specs.Checks.{judged, n_outside, delays_outside, views_outside}
 
 -- the first of checks 2 to 4 whose sentence holds, or 0
-abbrev pub planCheck : Plan → ℕ
-planCheck p = judged (λ r. r) ((2, nOutside p) ∷ (3, delaysOutside p) ∷ (4, viewsOutside p) ∷ []) 0
+abbrev pub plan_check : Plan → ℕ
+plan_check p = judged (λ r. r) ((2, n_outside p) ∷ (3, delays_outside p) ∷ (4, views_outside p) ∷ []) 0
 
 -- no clock time of a plan that passes them is larger
-abbrev pub timeMost : ℕ
-timeMost = viewsMost * gammaMost
+abbrev pub time_most : ℕ
+time_most = views_most * gamma_most
 
 -- a plan that passes them
 pub record Within (p : Plan) : Type 0 where
-  pub n-least : nLeast ≤ p.n
-  pub n-most : p.n ≤ nMost
-  pub delta-least : deltaLeast ≤ p.delta
-  pub delta-most : p.delta ≤ deltaMost
-  pub gamma-twice : 2 * p.delta ≤ p.gamma
-  pub gamma-most : p.gamma ≤ gammaMost
-  pub per-leader-least : perLeaderLeast ≤ perLeader p
-  pub views-least : viewsLeast ≤ p.views
-  pub views-most : p.views ≤ viewsMost
-  pub views-multiple : turnStart p p.views ≡ true
+  pub n_at_least : n_least ≤ p.n
+  pub n_at_most : p.n ≤ n_most
+  pub delta_at_least : delta_least ≤ p.delta
+  pub delta_at_most : p.delta ≤ delta_most
+  pub gamma_twice : 2 * p.delta ≤ p.gamma
+  pub gamma_at_most : p.gamma ≤ gamma_most
+  pub per_leader_at_least : per_leader_least ≤ per_leader p
+  pub views_at_least : views_least ≤ p.views
+  pub views_at_most : p.views ≤ views_most
+  pub views_multiple : turn_start p p.views ≡ true
 
 -- a processor that passes check 9
 pub record Sound (p : Plan) (c : Processor) : Type 0 where
   pub within : Within p
-  pub before-end : c.clock < endTime p
-  pub reached : clockTime p c.view ≤ c.clock
-  pub not-next : c.clock < clockTime p (nextInitial p c.view)
+  pub before_end : c.clock < end_time p
+  pub reached : clock_time p c.view ≤ c.clock
+  pub not_next : c.clock < clock_time p (next_initial p c.view)

@@ -7,19 +7,19 @@ use Rattle.types.specs.declared.Input.TheVariants.{Tick, Vc, Qc}
 use Rattle.types.specs.Quantities.{initial}
 use Rattle.model.specs.Checks.{judged}
 use Rattle.model.specs.Moves.{into}
-use Rattle.model.specs.Processors.{Moved, moving, movingBy, viewChecks, endChecks, refusing}
+use Rattle.model.specs.Processors.{Moved, moving, moving_by, view_checks, end_checks, refusing}
 
 -- the move m of c, unless check 17 refuses it
 abbrev pub ending : Plan → Processor → Moved → Moved
-ending plan c m = judged (refusing c) (endChecks plan m.processor.clock) m
+ending plan c m = judged (refusing c) (end_checks plan m.processor.clock) m
 
 -- the entry of c into w, unless check 17 refuses it
-abbrev pub entryInto : Plan → Processor → ℕ → Moved
-entryInto plan c w = ending plan c (moving plan c.number c.clock c.view (into w))
+abbrev pub entry_into : Plan → Processor → ℕ → Moved
+entry_into plan c w = ending plan c (moving plan c.number c.clock c.view (into w))
 
 -- the step of a sound processor below n
 abbrev pub stepping : Plan → Processor → Input → Moved
-stepping plan c i = judged (refusing c) (viewChecks plan i) (ending plan c (movingBy plan c i))
+stepping plan c i = judged (refusing c) (view_checks plan i) (ending plan c (moving_by plan c i))
 
 -- the view that an input names passes checks 10 and 11
 abbrev pub Named : Plan → Input → Type 0

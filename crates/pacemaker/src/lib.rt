@@ -1,16 +1,16 @@
 // The pacemaker of one processor: rules 1 to 3 behind its own checks (document 01: at the cabinet's own face).
 ghost use Rattle.std.specs.Prelude.{◌≡◌, cond, ◌≤◌, ◌<◌, ltb};
-ghost use Rattle.types.specs.Quantities.{deltaMost, gammaLeast, initial, nextInitial, clockTime};
-ghost use Rattle.model.specs.Checks.{nOutside, delaysOutside, viewsOutside, clockOutside};
-ghost use Rattle.model.specs.Processors.{Gives, messagesOf, sending, processorUnsound, refusing, stepped};
-ghost use Rattle.pacemaker.specs.Limits.{planCheck, Within, Sound};
-ghost use Rattle.pacemaker.specs.Steps.{entryInto, stepping};
+ghost use Rattle.types.specs.Quantities.{delta_most, gamma_least, initial, next_initial, clock_time};
+ghost use Rattle.model.specs.Checks.{n_outside, delays_outside, views_outside, clock_outside};
+ghost use Rattle.model.specs.Processors.{Gives, messages_of, sending, processor_unsound, refusing, stepped};
+ghost use Rattle.pacemaker.specs.Limits.{plan_check, Within, Sound};
+ghost use Rattle.pacemaker.specs.Steps.{entry_into, stepping};
 
 use types::{Input, Plan, Processor, Sends, Stepped};
 
 // Check 2.
 fn n_outside(plan: Plan) -> bool
-    ensures { result ≡ nOutside plan }
+    ensures { result ≡ n_outside plan }
 {
     if plan.n < Plan::N_LEAST {
         return true;
@@ -20,8 +20,8 @@ fn n_outside(plan: Plan) -> bool
 
 // The least slot: four delays where a leader has two views, else two.
 fn gamma_least(plan: Plan) -> u64
-    requires { plan.delta ≤ deltaMost }
-    ensures { result ≡ gammaLeast plan }
+    requires { plan.delta ≤ delta_most }
+    ensures { result ≡ gamma_least plan }
 {
     if plan.k == 2 {
         return 4 * plan.delta;
@@ -31,7 +31,7 @@ fn gamma_least(plan: Plan) -> u64
 
 // Check 3.
 fn delays_outside(plan: Plan) -> bool
-    ensures { result ≡ delaysOutside plan }
+    ensures { result ≡ delays_outside plan }
 {
     if plan.delta < Plan::DELTA_LEAST {
         return true;
@@ -47,7 +47,7 @@ fn delays_outside(plan: Plan) -> bool
 
 // Check 4.
 fn views_outside(plan: Plan) -> bool
-    ensures { result ≡ viewsOutside plan }
+    ensures { result ≡ views_outside plan }
 {
     if plan.k < Plan::PER_LEADER_LEAST {
         return true;
@@ -69,7 +69,7 @@ fn views_outside(plan: Plan) -> bool
 
 // The first of checks 2 to 4 that refuses the plan, or 0.
 pub fn plan_check(plan: Plan) -> u64
-    ensures { result ≡ planCheck plan }
+    ensures { result ≡ plan_check plan }
 {
     if n_outside(plan) {
         return 2;
@@ -86,7 +86,7 @@ pub fn plan_check(plan: Plan) -> u64
 // The clock time of view w, which fits.
 fn time_of(plan: Plan, w: u64) -> u64
     requires { Within plan × (w ≤ plan.views) }
-    ensures { result ≡ clockTime plan w }
+    ensures { result ≡ clock_time plan w }
 {
     plan.clock_time(w)
 }
@@ -94,7 +94,7 @@ fn time_of(plan: Plan, w: u64) -> u64
 // The first initial view above w, which is the view limit at most.
 fn next_of(plan: Plan, w: u64) -> u64
     requires { Within plan × (w < plan.views) }
-    ensures { (result ≡ nextInitial plan w) × (result ≤ plan.views) }
+    ensures { (result ≡ next_initial plan w) × (result ≤ plan.views) }
 {
     plan.next_initial(w)
 }
@@ -103,7 +103,7 @@ fn next_of(plan: Plan, w: u64) -> u64
 // initial view's time is before the end. The first test says no more than the second, but it is of a constant: the compiler then sees that clock times fit.
 fn clock_outside(plan: Plan, processor: Processor) -> bool
     requires { Within plan }
-    ensures { result ≡ clockOutside plan processor.clock processor.view }
+    ensures { result ≡ clock_outside plan processor.clock processor.view }
 {
     let view = processor.view;
     if Plan::VIEWS_MOST <= view {
@@ -120,7 +120,7 @@ fn clock_outside(plan: Plan, processor: Processor) -> bool
 
 // Check 9 of one processor: the plan's limits, and its own clock and view.
 pub fn unsound(plan: Plan, processor: Processor) -> bool
-    ensures { result ≡ processorUnsound plan processor }
+    ensures { result ≡ processor_unsound plan processor }
 {
     if 0 < plan_check(plan) {
         return true;
@@ -148,7 +148,7 @@ fn refuse(processor: Processor, check: u64) -> Outcome
 
 // A move: the processor that it leaves, and what that one sends.
 fn accept(after: Processor, sends: Sends) -> Outcome
-    ensures { Gives (sending after (messagesOf after.number sends)) result.processor result.answer }
+    ensures { Gives (sending after (messages_of after.number sends)) result.processor result.answer }
 {
     Outcome {
         processor: after,
@@ -179,7 +179,7 @@ fn entry_sends(plan: Plan, w: u64) -> Sends
 // The entry into view w. That into the view limit would bring the clock to the end, which no other does: check 17.
 fn enter(plan: Plan, processor: Processor, w: u64) -> Outcome
     requires { Sound plan processor × (w ≤ plan.views) }
-    ensures { Gives (entryInto plan processor w) result.processor result.answer }
+    ensures { Gives (entry_into plan processor w) result.processor result.answer }
 {
     let after = Processor {
         number: processor.number,

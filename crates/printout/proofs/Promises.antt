@@ -11,32 +11,32 @@ use borrow.Author.Tests.{le-ltb}
 use Rattle.lines.specs.declared.Written.{Written}
 use Rattle.lines.specs.declared.Written.TheVariants.{Bytes}
 use Rattle.lines.specs.declared.Next.TheVariants.{Unfinished}
-use Rattle.lines.specs.Contracts.{writtenBytes}
-use Rattle.lines.specs.Printout.{printedMost}
-use Rattle.lines.specs.Splitting.{lineMost, nextLine, linesAfter, inputLines, remainder}
+use Rattle.lines.specs.Clauses.{written_bytes}
+use Rattle.lines.specs.Printout.{printed_most}
+use Rattle.lines.specs.Splitting.{line_most, next_line, lines_after, input_lines, remainder}
 use Rattle.lines.specs.Promises.{Tells}
 use Rattle.lines.proofs.Splitting.{next-line}
 use Rattle.printout.specs.declared.Served.{Served}
-use Rattle.printout.specs.Printout.{Standing, standingOf, at_start, printedFrom, printout}
-use Rattle.printout.specs.Contracts.{Prints, placeAt, Advance, fed, Begun, Feeds, Serves, closingMost}
+use Rattle.printout.specs.Printout.{Standing, standing_of, at_start, printed_from, printout}
+use Rattle.printout.specs.Clauses.{Prints, place_at, Advance, fed, Begun, Feeds, Serves, closing_most}
 use Rattle.printout.specs.Promises.{Call, End, CourseTo, written, PrintsWhole, GoesOn}
 use Rattle.printout.proofs.Feeding.{fed-append, printed-fed}
 
 -- ---- the end
 
 -- a text that was printed is what the answer counts
-pub prints-text : (most : ℕ) (words out : List ℕ) (r : Written) (after : List ℕ) → most ≤ length out → Prints most words out r after → take (writtenBytes r) after ≡ words
+pub prints-text : (most : ℕ) (words out : List ℕ) (r : Written) (after : List ℕ) → most ≤ length out → Prints most words out r after → take (written_bytes r) after ≡ words
 prints-text most words out r after h p =
     let n = le-ltb _ _ h in
     let q : r ≡ Bytes (length words) = rw n at p.0 in
     let t : after ≡ words ++ drop (length words) out = rw n at p.1 in
-    ap₂ (λ (a : Written) (b : List ℕ). take (writtenBytes a) b) q t ∙ take_at words (drop (length words) out) (length words) refl
+    ap₂ (λ (a : Written) (b : List ℕ). take (written_bytes a) b) q t ∙ take_at words (drop (length words) out) (length words) refl
 
 -- what is left of the input is one line
-pub left-lines : (begun rest : List ℕ) → nextLine rest ≡ Unfinished → linesAfter begun rest ≡ remainder (begun ++ rest)
+pub left-lines : (begun rest : List ℕ) → next_line rest ≡ Unfinished → lines_after begun rest ≡ remainder (begun ++ rest)
 left-lines begun rest h =
     let t : Tells rest Unfinished = subst (Tells rest) h (next-line rest) in
-    ap (linesAfter begun) (sym (append-nil rest)) ∙ t.1 begun []
+    ap (lines_after begun) (sym (append-nil rest)) ∙ t.1 begun []
 
 -- ---- one call
 
@@ -49,8 +49,8 @@ split-bytes bytes input more k h e =
 
 -- the text that it printed
 feeds-text : (x : Standing) (begun s out : List ℕ) (y : Standing) (late : Bool) (k : ℕ) (after : List ℕ) → Feeds x begun s out y late k after
-    → take k after ≡ (fed (placeAt x begun) s).text
-feeds-text x begun s out y late k after f = ap (take k) f.text ∙ take_at (fed (placeAt x begun) s).text (drop k out) k (sym f.bytes)
+    → take k after ≡ (fed (place_at x begun) s).text
+feeds-text x begun s out y late k after f = ap (take k) f.text ∙ take_at (fed (place_at x begun) s).text (drop k out) k (sym f.bytes)
 
 -- ---- all of them
 
@@ -59,15 +59,15 @@ pub record Arrives (E : Standing → Bool → List ℕ → Type 0) (cs : List Ca
   pub late : Bool
   pub begins : Begun late f.place.begun
   pub ends : E f.place.standing late rest
-  pub text : (e : End) → written cs e ≡ f.text ++ take (writtenBytes e.answer) e.after
+  pub text : (e : End) → written cs e ≡ f.text ++ take (written_bytes e.answer) e.after
 
 -- what they used of the input, and what is left
 pub record Split (E : Standing → Bool → List ℕ → Type 0) (x : Standing) (begun input : List ℕ) (cs : List Call) : Type 0 where
   pub used : List ℕ
   pub rest : List ℕ
   pub whole : used ++ rest ≡ input
-  pub unended : nextLine rest ≡ Unfinished
-  pub arrives : Arrives E cs rest (fed (placeAt x begun) used)
+  pub unended : next_line rest ≡ Unfinished
+  pub arrives : Arrives E cs rest (fed (place_at x begun) used)
 
 pub course-split : (E : Standing → Bool → List ℕ → Type 0) (cs : List Call) (x : Standing) (late : Bool) (begun input : List ℕ) → Begun late begun
     → CourseTo E x late input cs → Split E x begun input cs
@@ -80,10 +80,10 @@ course-split E (d ∷ cs) x late begun input b c =
     a = take d.served.used d.bytes
 
     y : Standing
-    y = standingOf d.served.session d.tally d.network
+    y = standing_of d.served.session d.tally d.network
 
     F : Advance
-    F = fed (placeAt x begun) a
+    F = fed (place_at x begun) a
 
     step : Feeds x begun a d.out y d.served.late d.served.printed d.after
         → ((begun' input' : List ℕ) → Begun d.served.late begun' → CourseTo E y d.served.late input' cs → Split E y begun' input' cs)
@@ -98,43 +98,43 @@ course-split E (d ∷ cs) x late begun input b c =
           whole = append_assoc a l.used l.rest ∙ ap (λ (z : List ℕ). a ++ z) l.whole
               ∙ sym (split-bytes d.bytes input c.0.0 d.served.used c.1.within c.0.1);
           unended = l.unended;
-          arrives = subst (Arrives E (d ∷ cs) l.rest) (sym (fed-append (placeAt x begun) a l.used)) (record {
+          arrives = subst (Arrives E (d ∷ cs) l.rest) (sym (fed-append (place_at x begun) a l.used)) (record {
             late = l.arrives.late;
             begins = l.arrives.begins;
             ends = l.arrives.ends;
             text = λ e. ap₂ (λ (s t : List ℕ). s ++ t) (feeds-text x begun a d.out y d.served.late d.served.printed d.after f)
                 (l.arrives.text e)
-                ∙ sym (append_assoc F.text (fed F.place l.used).text (take (writtenBytes e.answer) e.after));
+                ∙ sym (append_assoc F.text (fed F.place l.used).text (take (written_bytes e.answer) e.after));
           });
         }
 
 pub prints-whole : PrintsWhole
-unfolding printout inputLines
+unfolding printout input_lines
 prints-whole input cs e c =
     let l = course-split _ cs at_start false [] input refl c in
-    let f : Advance = fed (placeAt at_start []) l.used in
-    let end : take (writtenBytes e.answer) e.after ≡ printedFrom f.place.standing (linesAfter f.place.begun l.rest) =
-    prints-text closingMost _ e.out e.answer e.after l.arrives.ends.0
+    let f : Advance = fed (place_at at_start []) l.used in
+    let end : take (written_bytes e.answer) e.after ≡ printed_from f.place.standing (lines_after f.place.begun l.rest) =
+    prints-text closing_most _ e.out e.answer e.after l.arrives.ends.0
     (l.arrives.ends.1 f.place.standing.state f.place.begun l.arrives.begins)
-    ∙ ap (printedFrom f.place.standing) (sym (left-lines f.place.begun l.rest l.unended)) in
-    l.arrives.text e ∙ ap (λ (t : List ℕ). f.text ++ t) end ∙ sym (printed-fed (placeAt at_start []) l.used l.rest)
-    ∙ ap (λ (s : List ℕ). printedFrom at_start (linesAfter [] s)) l.whole
+    ∙ ap (printed_from f.place.standing) (sym (left-lines f.place.begun l.rest l.unended)) in
+    l.arrives.text e ∙ ap (λ (t : List ℕ). f.text ++ t) end ∙ sym (printed-fed (place_at at_start []) l.used l.rest)
+    ∙ ap (λ (s : List ℕ). printed_from at_start (lines_after [] s)) l.whole
 
 -- ---- a call that used no bytes
 
 -- some bytes are begun, whichever are
 pub some-begun : (late : Bool) → (begun : List ℕ) × Begun late begun
 some-begun false = ([], refl)
-some-begun true = (replicate 4801 0, subst (λ (k : ℕ). lineMost < k) (sym (length-replicate {A = ℕ} 4801 0)) (omega arith))
+some-begun true = (replicate 4801 0, subst (λ (k : ℕ). line_most < k) (sym (length-replicate {A = ℕ} 4801 0)) (omega arith))
 
 -- it printed none
 none-printed : (x : Standing) (late : Bool) (bytes out tally network : List ℕ) (r : Served) (after : List ℕ) → Serves x late bytes out tally network r after → r.used ≡ 0 → r.printed ≡ 0
 none-printed x late bytes out tally network r after s z =
     let b = some-begun late in
-    (s.feeds b.0 b.1).bytes ∙ ap (λ (k : ℕ). length (fed (placeAt x b.0) (take k bytes)).text) z
+    (s.feeds b.0 b.1).bytes ∙ ap (λ (k : ℕ). length (fed (place_at x b.0) (take k bytes)).text) z
 
 pub goes_on : GoesOn
 goes_on x late bytes out tally network r after s h z =
     let n = none-printed x late bytes out tally network r after s z in
-    ⊎_elim (λ (l : length out < r.printed + printedMost). absurd (omega arith))
-    (λ (q : nextLine (drop r.used bytes) ≡ Unfinished). ap (λ (k : ℕ). nextLine (drop k bytes)) (sym z) ∙ q) s.stops
+    ⊎_elim (λ (l : length out < r.printed + printed_most). absurd (omega arith))
+    (λ (q : next_line (drop r.used bytes) ≡ Unfinished). ap (λ (k : ℕ). next_line (drop k bytes)) (sym z) ∙ q) s.stops

@@ -6,31 +6,31 @@ use Rattle.types.specs.declared.Event.TheVariants.{Deliver, Sign, Show, Settle, 
 use Rattle.types.specs.declared.Answer.{Answer}
 use Rattle.types.specs.declared.Answer.TheVariants.{Done, Stopped, Refused}
 use Rattle.types.specs.declared.Counts.{Counts}
-use Rattle.types.specs.Traffic.{countsOf, trafficOf, noCounts, noTraffic}
-use Rattle.model.specs.Rows.{definitions, plan_of, standard, zeroes, setupOf, handedIn, Row, agreeing, number, truth, words}
+use Rattle.types.specs.Traffic.{counts_of, traffic_of, no_counts, no_traffic}
+use Rattle.model.specs.Rows.{definitions, plan_of, standard, zeroes, setup_of, handed_in, Row, agreeing, number, truth, words}
 use Rattle.model.specs.State.{State, state_of, run_of}
 use Rattle.model.specs.Traffic.{totals}
 use Rattle.lines.specs.Decimal.{decimal}
-use Rattle.lines.specs.Forms.{newline, messageForm, eventForm, setupForm}
-use Rattle.lines.specs.Contracts.{line}
-use Rattle.lines.specs.Printout.{answerForm, processorForm, trafficText, totalsText}
-use Rattle.lines.specs.Splitting.{ended, inputLines}
-use Rattle.lines.specs.Promises.{scheduleOf}
+use Rattle.lines.specs.Forms.{newline, message_form, event_form, setup_form}
+use Rattle.lines.specs.Clauses.{line}
+use Rattle.lines.specs.Printout.{answer_form, processor_form, traffic_text, totals_text}
+use Rattle.lines.specs.Splitting.{ended, input_lines}
+use Rattle.lines.specs.Promises.{schedule_of}
 use Rattle.reader.specs.Bytes.{class_of, class_at}
-use Rattle.reader.specs.Scan.{afterWord, number_at, nextNumberAt}
-use Rattle.reader.specs.Lines.{kindFoundAt, messageAt, endingAt, deliverAt, signAt, showAt, ticksAt, eventAt, headingAt, firstClockAt, tableEndAt, table_at, openingAt, reading}
-use Rattle.printout.specs.Printout.{Standing, standingOf, leaving, unopenedSession, at_start, ticksPrinted, printedAnswer, eventReply, openingReply, lineAccepted, standingAfter, closing, printedFrom, printout}
-use Rattle.printout.specs.Traffic.{reportText, trafficPrintout}
+use Rattle.reader.specs.Scan.{after_word, number_at, next_number_at}
+use Rattle.reader.specs.Lines.{kind_found_at, message_at, ending_at, deliver_at, sign_at, show_at, ticks_at, event_at, heading_at, first_clock_at, table_end_at, table_at, opening_at, reading}
+use Rattle.printout.specs.Printout.{Standing, standing_of, leaving, unopened_session, at_start, ticks_printed, printed_answer, event_reply, opening_reply, line_accepted, standing_after, closing, printed_from, printout}
+use Rattle.printout.specs.Traffic.{report_text, traffic_printout}
 
 -- names all that has to unfold for a printout to compute
 unfoldable pub printing : ℕ
-unfolding definitions decimal messageForm eventForm setupForm answerForm processorForm inputLines class_of class_at afterWord number_at kindFoundAt messageAt endingAt deliverAt signAt showAt ticksAt eventAt headingAt firstClockAt tableEndAt nextNumberAt table_at openingAt reading ticksPrinted printedAnswer eventReply openingReply closing printout totals totalsText reportText trafficPrintout
+unfolding definitions decimal message_form event_form setup_form answer_form processor_form input_lines class_of class_at after_word number_at kind_found_at message_at ending_at deliver_at sign_at show_at ticks_at event_at heading_at first_clock_at table_end_at next_number_at table_at opening_at reading ticks_printed printed_answer event_reply opening_reply closing printout totals totals_text report_text traffic_printout
 printing = 0
 
 -- ---- "A schedule and its printout"
 
-pub scheduleLines : List (List ℕ)
-scheduleLines =
+pub schedule_lines : List (List ℕ)
+schedule_lines =
     -- "(open 4 2 4 6 0 (0 0 0 0))"
     (40 ∷ 111 ∷ 112 ∷ 101 ∷ 110 ∷ 32 ∷ 52 ∷ 32 ∷ 50 ∷ 32 ∷ 52 ∷ 32 ∷ 54 ∷ 32 ∷ 48 ∷ 32 ∷ 40 ∷ 48 ∷ 32 ∷ 48 ∷ 32 ∷ 48 ∷ 32 ∷ 48 ∷ 41 ∷ 41 ∷ [])
     -- "(deliver (view 0 0))"
@@ -45,8 +45,8 @@ scheduleLines =
     ∷ (40 ∷ 116 ∷ 105 ∷ 99 ∷ 107 ∷ 32 ∷ 51 ∷ 41 ∷ [])
     ∷ []
 
-pub printoutLines : List (List ℕ)
-printoutLines =
+pub printout_lines : List (List ℕ)
+printout_lines =
     -- "(done 0 8)"
     (40 ∷ 100 ∷ 111 ∷ 110 ∷ 101 ∷ 32 ∷ 48 ∷ 32 ∷ 56 ∷ 41 ∷ [])
     -- "(done 0 7)"
@@ -69,19 +69,19 @@ printoutLines =
     ∷ (40 ∷ 99 ∷ 97 ∷ 98 ∷ 105 ∷ 110 ∷ 101 ∷ 116 ∷ 32 ∷ 51 ∷ 32 ∷ 48 ∷ 32 ∷ 53 ∷ 41 ∷ [])
     ∷ []
 
-pub schedule-printed : printout (scheduleOf scheduleLines) ≡ scheduleOf printoutLines
-unfolding scheduleLines printoutLines printing
+pub schedule-printed : printout (schedule_of schedule_lines) ≡ schedule_of printout_lines
+unfolding schedule_lines printout_lines printing
 schedule-printed = refl
 
 -- ---- other inputs
 
 -- what an input prints, beside the answers to its lines and what comes at the end
 abbrev pub row : Standing → List ℕ → List Answer → List (List ℕ) → Row
-row x s answers end = words (printedFrom x (inputLines s)) (scheduleOf (map answerForm answers ++ end))
+row x s answers end = words (printed_from x (input_lines s)) (schedule_of (map answer_form answers ++ end))
 
 -- so many tally and network words lent
 abbrev pub lending : ℕ → ℕ → Standing
-lending t w = standingOf unopenedSession (replicate t 0) (replicate w 0)
+lending t w = standing_of unopened_session (replicate t 0) (replicate w 0)
 
 -- those of 6 views and of 16 messages
 abbrev pub small : Standing
@@ -89,18 +89,18 @@ small = lending 24 32
 
 -- "(open 4 2 4 6 mask (c c c c))"
 abbrev pub opens : ℕ → ℕ → List ℕ
-opens faulty c = setupForm (setupOf standard faulty (replicate 4 c))
+opens faulty c = setup_form (setup_of standard faulty (replicate 4 c))
 
 -- a start clock of 3Γ: check 7
-abbrev pub refusedOpens : List ℕ
-refusedOpens = opens 0 12
+abbrev pub refused_opens : List ℕ
+refused_opens = opens 0 12
 
-abbrev pub eventLines : List Event → List (List ℕ)
-eventLines es = map eventForm es
+abbrev pub event_lines : List Event → List (List ℕ)
+event_lines es = map event_form es
 
 -- the lines of these processors, all in one view with one clock
 abbrev pub places : List ℕ → ℕ → ℕ → List (List ℕ)
-places ps view clock = map (λ p. processorForm p view clock) ps
+places ps view clock = map (λ p. processor_form p view clock) ps
 
 abbrev pub four : List ℕ
 four = 0 ∷ 1 ∷ 2 ∷ 3 ∷ []
@@ -112,20 +112,20 @@ inputs =
     ∷ row small (newline ∷ []) (Refused 1 ∷ []) []
     ∷ row small (opens 0 0) (Refused 1 ∷ []) []
     -- before an opening, and after one that is refused: no run, so none at the end
-    ∷ row small (scheduleOf (eventLines (Settle ∷ Tick 1 ∷ Tick 0 ∷ Deliver (View 0 0) ∷ []))) (Refused 9 ∷ Refused 9 ∷ Refused 1 ∷ Refused 9 ∷ []) []
-    ∷ row small (scheduleOf (refusedOpens ∷ eventLines (Tick 1 ∷ Settle ∷ []))) (Refused 7 ∷ Refused 9 ∷ Refused 9 ∷ []) []
+    ∷ row small (schedule_of (event_lines (Settle ∷ Tick 1 ∷ Tick 0 ∷ Deliver (View 0 0) ∷ []))) (Refused 9 ∷ Refused 9 ∷ Refused 1 ∷ Refused 9 ∷ []) []
+    ∷ row small (schedule_of (refused_opens ∷ event_lines (Tick 1 ∷ Settle ∷ []))) (Refused 7 ∷ Refused 9 ∷ Refused 9 ∷ []) []
     -- refused lines, then an opening; what is left after the last newline is not done
-    ∷ row small (scheduleOf (eventForm Settle ∷ refusedOpens ∷ opens 0 0 ∷ eventLines (Tick 0 ∷ [])) ++ eventForm (Tick 1))
+    ∷ row small (schedule_of (event_form Settle ∷ refused_opens ∷ opens 0 0 ∷ event_lines (Tick 0 ∷ [])) ++ event_form (Tick 1))
     (Refused 9 ∷ Refused 7 ∷ Done 0 8 ∷ Refused 1 ∷ Refused 1 ∷ []) (places four 0 0)
     -- an empty line within
-    ∷ row small (scheduleOf (opens 0 0 ∷ [] ∷ eventLines (Tick 1 ∷ []))) (Done 0 8 ∷ Refused 1 ∷ Done 1 8 ∷ []) (places four 0 1)
+    ∷ row small (schedule_of (opens 0 0 ∷ [] ∷ event_lines (Tick 1 ∷ []))) (Done 0 8 ∷ Refused 1 ∷ Done 1 8 ∷ []) (places four 0 1)
     -- a faulty processor is not among those at the end
-    ∷ row small (scheduleOf (opens 4 0 ∷ [])) (Done 0 6 ∷ []) (places (0 ∷ 1 ∷ 3 ∷ []) 0 0)
+    ∷ row small (schedule_of (opens 4 0 ∷ [])) (Done 0 6 ∷ []) (places (0 ∷ 1 ∷ 3 ∷ []) 0 0)
     -- a refused opening leaves the run going, with its messages
-    ∷ row small (scheduleOf (opens 0 0 ∷ eventLines (Deliver (View 0 0) ∷ Tick 2 ∷ []) ++ (refusedOpens ∷ eventLines (Tick 1 ∷ []))))
+    ∷ row small (schedule_of (opens 0 0 ∷ event_lines (Deliver (View 0 0) ∷ Tick 2 ∷ []) ++ (refused_opens ∷ event_lines (Tick 1 ∷ []))))
     (Done 0 8 ∷ Done 0 7 ∷ Done 2 7 ∷ Refused 7 ∷ Done 1 7 ∷ []) (places four 0 3)
     -- an accepted one begins another: unsettled, with other processors and clocks
-    ∷ row small (scheduleOf (opens 0 0 ∷ eventLines (Settle ∷ Tick 2 ∷ []) ++ (opens 8 5 ∷ eventLines (Tick 3 ∷ Settle ∷ []))))
+    ∷ row small (schedule_of (opens 0 0 ∷ event_lines (Settle ∷ Tick 2 ∷ []) ++ (opens 8 5 ∷ event_lines (Tick 3 ∷ Settle ∷ []))))
     (Done 0 8 ∷ Done 0 8 ∷ Done 2 8 ∷ Done 0 6 ∷ Done 3 6 ∷ Done 0 6 ∷ []) (places (0 ∷ 1 ∷ 2 ∷ []) 0 8)
     ∷ []
 
@@ -138,15 +138,15 @@ inputs-hold = refl
 pub refusals : List Row
 refusals =
     -- by 16, after two ticks and after none; by 17; by 18
-    row small (scheduleOf (opens 0 0 ∷ eventLines (Settle ∷ Tick 5 ∷ Tick 5 ∷ []))) (Done 0 8 ∷ Done 0 8 ∷ Stopped 2 8 16 ∷ Stopped 0 8 16 ∷ []) (places four 0 2)
-    ∷ row small (scheduleOf (opens 0 11 ∷ eventLines (Tick 13 ∷ Tick 1 ∷ []))) (Done 0 8 ∷ Stopped 12 16 17 ∷ Stopped 0 16 17 ∷ []) (places four 3 23)
-    ∷ row small (scheduleOf (opens 0 10 ∷ eventLines (Deliver (View 0 0) ∷ Deliver (View 0 1) ∷ Tick 2 ∷ Tick 2 ∷ [])))
+    row small (schedule_of (opens 0 0 ∷ event_lines (Settle ∷ Tick 5 ∷ Tick 5 ∷ []))) (Done 0 8 ∷ Done 0 8 ∷ Stopped 2 8 16 ∷ Stopped 0 8 16 ∷ []) (places four 0 2)
+    ∷ row small (schedule_of (opens 0 11 ∷ event_lines (Tick 13 ∷ Tick 1 ∷ []))) (Done 0 8 ∷ Stopped 12 16 17 ∷ Stopped 0 16 17 ∷ []) (places four 3 23)
+    ∷ row small (schedule_of (opens 0 10 ∷ event_lines (Deliver (View 0 0) ∷ Deliver (View 0 1) ∷ Tick 2 ∷ Tick 2 ∷ [])))
     (Done 0 8 ∷ Done 0 7 ∷ Done 0 10 ∷ Stopped 1 10 18 ∷ Stopped 0 10 18 ∷ []) (places four 0 11)
     -- only ticks are stopped: other events, refused by 15 and 18
-    ∷ row small (scheduleOf (opens 0 0 ∷ eventLines (Settle ∷ Settle ∷ []))) (Done 0 8 ∷ Done 0 8 ∷ Refused 15 ∷ []) (places four 0 0)
-    ∷ row small (scheduleOf (opens 0 11 ∷ eventLines (Tick 1 ∷ Deliver (Vote 0 0) ∷ Deliver (Vote 0 1) ∷ Deliver (Vote 0 2) ∷ [])))
+    ∷ row small (schedule_of (opens 0 0 ∷ event_lines (Settle ∷ Settle ∷ []))) (Done 0 8 ∷ Done 0 8 ∷ Refused 15 ∷ []) (places four 0 0)
+    ∷ row small (schedule_of (opens 0 11 ∷ event_lines (Tick 1 ∷ Deliver (Vote 0 0) ∷ Deliver (Vote 0 1) ∷ Deliver (Vote 0 2) ∷ [])))
     (Done 0 8 ∷ Done 1 16 ∷ Done 0 15 ∷ Done 0 14 ∷ Refused 18 ∷ []) (places four 3 12)
-    ∷ row (lending 24 24) (scheduleOf (opens 8 11 ∷ eventLines (Tick 1 ∷ Deliver (Vote 0 0) ∷ Deliver (Vote 0 1) ∷ Sign (Vote 0 3) ∷ [])))
+    ∷ row (lending 24 24) (schedule_of (opens 8 11 ∷ event_lines (Tick 1 ∷ Deliver (Vote 0 0) ∷ Deliver (Vote 0 1) ∷ Sign (Vote 0 3) ∷ [])))
     (Done 0 6 ∷ Done 1 12 ∷ Done 0 11 ∷ Done 0 10 ∷ Refused 18 ∷ []) (places (0 ∷ 1 ∷ 2 ∷ []) 3 12)
     ∷ []
 
@@ -158,16 +158,16 @@ refusals-hold = refl
 
 pub acceptances : List Row
 acceptances =
-    truth (lineAccepted (Done 0 8)) true
-    ∷ truth (lineAccepted (Done 3 0)) true
+    truth (line_accepted (Done 0 8)) true
+    ∷ truth (line_accepted (Done 3 0)) true
     -- ticks that were stopped, after two, after one, and at the first
-    ∷ truth (lineAccepted (Stopped 2 8 16)) true
-    ∷ truth (lineAccepted (Stopped 1 10 18)) true
-    ∷ truth (lineAccepted (Stopped 0 8 16)) false
-    ∷ truth (lineAccepted (Stopped 0 16 17)) false
-    ∷ truth (lineAccepted (Stopped 0 10 18)) false
-    ∷ truth (lineAccepted (Refused 1)) false
-    ∷ truth (lineAccepted (Refused 16)) false
+    ∷ truth (line_accepted (Stopped 2 8 16)) true
+    ∷ truth (line_accepted (Stopped 1 10 18)) true
+    ∷ truth (line_accepted (Stopped 0 8 16)) false
+    ∷ truth (line_accepted (Stopped 0 16 17)) false
+    ∷ truth (line_accepted (Stopped 0 10 18)) false
+    ∷ truth (line_accepted (Refused 1)) false
+    ∷ truth (line_accepted (Refused 16)) false
     ∷ []
 
 pub acceptances-hold : agreeing 0 acceptances ≡ length acceptances
@@ -177,33 +177,33 @@ acceptances-hold = refl
 -- ---- runs handed in
 
 -- quorum certificate 5, the last, is formed and on its way to processor 0
-abbrev pub lastFormed : State
-lastFormed = handedIn standard 0 5 false 0 1 (replicate 4 5) zeroes (replicate 23 0 ++ (2 ∷ [])) (2752 ∷ 0 ∷ [])
+abbrev pub last_formed : State
+last_formed = handed_in standard 0 5 false 0 1 (replicate 4 5) zeroes (replicate 23 0 ++ (2 ∷ [])) (2752 ∷ 0 ∷ [])
 
 -- one message is said to be held where words of two are
-abbrev pub wordsLeft : State
-wordsLeft = handedIn standard 0 5 false 0 1 (replicate 4 5) zeroes [] (0 ∷ 0 ∷ 1 ∷ 0 ∷ [])
+abbrev pub words_left : State
+words_left = handed_in standard 0 5 false 0 1 (replicate 4 5) zeroes [] (0 ∷ 0 ∷ 1 ∷ 0 ∷ [])
 
-pub handedRuns : List Row
-handedRuns =
+pub handed_runs : List Row
+handed_runs =
     -- certificates, refused by 17; ticks, by another check
-    row (leaving true lastFormed) (scheduleOf (eventLines (Deliver (Qc 5 0) ∷ Show (Qc 5 1) ∷ []))) (Refused 17 ∷ Refused 17 ∷ []) (places four 0 5)
-    ∷ row (leaving true wordsLeft) (scheduleOf (eventLines (Tick 1 ∷ []))) (Refused 9 ∷ []) (places four 0 5)
+    row (leaving true last_formed) (schedule_of (event_lines (Deliver (Qc 5 0) ∷ Show (Qc 5 1) ∷ []))) (Refused 17 ∷ Refused 17 ∷ []) (places four 0 5)
+    ∷ row (leaving true words_left) (schedule_of (event_lines (Tick 1 ∷ []))) (Refused 9 ∷ []) (places four 0 5)
     -- a run that is not open gets no event, no refused opening opens it, and it is not printed
-    ∷ row (leaving false lastFormed) (scheduleOf (eventForm (Tick 1) ∷ refusedOpens ∷ eventLines (Tick 1 ∷ []))) (Refused 9 ∷ Refused 7 ∷ Refused 9 ∷ []) []
-    ∷ row (leaving false lastFormed) (scheduleOf (opens 0 1 ∷ eventLines (Tick 1 ∷ []))) (Done 0 8 ∷ Done 1 8 ∷ []) (places four 0 2)
+    ∷ row (leaving false last_formed) (schedule_of (event_form (Tick 1) ∷ refused_opens ∷ event_lines (Tick 1 ∷ []))) (Refused 9 ∷ Refused 7 ∷ Refused 9 ∷ []) []
+    ∷ row (leaving false last_formed) (schedule_of (opens 0 1 ∷ event_lines (Tick 1 ∷ []))) (Done 0 8 ∷ Done 1 8 ∷ []) (places four 0 2)
     -- a line of more than 4,800 bytes
-    ∷ words (printedFrom (leaving true lastFormed) (ended (replicate 4801 32) ∷ ended (eventForm (Tick 1)) ∷ []))
-    (scheduleOf (map answerForm (Refused 1 ∷ Done 1 1 ∷ []) ++ places four 0 6))
+    ∷ words (printed_from (leaving true last_formed) (ended (replicate 4801 32) ∷ ended (event_form (Tick 1)) ∷ []))
+    (schedule_of (map answer_form (Refused 1 ∷ Done 1 1 ∷ []) ++ places four 0 6))
     ∷ []
 
-pub handedRuns-hold : agreeing 0 handedRuns ≡ length handedRuns
-unfolding handedRuns printing
-handedRuns-hold = refl
+pub handed_runs-hold : agreeing 0 handed_runs ≡ length handed_runs
+unfolding handed_runs printing
+handed_runs-hold = refl
 
 -- n processors, of those below 63 none correct
 abbrev pub highest : ℕ → State
-highest n = state_of (run_of (plan_of n 2 4 6) (2 ^ 63 - 1) 0 false 0 0 (replicate 63 0 ++ (7 ∷ 8 ∷ [])) (replicate 63 0 ++ (1 ∷ 2 ∷ [])) noTraffic) [] []
+highest n = state_of (run_of (plan_of n 2 4 6) (2 ^ 63 - 1) 0 false 0 0 (replicate 63 0 ++ (7 ∷ 8 ∷ [])) (replicate 63 0 ++ (1 ∷ 2 ∷ [])) no_traffic) [] []
 
 -- 64 processors, and as many where there are said to be more
 pub ends : List Row
@@ -215,54 +215,54 @@ ends-hold = refl
 
 -- ---- "lends 3,600 ledger words and 2,048 post words"
 
-pub lentWords : List Row
-lentWords =
+pub lent_words : List Row
+lent_words =
     number (length at_start.state.tally) 3600
     ∷ number (length at_start.state.network) 2048
     -- words for 900 views, not for 903
-    ∷ row at_start (scheduleOf (setupForm (setupOf (plan_of 4 2 4 900) 0 zeroes) ∷ setupForm (setupOf (plan_of 4 2 4 903) 0 zeroes) ∷ []))
+    ∷ row at_start (schedule_of (setup_form (setup_of (plan_of 4 2 4 900) 0 zeroes) ∷ setup_form (setup_of (plan_of 4 2 4 903) 0 zeroes) ∷ []))
     (Done 0 8 ∷ Refused 6 ∷ []) (places four 0 0)
     ∷ []
 
-pub lentWords-hold : agreeing 0 lentWords ≡ length lentWords
-unfolding lentWords printing
-lentWords-hold = refl
+pub lent_words-hold : agreeing 0 lent_words ≡ length lent_words
+unfolding lent_words printing
+lent_words-hold = refl
 
 -- ---- the report of the traffic
 
 -- what is reported behind an input, beside what it is to be
-abbrev pub reportRow : Standing → List ℕ → List ℕ → Row
-reportRow x s text = words (reportText (standingAfter x (inputLines s))) text
+abbrev pub report_row : Standing → List ℕ → List ℕ → Row
+report_row x s text = words (report_text (standing_after x (input_lines s))) text
 
 -- these were sent, these delivered after such waits, and these are held
 abbrev pub report : Counts → Counts → ℕ → Counts → List ℕ
-report sent delivered waits held = trafficText (trafficOf sent delivered waits) held
+report sent delivered waits held = traffic_text (traffic_of sent delivered waits) held
 
 pub reports : List Row
 reports =
     -- "A schedule and its printout"
-    words (trafficPrintout (scheduleOf scheduleLines)) (report (countsOf 4 4 4 0) (countsOf 2 0 0 0) 0 (countsOf 2 4 4 0))
+    words (traffic_printout (schedule_of schedule_lines)) (report (counts_of 4 4 4 0) (counts_of 2 0 0 0) 0 (counts_of 2 4 4 0))
     -- no run is open: nothing; an event and a refused opening; a run handed in that is not
-    ∷ reportRow small [] []
-    ∷ reportRow small (scheduleOf (eventForm (Tick 1) ∷ refusedOpens ∷ [])) []
-    ∷ reportRow (leaving false lastFormed) [] []
+    ∷ report_row small [] []
+    ∷ report_row small (schedule_of (event_form (Tick 1) ∷ refused_opens ∷ [])) []
+    ∷ report_row (leaving false last_formed) [] []
     -- delivered after 2 ticks and after 3
-    ∷ reportRow small (scheduleOf (opens 0 0 ∷ eventLines (Tick 2 ∷ Deliver (View 0 0) ∷ Tick 1 ∷ Deliver (Vote 0 1) ∷ [])))
-    (report (countsOf 4 4 0 0) (countsOf 1 1 0 0) 5 (countsOf 3 3 0 0))
+    ∷ report_row small (schedule_of (opens 0 0 ∷ event_lines (Tick 2 ∷ Deliver (View 0 0) ∷ Tick 1 ∷ Deliver (Vote 0 1) ∷ [])))
+    (report (counts_of 4 4 0 0) (counts_of 1 1 0 0) 5 (counts_of 3 3 0 0))
     -- an accepted opening begins anew, a refused one does not
-    ∷ reportRow small (scheduleOf (opens 0 0 ∷ eventLines (Tick 2 ∷ Deliver (View 0 0) ∷ []) ++ (opens 8 5 ∷ [])))
-    (report (countsOf 3 3 0 0) noCounts 0 (countsOf 3 3 0 0))
-    ∷ reportRow small (scheduleOf (opens 0 0 ∷ eventLines (Tick 2 ∷ Deliver (View 0 0) ∷ []) ++ (refusedOpens ∷ [])))
-    (report (countsOf 4 4 0 0) (countsOf 1 0 0 0) 2 (countsOf 3 4 0 0))
+    ∷ report_row small (schedule_of (opens 0 0 ∷ event_lines (Tick 2 ∷ Deliver (View 0 0) ∷ []) ++ (opens 8 5 ∷ [])))
+    (report (counts_of 3 3 0 0) no_counts 0 (counts_of 3 3 0 0))
+    ∷ report_row small (schedule_of (opens 0 0 ∷ event_lines (Tick 2 ∷ Deliver (View 0 0) ∷ []) ++ (refused_opens ∷ [])))
+    (report (counts_of 4 4 0 0) (counts_of 1 0 0 0) 2 (counts_of 3 4 0 0))
     -- what is left after the last newline is not done
-    ∷ reportRow small (scheduleOf (opens 0 0 ∷ []) ++ eventForm (Deliver (View 0 0))) (report (countsOf 4 4 0 0) noCounts 0 (countsOf 4 4 0 0))
+    ∷ report_row small (schedule_of (opens 0 0 ∷ []) ++ event_form (Deliver (View 0 0))) (report (counts_of 4 4 0 0) no_counts 0 (counts_of 4 4 0 0))
     -- refused lines: not in flight any more, and none of the forms
-    ∷ reportRow small (scheduleOf (opens 0 0 ∷ eventLines (Deliver (View 0 0) ∷ Deliver (View 0 0) ∷ []) ++ ([] ∷ [])))
-    (report (countsOf 4 4 0 0) (countsOf 1 0 0 0) 0 (countsOf 3 4 0 0))
+    ∷ report_row small (schedule_of (opens 0 0 ∷ event_lines (Deliver (View 0 0) ∷ Deliver (View 0 0) ∷ []) ++ ([] ∷ [])))
+    (report (counts_of 4 4 0 0) (counts_of 1 0 0 0) 0 (counts_of 3 4 0 0))
     -- a run handed in that is unsound
-    ∷ reportRow (leaving true wordsLeft) [] (line (answerForm (Refused 9)))
+    ∷ report_row (leaving true words_left) [] (line (answer_form (Refused 9)))
     ∷ []
 
 pub reports-hold : agreeing 0 reports ≡ length reports
-unfolding reports scheduleLines printing
+unfolding reports schedule_lines printing
 reports-hold = refl

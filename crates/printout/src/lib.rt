@@ -1,6 +1,6 @@
 // The types of the state of the simulate program and of the traffic program.
 ghost use Rattle.std.specs.Prelude.{◌≡◌};
-ghost use Rattle.printout.specs.Printout.{unopenedSession};
+ghost use Rattle.printout.specs.Printout.{unopened_session};
 
 use types::{Plan, Run, Traffic};
 
@@ -19,7 +19,7 @@ pub struct Session {
 impl Session {
     // Before the first opening.
     pub fn unopened() -> Session
-        ensures { result ≡ unopenedSession }
+        ensures { result ≡ unopened_session }
     {
         Session {
             opened: false,

@@ -8,7 +8,7 @@ use Rattle.protocol.specs.Base.{Base}
 use Rattle.protocol.specs.Quorum.{exists-entered, entered-clock}
 use Rattle.protocol.specs.Timed.{Target, Timed}
 use Rattle.protocol.specs.Target.{max-clock, target}
-use Rattle.protocol.specs.Runs.{st, Steps, ticksIn, steps-kept}
+use Rattle.protocol.specs.Runs.{st, Steps, ticks_in, steps-kept}
 use Rattle.protocol.specs.RunKeeps.{steps-holds, steps-on-time}
 
 module _ {π : Params} {P : Processors} {L : Tally} {F : Flight} {now S : ℕ} {b : Bool} (i : Base π P L F now S b) where
@@ -20,17 +20,17 @@ module _ {π : Params} {P : Processors} {L : Tally} {F : Flight} {now S : ℕ} {
     tally = i.tally;
     flight = i.flight;
     times = record {
-      signature-past = i.times.signature-past;
-      certificate-past = i.times.certificate-past;
+      signature_past = i.times.signature_past;
+      certificate_past = i.times.certificate_past;
       settled = λ z. omega arith;
-      signature-due = λ z d w p s x. omega arith;
-      certificate-due = λ z d w p s x. omega arith;
+      signature_due = λ z d w p s x. omega arith;
+      certificate_due = λ z d w p s x. omega arith;
     };
   }
 
   module _ {M star v : ℕ} (g : Target π M star v) (at-M : P.clock star ≡ M) (most : (r : ℕ) → T (correct r) → P.clock r ≤ M) (above : M < v * gamma) where
     nobody : (p : ℕ) → T (P.entered v p) → ⊥
-    nobody p e = omega (arith, entered-clock i.processors v p e, most p (i.processors.entered-correct v p e))
+    nobody p e = omega (arith, entered-clock i.processors v p e, most p (i.processors.entered_correct v p e))
 
     unformed : (q : Bool) → T (L.formed q v) → ⊥
     unformed q x = let r = exists-entered i.tally q v (inl (g.led, x)) in nobody r.0 r.1
@@ -39,17 +39,17 @@ module _ {π : Params} {P : Processors} {L : Tally} {F : Flight} {now S : ℕ} {
     settle-timed : Timed π P L F now now M star v
     settle-timed = record {
       waiting = λ nq. record {
-        star-on = omega arith;
-        not-ahead = λ r c. omega (arith, most r c);
-        not-past = below;
-        view-message-age = λ p s x. absurd (nobody p (i.flight.signed false v p s x).0);
-        certified-by = λ r c l. absurd (omega (arith, most r c));
-        certificate-age = λ p s x. absurd (unformed false (i.flight.backed false v p s x).0);
-        all-in-by = λ r c l. absurd (omega (arith, most r c));
-        vote-age = λ p s x. absurd (nobody p (i.flight.signed true v p s x).0);
+        star_on = omega arith;
+        not_ahead = λ r c. omega (arith, most r c);
+        not_past = below;
+        view_message_age = λ p s x. absurd (nobody p (i.flight.signed false v p s x).0);
+        certified_by = λ r c l. absurd (omega (arith, most r c));
+        certificate_age = λ p s x. absurd (unformed false (i.flight.backed false v p s x).0);
+        all_in_by = λ r c l. absurd (omega (arith, most r c));
+        vote_age = λ p s x. absurd (nobody p (i.flight.signed true v p s x).0);
         not_late = λ r c. omega (arith, most r c);
       };
-      quorum-sent-by = λ p s x. absurd (unformed true (i.flight.backed true v p s x).0);
+      quorum_sent_by = λ p s x. absurd (unformed true (i.flight.backed true v p s x).0);
     }
       where
         below : (r : ℕ) → T (correct r) → P.view r ≤ v
@@ -72,7 +72,7 @@ module _ {π : Params} {P : Processors} {L : Tally} {F : Flight} {now S : ℕ} {
   open π use {k, f, gamma, delta, correct}
 
   module _ {P' : Processors} {L' : Tally} {F' : Flight} {now' S' : ℕ} {b' : Bool}
-      (r : Steps π (st P L F now now true) (st P' L' F' now' S' b')) (far : k * (f + 1) * gamma + gamma + 4 * delta < ticksIn π r) where
+      (r : Steps π (st P L F now now true) (st P' L' F' now' S' b')) (far : k * (f + 1) * gamma + gamma + 4 * delta < ticks_in π r) where
     -- more than k(f + 1)Γ + Γ + 4Δ ticks after settling
     pub reached : Reached π L P' L'
     reached = go (max-clock π P.clock)
@@ -80,23 +80,23 @@ module _ {π : Params} {P : Processors} {L : Tally} {F : Flight} {now S : ℕ} {
         i' : Base π P' L' F' now' S' b'
         i' = steps-holds π r (settle-holds i)
 
-        when : (now' ≡ now + ticksIn π r) × (S' ≡ now)
+        when : (now' ≡ now + ticks_in π r) × (S' ≡ now)
         when = steps-kept π r
 
         finish : (M star v : ℕ) → Target π M star v → (T (L.formed true v) → ⊥) → T b' × Timed π P' L' F' now' S' M star v → Reached π L P' L'
-        finish M star v g unformed-then c = record { v = v; led = g.led; formed = formed-now; since = unformed-then; later = past }
+        finish M star v g unformed-then c = record { v = v; led = g.led; formed = formed_now; since = unformed-then; later = past }
           where
-            formed-now : T (L'.formed true v)
-            formed-now =
+            formed_now : T (L'.formed true v)
+            formed_now =
                 ⊎_elim (λ x. x)
-                (λ nq. absurd (let a = c.1.waiting nq in omega (arith, a.star-on, a.not_late star g.star-correct, g.close, when.0, when.1)))
+                (λ nq. absurd (let a = c.1.waiting nq in omega (arith, a.star_on, a.not_late star g.star_correct, g.close, when.0, when.1)))
                 (passes? (L'.formed true v))
 
             past : (p : ℕ) → T (correct p) → v < P'.view p
             past p x =
                 ⊎_elim (λ (y : v + 1 ≤ P'.view p). omega arith)
-                (λ y. absurd (omega (arith, c.1.quorum-sent-by p y.0 y.1, i'.times.certificate-due c.0 true v p y.0 y.1, when.0, when.1)))
-                (i'.flight.certificate-due true v p formed-now x)
+                (λ y. absurd (omega (arith, c.1.quorum_sent_by p y.0 y.1, i'.times.certificate_due c.0 true v p y.0 y.1, when.0, when.1)))
+                (i'.flight.certificate_due true v p formed_now x)
 
         go : (p : ℕ) × T (correct p) × ((x : ℕ) → T (correct x) → P.clock x ≤ P.clock p) → Reached π L P' L'
         go (star, c, most) =

@@ -16,12 +16,12 @@ module _ {π : Params} {P : Processors} {L L' : Tally} {F F' : Flight} {now S : 
 
   -- more are heard
   heard-more : (d : Bool) (w : ℕ) → count n (L.heard d w) ≤ count n (L'.heard d w)
-  heard-more d w = count-mono n (L.heard d w) (L'.heard d w) (λ r l x. h.heard-old d w r x)
+  heard-more d w = count-mono n (L.heard d w) (L'.heard d w) (λ r l x. h.heard_old d w r x)
 
   -- but at no other stage or view
   heard-else : (d : Bool) (w : ℕ) → ((d ≡ q) × (w ≡ v) → ⊥) → count n (L'.heard d w) ≤ count n (L.heard d w)
   heard-else d w other =
-      count-mono n (L'.heard d w) (L.heard d w) (λ r l x. ⊎_elim (λ y. y) (λ e. absurd (other (e.0, e.1))) (h.heard-new d w r x))
+      count-mono n (L'.heard d w) (L.heard d w) (λ r l x. ⊎_elim (λ y. y) (λ e. absurd (other (e.0, e.1))) (h.heard_new d w r x))
 
   -- the signer, if correct, entered
   signer : T (correct p) → T (P.entered v p)
@@ -29,12 +29,12 @@ module _ {π : Params} {P : Processors} {L L' : Tally} {F F' : Flight} {now S : 
 
   pub hear-tally : BaseTally π P L'
   hear-tally = record {
-    heard-entered = λ d w r x c. ⊎_elim (λ y. i.tally.heard-entered d w r y c) (λ e. rw (e.1, e.2) (signer (rw e.2 at c))) (h.heard-new d w r x);
-    formed-led = λ d w x. ⊎_elim (λ y. i.tally.formed-led d w y) (λ e. rw e.1 h.led) (h.formed-new d w x);
-    formed-enough = λ d w x.
-        ⊎_elim (λ y. enough-mono π d (count n (L.heard d w)) (count n (L'.heard d w)) (heard-more d w) (i.tally.formed-enough d w y))
-        (λ e. rw (e.0, e.1) e.2) (h.formed-new d w x);
-    formed-when = when;
+    heard_entered = λ d w r x c. ⊎_elim (λ y. i.tally.heard_entered d w r y c) (λ e. rw (e.1, e.2) (signer (rw e.2 at c))) (h.heard_new d w r x);
+    formed_led = λ d w x. ⊎_elim (λ y. i.tally.formed_led d w y) (λ e. rw e.1 h.led) (h.formed_new d w x);
+    formed_enough = λ d w x.
+        ⊎_elim (λ y. enough-mono π d (count n (L.heard d w)) (count n (L'.heard d w)) (heard-more d w) (i.tally.formed_enough d w y))
+        (λ e. rw (e.0, e.1) e.2) (h.formed_new d w x);
+    formed_when = when;
   }
     where
       when : (d : Bool) (w : ℕ) → T (correct (lead π w)) → Starts π d w → Enough π d (count n (L'.heard d w)) → Allowed π P d w → T (L'.formed d w)
@@ -42,39 +42,39 @@ module _ {π : Params} {P : Processors} {L L' : Tally} {F F' : Flight} {now S : 
         where
           other : ((d ≡ q) × (w ≡ v) → ⊥) → T (L'.formed d w)
           other elsewhere =
-              h.formed-old d w
-              (i.tally.formed-when d w l st (enough-mono π d (count n (L'.heard d w)) (count n (L.heard d w)) (heard-else d w elsewhere) m) a)
+              h.formed_old d w
+              (i.tally.formed_when d w l st (enough-mono π d (count n (L'.heard d w)) (count n (L.heard d w)) (heard-else d w elsewhere) m) a)
 
           by_place : Dec (d ≡ q) → (w ≡ v) ⊎ (w ≢ v) → T (L'.formed d w)
-          by_place (yes e) (inl g) = rw (e, g) (h.formed-now (rw (e, g) at m) (rw (e, g) at a))
+          by_place (yes e) (inl g) = rw (e, g) (h.formed_now (rw (e, g) at m) (rw (e, g) at a))
           by_place (yes e) (inr ne) = other (λ x. ne x.1)
           by_place (no ne) g = other (λ x. ne x.0)
 
   pub hear-flight : BaseFlight π P L' F'
   hear-flight = record {
-    signed = λ d w r s x. i.flight.signed d w r s (h.signature-new d w r s x);
+    signed = λ d w r s x. i.flight.signed d w r s (h.signature_new d w r s x);
     backed = λ d w r s x. ⊎_elim
-        (λ y. let old = i.flight.backed d w r s y in (h.formed-old d w old.0, old.1))
-        (λ e. (rw (e.0, e.1) e.5, e.3)) (h.certificate-new d w r s x);
-    certificate-due = due;
-    signature-due = λ d w r l st x. ⊎_elim (λ y. inl (h.heard-old d w r y))
-        (λ y. ⊎_elim (λ z. inr (y.0, z)) (λ e. inl (rw (e.0, e.1, e.2) h.heard-now)) (h.signature-old d w r y.0 y.1))
-        (i.flight.signature-due d w r l st x);
+        (λ y. let old = i.flight.backed d w r s y in (h.formed_old d w old.0, old.1))
+        (λ e. (rw (e.0, e.1) e.5, e.3)) (h.certificate_new d w r s x);
+    certificate_due = due;
+    signature_due = λ d w r l st x. ⊎_elim (λ y. inl (h.heard_old d w r y))
+        (λ y. ⊎_elim (λ z. inr (y.0, z)) (λ e. inl (rw (e.0, e.1, e.2) h.heard_now)) (h.signature_old d w r y.0 y.1))
+        (i.flight.signature_due d w r l st x);
   }
     where
       due : (d : Bool) (w r : ℕ) → T (L'.formed d w) → T (correct r) → (onward d w ≤ P.view r) ⊎ ((s : ℕ) × F'.certificate d w r s)
       due d w r x c = ⊎_elim old new (passes? (L.formed d w))
         where
           old : T (L.formed d w) → (onward d w ≤ P.view r) ⊎ ((s : ℕ) × F'.certificate d w r s)
-          old y = ⊎_elim (λ z. inl z) (λ z. inr (z.0, h.certificate-old d w r z.0 z.1)) (i.flight.certificate-due d w r y c)
+          old y = ⊎_elim (λ z. inl z) (λ z. inr (z.0, h.certificate_old d w r z.0 z.1)) (i.flight.certificate_due d w r y c)
 
           new : (T (L.formed d w) → ⊥) → (onward d w ≤ P.view r) ⊎ ((s : ℕ) × F'.certificate d w r s)
           new ny = ⊎_elim (λ y. absurd (ny y))
-              (λ e. inr (now, rw (e.0, e.1) (h.sent (rw (e.0, e.1) at ny) (rw (e.0, e.1) at x) r c))) (h.formed-new d w x)
+              (λ e. inr (now, rw (e.0, e.1) (h.sent (rw (e.0, e.1) at ny) (rw (e.0, e.1) at x) r c))) (h.formed_new d w x)
 
   pub hear-times : BaseTimes π F' now S b
-  hear-times = times-kept i.times (λ d w r s x. inl (h.signature-new d w r s x))
-      (λ d w r s x. ⊎_elim (λ y. inl y) (λ e. inr e.2) (h.certificate-new d w r s x))
+  hear-times = times-kept i.times (λ d w r s x. inl (h.signature_new d w r s x))
+      (λ d w r s x. ⊎_elim (λ y. inl y) (λ e. inr e.2) (h.certificate_new d w r s x))
 
   pub hear-keeps : Base π P L' F' now S b
   hear-keeps = record { processors = i.processors; tally = hear-tally; flight = hear-flight; times = hear-times }

@@ -11,26 +11,26 @@ pub record Hear (π : Params) (P : Processors) (L L' : Tally) (F F' : Flight) (n
   -- the signer is faulty, or its signature was in flight
   pub from : (T (π.correct p) → ⊥) ⊎ ((s : ℕ) × F.signature q v p s)
   -- who was heard stays heard
-  pub heard-old : (d : Bool) (w r : ℕ) → T (L.heard d w r) → T (L'.heard d w r)
+  pub heard_old : (d : Bool) (w r : ℕ) → T (L.heard d w r) → T (L'.heard d w r)
   -- nobody but p is heard anew
-  pub heard-new : (d : Bool) (w r : ℕ) → T (L'.heard d w r) → T (L.heard d w r) ⊎ ((d ≡ q) × (w ≡ v) × (r ≡ p))
+  pub heard_new : (d : Bool) (w r : ℕ) → T (L'.heard d w r) → T (L.heard d w r) ⊎ ((d ≡ q) × (w ≡ v) × (r ≡ p))
   -- p is heard
-  pub heard-now : T (L'.heard q v p)
+  pub heard_now : T (L'.heard q v p)
   -- what was formed stays formed
-  pub formed-old : (d : Bool) (w : ℕ) → T (L.formed d w) → T (L'.formed d w)
+  pub formed_old : (d : Bool) (w : ℕ) → T (L.formed d w) → T (L'.formed d w)
   -- nothing is formed anew but this certificate, and only with enough signers
-  pub formed-new : (d : Bool) (w : ℕ) → T (L'.formed d w)
+  pub formed_new : (d : Bool) (w : ℕ) → T (L'.formed d w)
       → T (L.formed d w) ⊎ ((d ≡ q) × (w ≡ v) × Enough π q (count π.n (L'.heard q v)))
   -- with enough signers it is formed, if the leader may
-  pub formed-now : Enough π q (count π.n (L'.heard q v)) → Allowed π P q v → T (L'.formed q v)
+  pub formed_now : Enough π q (count π.n (L'.heard q v)) → Allowed π P q v → T (L'.formed q v)
   -- no signature but this one leaves the flight
-  pub signature-old : (d : Bool) (w r s : ℕ) → F.signature d w r s → F'.signature d w r s ⊎ ((d ≡ q) × (w ≡ v) × (r ≡ p))
+  pub signature_old : (d : Bool) (w r s : ℕ) → F.signature d w r s → F'.signature d w r s ⊎ ((d ≡ q) × (w ≡ v) × (r ≡ p))
   -- no signature is sent
-  pub signature-new : (d : Bool) (w r s : ℕ) → F'.signature d w r s → F.signature d w r s
+  pub signature_new : (d : Bool) (w r s : ℕ) → F'.signature d w r s → F.signature d w r s
   -- no certificate leaves the flight
-  pub certificate-old : (d : Bool) (w r s : ℕ) → F.certificate d w r s → F'.certificate d w r s
+  pub certificate_old : (d : Bool) (w r s : ℕ) → F.certificate d w r s → F'.certificate d w r s
   -- no certificate is sent but this one, now, to a correct processor, if it was formed now
-  pub certificate-new : (d : Bool) (w r s : ℕ) → F'.certificate d w r s
+  pub certificate_new : (d : Bool) (w r s : ℕ) → F'.certificate d w r s
       → F.certificate d w r s ⊎ ((d ≡ q) × (w ≡ v) × (s ≡ now) × T (π.correct r) × (T (L.formed q v) → ⊥) × T (L'.formed q v))
   -- if it was formed now it is sent to every correct processor
   pub sent : (T (L.formed q v) → ⊥) → T (L'.formed q v) → (r : ℕ) → T (π.correct r) → F'.certificate q v r now
@@ -43,45 +43,45 @@ pub data Reason (π : Params) (P : Processors) (L : Tally) (p w : ℕ) : Type 0 
 -- The correct processor p enters w; certificates for it that lead no further may leave the flight.
 pub record Enter (π : Params) (P P' : Processors) (L : Tally) (F F' : Flight) (now p w : ℕ) : Type 0 where
   -- p is correct
-  pub is-correct : T (π.correct p)
+  pub for_a_correct : T (π.correct p)
   -- it has a reason to enter
   pub why : Reason π P L p w
   -- it is then in w
-  pub view-to : P'.view p ≡ w
+  pub view_to : P'.view p ≡ w
   -- its clock is moved up to w's time, and never back
-  pub clock-to : P'.clock p ≡ max (P.clock p) (w * π.gamma)
+  pub clock_to : P'.clock p ≡ max (P.clock p) (w * π.gamma)
   -- the others stay in their views
-  pub view-else : (r : ℕ) → r ≢ p → P'.view r ≡ P.view r
+  pub view_else : (r : ℕ) → r ≢ p → P'.view r ≡ P.view r
   -- and keep their clocks
-  pub clock-else : (r : ℕ) → r ≢ p → P'.clock r ≡ P.clock r
+  pub clock_else : (r : ℕ) → r ≢ p → P'.clock r ≡ P.clock r
   -- p is noted as having entered w
-  pub entered-to : T (P'.entered w p)
+  pub entered_to : T (P'.entered w p)
   -- who entered stays noted
-  pub entered-old : (u r : ℕ) → T (P.entered u r) → T (P'.entered u r)
+  pub entered_old : (u r : ℕ) → T (P.entered u r) → T (P'.entered u r)
   -- nothing else is noted
-  pub entered-new : (u r : ℕ) → T (P'.entered u r) → T (P.entered u r) ⊎ ((u ≡ w) × (r ≡ p))
+  pub entered_new : (u r : ℕ) → T (P'.entered u r) → T (P.entered u r) ⊎ ((u ≡ w) × (r ≡ p))
   -- p signs in each stage that takes place at w, if the leader is correct
   pub sent : (d : Bool) → T (π.correct (lead π w)) → Starts π d w → F'.signature d w p now
   -- no signature leaves the flight
-  pub signature-old : (d : Bool) (u r s : ℕ) → F.signature d u r s → F'.signature d u r s
+  pub signature_old : (d : Bool) (u r s : ℕ) → F.signature d u r s → F'.signature d u r s
   -- no other signature is sent
-  pub signature-new : (d : Bool) (u r s : ℕ) → F'.signature d u r s
+  pub signature_new : (d : Bool) (u r s : ℕ) → F'.signature d u r s
       → F.signature d u r s ⊎ ((u ≡ w) × (r ≡ p) × (s ≡ now) × T (π.correct (lead π w)) × Starts π d w)
   -- a certificate that leaves the flight is one for p that leads no further than w
-  pub certificate-old : (d : Bool) (u r s : ℕ) → F.certificate d u r s → F'.certificate d u r s ⊎ ((r ≡ p) × (onward d u ≤ w))
+  pub certificate_old : (d : Bool) (u r s : ℕ) → F.certificate d u r s → F'.certificate d u r s ⊎ ((r ≡ p) × (onward d u ≤ w))
   -- no certificate is sent
-  pub certificate-new : (d : Bool) (u r s : ℕ) → F'.certificate d u r s → F.certificate d u r s
+  pub certificate_new : (d : Bool) (u r s : ℕ) → F'.certificate d u r s → F.certificate d u r s
 
 -- Certificates leave the flight at processors that are past them.
 pub record Pass (P : Processors) (F F' : Flight) : Type 0 where
   -- no signature leaves the flight
-  pub signature-old : (d : Bool) (u r s : ℕ) → F.signature d u r s → F'.signature d u r s
+  pub signature_old : (d : Bool) (u r s : ℕ) → F.signature d u r s → F'.signature d u r s
   -- no signature is sent
-  pub signature-new : (d : Bool) (u r s : ℕ) → F'.signature d u r s → F.signature d u r s
+  pub signature_new : (d : Bool) (u r s : ℕ) → F'.signature d u r s → F.signature d u r s
   -- a certificate that leaves the flight leads its receiver no further
-  pub certificate-old : (d : Bool) (u r s : ℕ) → F.certificate d u r s → F'.certificate d u r s ⊎ (onward d u ≤ P.view r)
+  pub certificate_old : (d : Bool) (u r s : ℕ) → F.certificate d u r s → F'.certificate d u r s ⊎ (onward d u ≤ P.view r)
   -- no certificate is sent
-  pub certificate-new : (d : Bool) (u r s : ℕ) → F'.certificate d u r s → F.certificate d u r s
+  pub certificate_new : (d : Bool) (u r s : ℕ) → F'.certificate d u r s → F.certificate d u r s
 
 -- the processors with other clocks
 abbrev pub clocked : Processors → (ℕ → ℕ) → Processors
@@ -92,8 +92,8 @@ pub record Tick (π : Params) (P : Processors) (c : ℕ → ℕ) (F : Flight) (n
   -- no clock stands at an initial view that is not entered yet
   pub ready : (p : ℕ) → T (π.correct p) → P.clock p < next π (P.view p) * π.gamma
   -- once the network has settled, no signature in flight becomes overdue
-  pub signature-timely : T b → (d : Bool) (w p s : ℕ) → F.signature d w p s → now < max s S + π.delta
+  pub signature_timely : T b → (d : Bool) (w p s : ℕ) → F.signature d w p s → now < max s S + π.delta
   -- nor does a certificate
-  pub certificate-timely : T b → (d : Bool) (w p s : ℕ) → F.certificate d w p s → now < max s S + π.delta
+  pub certificate_timely : T b → (d : Bool) (w p s : ℕ) → F.certificate d w p s → now < max s S + π.delta
   -- every correct clock advances by one
-  pub clock-up : (p : ℕ) → T (π.correct p) → c p ≡ P.clock p + 1
+  pub clock_up : (p : ℕ) → T (π.correct p) → c p ≡ P.clock p + 1

@@ -21,24 +21,24 @@ pub record Params : Type 0 where
   -- which processors are correct
   pub correct : ℕ → Bool
   -- only processors are correct
-  pub correct-below : (p : ℕ) → T (correct p) → p < n
+  pub correct_below : (p : ℕ) → T (correct p) → p < n
   -- the faulty and the correct ones are all
-  pub correct-count : f + count n correct ≡ n
+  pub correct_count : f + count n correct ≡ n
   -- no more are faulty than are tolerated
-  pub few-faulty : f ≤ t
+  pub few_faulty : f ≤ t
   -- more than two thirds of the processors are correct
   pub enough : 3 * t + 1 ≤ n
   -- a message may take some time
-  pub delta-positive : 0 < delta
+  pub delta_positive : 0 < delta
   -- each leader has a view
-  pub k-positive : 0 < k
+  pub k_positive : 0 < k
   -- a view takes some time
-  pub gamma-positive : 0 < gamma
+  pub gamma_positive : 0 < gamma
   -- three delays fit into the views of a leader but one: 3Δ < (k − 1)Γ, the one condition on the plan
   pub roomy : 3 * delta + gamma < k * gamma
 
 module _ (π : Params) where
-  open π use {n, k, k-positive}
+  open π use {n, k, k_positive}
 
   -- the row of views with one leader in which a view lies
   unfoldable pub row : ℕ → ℕ
@@ -73,7 +73,7 @@ module _ (π : Params) where
   -- it is above
   pub next-above : (w : ℕ) → w < next w
   unfolding next
-  next-above w = omega (arith, div-add-mod' w k, mod-lt w k-positive)
+  next-above w = omega (arith, div-add-mod' w k, mod-lt w k_positive)
 
   -- no initial view lies between
   pub next-least : (w u : ℕ) → Initial u → w < u → next w ≤ u
@@ -101,4 +101,4 @@ module _ (π : Params) where
     where
       go : (row w ≤ row u) ⊎ (row u < row w) → next w ≤ next u
       go (inl l) = omega (arith, mul-le-mul_right k l)
-      go (inr l) = omega (arith, mul-le-mul_right k l, row-le w, div-add-mod' u k, mod-lt u k-positive)
+      go (inr l) = omega (arith, mul-le-mul_right k l, row-le w, div-add-mod' u k, mod-lt u k_positive)

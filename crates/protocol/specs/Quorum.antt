@@ -8,7 +8,7 @@ use Rattle.protocol.specs.State.{Processors, Tally, nearby, Enough, Allowed, Exi
 use Rattle.protocol.specs.Base.{BaseProcessors, BaseTally}
 
 module _ (π : Params) where
-  open π use {n, t, gamma, correct, correct-count, few-faulty, enough}
+  open π use {n, t, gamma, correct, correct_count, few_faulty, enough}
 
   -- more signers are enough too
   pub enough-mono : (q : Bool) (x y : ℕ) → x ≤ y → Enough π q x → Enough π q y
@@ -23,16 +23,16 @@ module _ (π : Params) where
   -- more than t signers: one is correct
   pub some-correct : (A : ℕ → Bool) → t < count n A → (p : ℕ) × T (A p) × T (correct p)
   some-correct A h =
-      let r = count-some n (λ p. A p && correct p) (omega (arith, count-meet n A correct, correct-count, few-faulty)) in
+      let r = count-some n (λ p. A p && correct p) (omega (arith, count-meet n A correct, correct_count, few_faulty)) in
       (r.0, T-left (A r.0) (correct r.0) r.2, T-right (A r.0) (correct r.0) r.2)
 
   -- n − t signers: more than t are correct
   pub many-correct : (A : ℕ → Bool) → Enough π true (count n A) → t < count n (λ p. A p && correct p)
-  many-correct A h = omega (arith, count-meet n A correct, correct-count, few-faulty, enough)
+  many-correct A h = omega (arith, count-meet n A correct, correct_count, few_faulty, enough)
 
   -- all correct ones make a quorum
   pub all-correct : (A : ℕ → Bool) → ((p : ℕ) → T (correct p) → T (A p)) → Enough π true (count n A)
-  all-correct A h = omega (arith, count-mono n correct A (λ p l. h p), correct-count, few-faulty)
+  all-correct A h = omega (arith, count-mono n correct A (λ p l. h p), correct_count, few_faulty)
 
   -- clocks that stay near are as many
   pub near-mono : (P P' : Processors) (x y : ℕ) → ((r : ℕ) → T (correct r) → x ≤ P.clock r + gamma → y ≤ P'.clock r + gamma)
@@ -50,32 +50,32 @@ module _ (π : Params) where
   allowed-before P P' true w l a = tt
 
 module _ {π : Params} {P : Processors} {L : Tally} (i : BaseTally π P L) where
-  open π use {n, t, f, correct, few-faulty, enough}
+  open π use {n, t, f, correct, few_faulty, enough}
 
   -- a certificate that exists for w means that some processor entered w
   pub exists-entered : (q : Bool) (w : ℕ) → Exists π P L q w → (p : ℕ) × T (P.entered w p)
   exists-entered q w (inl h) =
-      let r = some-correct π (L.heard q w) (enough-above π q (count n (L.heard q w)) (i.formed-enough q w h.1)) in
-      (r.0, i.heard-entered q w r.0 r.1 r.2)
+      let r = some-correct π (L.heard q w) (enough-above π q (count n (L.heard q w)) (i.formed_enough q w h.1)) in
+      (r.0, i.heard_entered q w r.0 r.1 r.2)
   exists-entered q w (inr h) =
-      let r = count-some n (P.entered w) (omega (arith, enough-above π q (f + count n (P.entered w)) h.1, few-faulty)) in
+      let r = count-some n (P.entered w) (omega (arith, enough-above π q (f + count n (P.entered w)) h.1, few_faulty)) in
       (r.0, r.2)
 
   -- a quorum certificate that exists for w means that more than t entered w
   pub quorum-count : (w : ℕ) → Exists π P L true w → t < count n (P.entered w)
   quorum-count w (inl h) =
-      omega (arith, many-correct π (L.heard true w) (i.formed-enough true w h.1), count-mono n (λ p. L.heard true w p && correct p) (P.entered w) each)
+      omega (arith, many-correct π (L.heard true w) (i.formed_enough true w h.1), count-mono n (λ p. L.heard true w p && correct p) (P.entered w) each)
     where
       each : (p : ℕ) → p < n → T (L.heard true w p && correct p) → T (P.entered w p)
-      each p l x = i.heard-entered true w p (T-left (L.heard true w p) (correct p) x) (T-right (L.heard true w p) (correct p) x)
-  quorum-count w (inr h) = omega (arith, h.1, few-faulty, enough)
+      each p l x = i.heard_entered true w p (T-left (L.heard true w p) (correct p) x) (T-right (L.heard true w p) (correct p) x)
+  quorum-count w (inr h) = omega (arith, h.1, few_faulty, enough)
 
 module _ {π : Params} {P : Processors} (i : BaseProcessors π P) where
   open π use {gamma}
 
   -- who entered w has a clock of at least w's time
   pub entered-clock : (w p : ℕ) → T (P.entered w p) → w * gamma ≤ P.clock p
-  entered-clock w p e = omega (arith, i.low p (i.entered-correct w p e), mul-le-mul_right gamma (i.entered-le w p e))
+  entered-clock w p e = omega (arith, i.low p (i.entered_correct w p e), mul-le-mul_right gamma (i.entered_le w p e))
 
 -- a clock that has reached an initial view's time, and waits at no view that is not entered: the view is reached
 pub clock-reached : (π : Params) (P : Processors) (p w : ℕ) → Initial π w

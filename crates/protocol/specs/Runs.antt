@@ -4,7 +4,7 @@ use Rattle.std.proofs.Common.{◌∙◌, arith}
 use Rattle.protocol.specs.Params.{Params}
 use Rattle.protocol.specs.State.{Processors, Tally, Flight}
 use Rattle.protocol.specs.Moves.{Hear, Enter, Pass, Tick, clocked}
-use Rattle.protocol.specs.EnterKeeps.{view-up, clock-up}
+use Rattle.protocol.specs.EnterKeeps.{view_up, clock_up}
 
 -- processors, tally, flight, time, settling time, settled
 pub data St : Type 1 where
@@ -29,8 +29,8 @@ pub steps-trans : {π : Params} {s s' s'' : St} → Steps π s s' → Steps π s
 steps-trans r none = r
 steps-trans r (more r' x) = more (steps-trans r r') x
 
-abbrev pub time-of : St → ℕ
-time-of (st P L F now S b) = now
+abbrev pub time_told : St → ℕ
+time_told (st P L F now S b) = now
 
 abbrev pub settling-of : St → ℕ
 settling-of (st P L F now S b) = S
@@ -52,25 +52,25 @@ step-ticks π (passes h) = 0
 step-ticks π (ticks-on c h) = 1
 
 -- the ticks of a run
-unfoldable pub ticksIn : (π : Params) {s s' : St} → Steps π s s' → ℕ
-ticksIn π none = 0
-ticksIn π (more r x) = ticksIn π r + step-ticks π x
+unfoldable pub ticks_in : (π : Params) {s s' : St} → Steps π s s' → ℕ
+ticks_in π none = 0
+ticks_in π (more r x) = ticks_in π r + step-ticks π x
 
-pub ticks-trans : (π : Params) {s s' s'' : St} (r : Steps π s s') (r' : Steps π s' s'') → ticksIn π (steps-trans r r') ≡ ticksIn π r + ticksIn π r'
-unfolding ticksIn steps-trans
+pub ticks-trans : (π : Params) {s s' s'' : St} (r : Steps π s s') (r' : Steps π s' s'') → ticks_in π (steps-trans r r') ≡ ticks_in π r + ticks_in π r'
+unfolding ticks_in steps-trans
 ticks-trans π r none = omega arith
 ticks-trans π r (more r' x) = omega (arith, ticks-trans π r r')
 
 -- a tick takes one unit of time, nothing else takes any, and the settling time stays
-step_kept : (π : Params) {s s' : St} (x : Step π s s') → (time-of s' ≡ time-of s + step-ticks π x) × (settling-of s' ≡ settling-of s)
+step_kept : (π : Params) {s s' : St} (x : Step π s s') → (time_told s' ≡ time_told s + step-ticks π x) × (settling-of s' ≡ settling-of s)
 unfolding step-ticks
 step_kept π (hears q v p h) = (omega arith, refl)
 step_kept π (enters p w h) = (omega arith, refl)
 step_kept π (passes h) = (omega arith, refl)
 step_kept π (ticks-on c h) = (omega arith, refl)
 
-pub steps-kept : (π : Params) {s s' : St} (r : Steps π s s') → (time-of s' ≡ time-of s + ticksIn π r) × (settling-of s' ≡ settling-of s)
-unfolding ticksIn
+pub steps-kept : (π : Params) {s s' : St} (r : Steps π s s') → (time_told s' ≡ time_told s + ticks_in π r) × (settling-of s' ≡ settling-of s)
+unfolding ticks_in
 steps-kept π none = (omega arith, refl)
 steps-kept π (more r x) = let y = step_kept π x in let z = steps-kept π r in (omega arith, y.1 ∙ z.1)
 
@@ -88,7 +88,7 @@ steps-flag π (more r x) = step-flag π x ∙ steps-flag π r
 -- no correct processor goes back to an earlier view
 step-view-up : (π : Params) {s s' : St} → Step π s s' → (p : ℕ) → T (π.correct p) → view_of s p ≤ view_of s' p
 step-view-up π (hears q v r h) p c = omega arith
-step-view-up π (enters r w h) p c = view-up h p
+step-view-up π (enters r w h) p c = view_up h p
 step-view-up π (passes h) p c = omega arith
 step-view-up π (ticks-on k h) p c = omega arith
 
@@ -100,11 +100,11 @@ steps-view-up π (more r x) p c = omega (arith, steps-view-up π r p c, step-vie
 step-clock-up : (π : Params) {s s' : St} (x : Step π s s') (p : ℕ) → T (π.correct p) → clock-of s p + step-ticks π x ≤ clock-of s' p
 unfolding step-ticks
 step-clock-up π (hears q v r h) p c = omega arith
-step-clock-up π (enters r w h) p c = omega (arith, clock-up h p)
+step-clock-up π (enters r w h) p c = omega (arith, clock_up h p)
 step-clock-up π (passes h) p c = omega arith
-step-clock-up π (ticks-on k h) p c = omega (arith, h.clock-up p c)
+step-clock-up π (ticks-on k h) p c = omega (arith, h.clock_up p c)
 
-pub steps-clock-up : (π : Params) {s s' : St} (r : Steps π s s') (p : ℕ) → T (π.correct p) → clock-of s p + ticksIn π r ≤ clock-of s' p
-unfolding ticksIn
+pub steps-clock-up : (π : Params) {s s' : St} (r : Steps π s s') (p : ℕ) → T (π.correct p) → clock-of s p + ticks_in π r ≤ clock-of s' p
+unfolding ticks_in
 steps-clock-up π none p c = omega arith
 steps-clock-up π (more r x) p c = omega (arith, steps-clock-up π r p c, step-clock-up π x p c)

@@ -35,13 +35,13 @@ count_turn n (suc a) A =
     omega (arith, count_low n B, ap bit r, count_turn n a A)
 
 module _ (π : Params) where
-  open π use {n, f, k, gamma, correct, correct-below, correct-count, few-faulty, enough, k-positive, gamma-positive}
+  open π use {n, f, k, gamma, correct, correct_below, correct_count, few_faulty, enough, k_positive, gamma_positive}
 
   -- among f + 1 processors in a row one is correct
   some-leader : (a : ℕ) → (j : ℕ) × (j < f + 1) × T (correct ((a + j) % n))
   some-leader a =
       count-some (f + 1) (λ j. correct ((a + j) % n))
-      (omega (arith, count-part n (f + 1) (λ j. correct ((a + j) % n)) (omega (arith, few-faulty, enough)), count_turn n a correct, correct-count))
+      (omega (arith, count-part n (f + 1) (λ j. correct ((a + j) % n)) (omega (arith, few_faulty, enough)), count_turn n a correct, correct_count))
 
   -- a correct processor whose clock is at least that of each correct one below m
   Highest : (ℕ → ℕ) → ℕ → Type 0
@@ -68,9 +68,9 @@ module _ (π : Params) where
   pub max-clock : (clock : ℕ → ℕ) → (p : ℕ) × T (correct p) × ((r : ℕ) → T (correct r) → clock r ≤ clock p)
   unfolding Highest
   max-clock clock =
-      let some = some-correct π correct (omega (arith, correct-count, few-faulty, enough)) in
+      let some = some-correct π correct (omega (arith, correct_count, few_faulty, enough)) in
       let x = highest clock some.0 some.1 n in
-      (x.0, x.1, λ r c. x.2 r (correct-below r c) c)
+      (x.0, x.1, λ r c. x.2 r (correct_below r c) c)
 
   -- the target above the time M
   pub target : (M star : ℕ) → T (correct star) → (v : ℕ) × Target π M star v × (M < v * gamma)
@@ -79,12 +79,12 @@ module _ (π : Params) where
       let r : ℕ = M / (k * gamma) in
       let j = some-leader (r + 1) in
       let x : ℕ = r + 1 + j.0 in
-      let e : k * x / k ≡ x = mul-div_right x k-positive in
-      let positive : 0 < k * gamma = mul-pos k-positive gamma-positive in
+      let e : k * x / k ≡ x = mul-div_right x k_positive in
+      let positive : 0 < k * gamma = mul-pos k_positive gamma_positive in
       let parts : r * (k * gamma) + M % (k * gamma) ≡ M = div-add-mod' M (k * gamma) in
       let rest : M % (k * gamma) < k * gamma = mod-lt M positive in
       let up : j.0 * (k * gamma) ≤ f * (k * gamma) = mul-le-mul_right (k * gamma) (omega (arith, j.1)) in (
         k * x,
-        record { initial = mul-mod_right k x; led = rw e j.2; star-correct = c; close = omega arith },
+        record { initial = mul-mod_right k x; led = rw e j.2; star_correct = c; close = omega arith },
         omega arith,
       )

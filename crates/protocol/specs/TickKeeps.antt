@@ -13,40 +13,40 @@ module _ {π : Params} {P : Processors} {c : ℕ → ℕ} {L : Tally} {F : Fligh
 
   pub tick-processors : BaseProcessors π (clocked P c)
   tick-processors = record {
-    low = λ p x. omega (arith, i.processors.low p x, h.clock-up p x);
-    high = λ p x. omega (arith, h.ready p x, h.clock-up p x);
+    low = λ p x. omega (arith, i.processors.low p x, h.clock_up p x);
+    high = λ p x. omega (arith, h.ready p x, h.clock_up p x);
     here = i.processors.here;
-    entered-le = i.processors.entered-le;
-    entered-correct = i.processors.entered-correct;
+    entered_le = i.processors.entered_le;
+    entered_correct = i.processors.entered_correct;
     near = λ p x. omega (arith, i.processors.near p x, near-mono π P (clocked P c) (P.clock p) (c p) (stay p x));
   }
     where
       stay : (p : ℕ) → T (correct p) → (r : ℕ) → T (correct r) → P.clock p ≤ P.clock r + gamma → c p ≤ c r + gamma
-      stay p x r y l = omega (arith, h.clock-up p x, h.clock-up r y)
+      stay p x r y l = omega (arith, h.clock_up p x, h.clock_up r y)
 
   pub tick-tally : BaseTally π (clocked P c) L
   tick-tally = record {
-    heard-entered = i.tally.heard-entered;
-    formed-led = i.tally.formed-led;
-    formed-enough = i.tally.formed-enough;
-    formed-when = λ q w l st m a. i.tally.formed-when q w l st m (allowed-before π P (clocked P c) q w (omega arith) a);
+    heard_entered = i.tally.heard_entered;
+    formed_led = i.tally.formed_led;
+    formed_enough = i.tally.formed_enough;
+    formed_when = λ q w l st m a. i.tally.formed_when q w l st m (allowed-before π P (clocked P c) q w (omega arith) a);
   }
 
   pub tick-flight : BaseFlight π (clocked P c) L F
   tick-flight = record {
     signed = i.flight.signed;
     backed = i.flight.backed;
-    certificate-due = i.flight.certificate-due;
-    signature-due = i.flight.signature-due;
+    certificate_due = i.flight.certificate_due;
+    signature_due = i.flight.signature_due;
   }
 
   pub tick-times : BaseTimes π F (now + 1) S b
   tick-times = record {
-    signature-past = λ d w p s x. omega (arith, i.times.signature-past d w p s x);
-    certificate-past = λ d w p s x. omega (arith, i.times.certificate-past d w p s x);
+    signature_past = λ d w p s x. omega (arith, i.times.signature_past d w p s x);
+    certificate_past = λ d w p s x. omega (arith, i.times.certificate_past d w p s x);
     settled = λ z. omega (arith, i.times.settled z);
-    signature-due = λ z d w p s x. omega (arith, h.signature-timely z d w p s x);
-    certificate-due = λ z d w p s x. omega (arith, h.certificate-timely z d w p s x);
+    signature_due = λ z d w p s x. omega (arith, h.signature_timely z d w p s x);
+    certificate_due = λ z d w p s x. omega (arith, h.certificate_timely z d w p s x);
   }
 
   pub tick-keeps : Base π (clocked P c) L F (now + 1) S b

@@ -17,10 +17,10 @@ use borrow.Author.Tests.{lt-ltb, le-ltb, le-leb}
 use Rattle.base.specs.Choice.{and_both}
 use Rattle.base.specs.Tests.{T-left, T-right, T_false, by_cond, le?}
 use Rattle.lines.specs.Decimal.{digit}
-use Rattle.lines.specs.Forms.{openByte, closeByte, blankByte}
+use Rattle.lines.specs.Forms.{open_byte, close_byte, blank_byte}
 use Rattle.reader.specs.declared.Class.{Class}
 use Rattle.reader.specs.declared.Class.TheVariants.{Digit, OpenBracket, CloseBracket, Blank, Other}
-use Rattle.reader.specs.Bytes.{isDigit, class_of, class_at, digitRun}
+use Rattle.reader.specs.Bytes.{is_digit, class_of, class_at, digit_run}
 
 -- ---- a byte
 
@@ -28,37 +28,37 @@ pub record IsDigit (b : ℕ) : Type 0 where
   pub least : digit 0 ≤ b
   pub most : b ≤ digit 9
 
-pub digit-is : (b : ℕ) → T (isDigit b) → IsDigit b
+pub digit-is : (b : ℕ) → T (is_digit b) → IsDigit b
 digit-is b t = record { least = leb→le (digit 0) b (T-left (leb (digit 0) b) (leb b (digit 9)) t); most = leb→le b (digit 9) (T-right (leb (digit 0) b) (leb b (digit 9)) t) }
 
-pub is_digit : (b : ℕ) → IsDigit b → isDigit b ≡ true
+pub is_digit : (b : ℕ) → IsDigit b → is_digit b ≡ true
 is_digit b i = and_both _ _ (le-leb (digit 0) b i.least) (le-leb b (digit 9) i.most)
 
 -- what a class says of its byte
 abbrev pub Means : Class → ℕ → Type 0
 Means (Digit d) b = (d ≤ 9) × (b ≡ digit d)
-Means OpenBracket b = b ≡ openByte
-Means CloseBracket b = b ≡ closeByte
-Means Blank b = b ≡ blankByte
-Means Other b = isDigit b ≡ false
+Means OpenBracket b = b ≡ open_byte
+Means CloseBracket b = b ≡ close_byte
+Means Blank b = b ≡ blank_byte
+Means Other b = is_digit b ≡ false
 
-digit-means : (b : ℕ) → T (isDigit b) → Means (Digit (b - digit 0)) b
+digit-means : (b : ℕ) → T (is_digit b) → Means (Digit (b - digit 0)) b
 digit-means b t = let i : IsDigit b = digit-is b t in (omega arith, omega arith)
 
 pub class-means : (b : ℕ) → Means (class_of b) b
 unfolding class_of
 class-means b =
-    by_cond (λ (r : Class). Means r b) (isDigit b) _ _ (digit-means b)
-    λ n. by_cond (λ (r : Class). Means r b) (eqb b openByte) _ _ (eqb→eq b openByte)
-    λ a. by_cond (λ (r : Class). Means r b) (eqb b closeByte) _ _ (eqb→eq b closeByte)
-    λ e. by_cond (λ (r : Class). Means r b) (eqb b blankByte) _ _ (eqb→eq b blankByte)
-    λ f. T_false (isDigit b) n
+    by_cond (λ (r : Class). Means r b) (is_digit b) _ _ (digit-means b)
+    λ n. by_cond (λ (r : Class). Means r b) (eqb b open_byte) _ _ (eqb→eq b open_byte)
+    λ a. by_cond (λ (r : Class). Means r b) (eqb b close_byte) _ _ (eqb→eq b close_byte)
+    λ e. by_cond (λ (r : Class). Means r b) (eqb b blank_byte) _ _ (eqb→eq b blank_byte)
+    λ f. T_false (is_digit b) n
 
 pub digit-few : (b d : ℕ) (r : Class) → r ≡ class_of b → r ≡ Digit d → d ≤ 9
 digit-few b d r h e = (subst (λ (x : Class). Means x b) (sym h ∙ e) (class-means b)).0
 
 -- the byte is no digit, by its class
-other-class : (r : Class) (b : ℕ) → Means r b → ((d : ℕ) → r ≡ Digit d → ⊥) → isDigit b ≡ false
+other-class : (r : Class) (b : ℕ) → Means r b → ((d : ℕ) → r ≡ Digit d → ⊥) → is_digit b ≡ false
 other-class (Digit d) b m n = absurd (n d refl)
 other-class OpenBracket b m n = rw m refl
 other-class CloseBracket b m n = rw m refl
@@ -95,18 +95,18 @@ class-here s i r e t = ⊎_elim (λ (h : length s ≤ i). absurd (subst Solid (s
 
 -- ---- digits
 
-pub digit-run : (s : List ℕ) (i d : ℕ) → class_at s i ≡ Digit d → digitRun (drop i s) ≡ (digit d) ∷ digitRun (drop (i + 1) s)
+pub digit-run : (s : List ℕ) (i d : ℕ) → class_at s i ≡ Digit d → digit_run (drop i s) ≡ (digit d) ∷ digit_run (drop (i + 1) s)
 digit-run s i d e =
     let h = class-here s i (Digit d) e tt in
     let x : IsDigit (digit d) = record { least = omega arith; most = omega arith } in
     rw (drop-cons s i 0 h.inside, h.byte.1, is_digit (digit d) x, add-one)
 
-pub no_digit : (s : List ℕ) (i : ℕ) → ((d : ℕ) → class_at s i ≡ Digit d → ⊥) → digitRun (drop i s) ≡ []
+pub no_digit : (s : List ℕ) (i : ℕ) → ((d : ℕ) → class_at s i ≡ Digit d → ⊥) → digit_run (drop i s) ≡ []
 no_digit s i n = ⊎_elim (λ (h : length s ≤ i). rw (drop_of_length-le s h)) inner (le? (length s) i)
   where
-    inner : i < length s → digitRun (drop i s) ≡ []
+    inner : i < length s → digit_run (drop i s) ≡ []
     inner h =
-        let o : isDigit (get_or s i 0) ≡ false = other-class (class_of (get_or s i 0)) (get_or s i 0) (class-means (get_or s i 0)) λ d e. n d (class-inside s i h ∙ e) in
+        let o : is_digit (get_or s i 0) ≡ false = other-class (class_of (get_or s i 0)) (get_or s i 0) (class-means (get_or s i 0)) λ d e. n d (class-inside s i h ∙ e) in
         rw (drop-cons s i 0 h, o)
 
 pub beyond-digits : (s : List ℕ) (i : ℕ) → length s ≤ i → (d : ℕ) → class_at s i ≡ Digit d → ⊥

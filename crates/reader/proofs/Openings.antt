@@ -15,23 +15,23 @@ use Rattle.base.specs.Tests.{T_false, by_cond}
 use Rattle.base.specs.Choice.{or-neither, or_parts}
 use Rattle.types.specs.declared.Plan.{Plan}
 use Rattle.types.specs.declared.Setup.{Setup}
-use Rattle.types.specs.Quantities.{nMost, tableClocks, perLeader, perLeaderUsual}
-use Rattle.types.specs.Runs.{setupWith, planNumbers, planIn, usualNumbers, usualPlanIn}
+use Rattle.types.specs.Quantities.{n_most, table_clocks, per_leader, per_leader_usual}
+use Rattle.types.specs.Runs.{setup_with, plan_numbers, plan_in, usual_numbers, usual_plan_in}
 use Rattle.lines.specs.declared.Read.{Read}
 use Rattle.lines.specs.declared.Read.TheVariants as Read
 use Rattle.lines.specs.declared.Read.TheVariants.{NoForm}
-use Rattle.lines.specs.Decimal.{fieldLimit}
-use Rattle.lines.specs.Forms.{openBracket, openWord, lineClocks, setupForm, usualForm, Below, EventLine, SetupBytes, SetupLine, trimmed}
-use Rattle.lines.specs.Contracts.{Reading, noSetup, openingReading, noForm}
+use Rattle.lines.specs.Decimal.{field_limit}
+use Rattle.lines.specs.Forms.{open_bracket, open_word, line_clocks, setup_form, usual_form, Below, EventLine, SetupBytes, SetupLine, trimmed}
+use Rattle.lines.specs.Clauses.{Reading, no_setup, opening_reading, no_form}
 use Rattle.reader.specs.declared.Heading.{Heading}
 use Rattle.reader.specs.declared.Heading.TheVariants.{Parameters, NoHeading}
 use Rattle.reader.specs.declared.Several.{Several}
-use Rattle.reader.specs.Scan.{Series, seriesAt, ReadsSeveral}
-use Rattle.reader.specs.Lines.{headingMost, headingUsual, headingSeries, headingAt, endingTable, endingHeading, openingAt}
+use Rattle.reader.specs.Scan.{Series, series_at, ReadsSeveral}
+use Rattle.reader.specs.Lines.{heading_most, heading_usual, heading_series, heading_at, ending_table, ending_heading, opening_at}
 use Rattle.reader.proofs.Words.{Left, left-none}
 use Rattle.reader.proofs.SeveralLaws.{as_many, filled-all}
-use Rattle.reader.proofs.Series.{none-at-table, spacedBefore, Taken, series-only, series-there, picked_all}
-use Rattle.reader.proofs.Tables.{tableBefore, TakenTable, by-table, table-there}
+use Rattle.reader.proofs.Series.{none-at-table, spaced_before, Taken, series-only, series-there, picked_all}
+use Rattle.reader.proofs.Tables.{table_before, TakenTable, by-table, table-there}
 
 -- ---- the form by its parts
 
@@ -40,48 +40,48 @@ abbrev heading : List ℕ → ℕ → List ℕ
 heading ns faulty = ns ++ (faulty ∷ [])
 
 -- the bytes of a form behind its first bracket and its word, with these numbers before its mask
-abbrev pub behindOpen : List ℕ → Setup → List ℕ
-behindOpen ns u = spacedBefore (heading ns u.faulty) (tableBefore (lineClocks u) [])
+abbrev pub behind_open : List ℕ → Setup → List ℕ
+behind_open ns u = spaced_before (heading ns u.faulty) (table_before (line_clocks u) [])
 
 -- the line is such a form
 abbrev Parts : List ℕ → List ℕ → Setup → Type 0
-Parts s ns u = s ≡ openBracket ++ (openWord ++ behindOpen ns u)
+Parts s ns u = s ≡ open_bracket ++ (open_word ++ behind_open ns u)
 
-setup-parts : (u : Setup) → Parts (setupForm u) (planNumbers u.plan) u
-unfolding setupForm
+setup-parts : (u : Setup) → Parts (setup_form u) (plan_numbers u.plan) u
+unfolding setup_form
 setup-parts u = refl
 
-usual-parts : (u : Setup) → Parts (usualForm u) (usualNumbers u.plan) u
-unfolding usualForm
+usual-parts : (u : Setup) → Parts (usual_form u) (usual_numbers u.plan) u
+unfolding usual_form
 usual-parts u = refl
 
 -- ---- the heading as it is read
 
-module _ (s : List ℕ) (at : ℕ) (r : Several) (lent after : List ℕ) (x : ReadsSeveral s at lent r after) (w : length lent ≡ headingMost) where
+module _ (s : List ℕ) (at : ℕ) (r : Several) (lent after : List ℕ) (x : ReadsSeveral s at lent r after) (w : length lent ≡ heading_most) where
   counted : length (take r.count after) ≡ r.count
   counted = as_many s at lent r after x
 
-  heading-is : headingAt s at ≡ headingSeries (record { numbers = take r.count after; end = r.end })
-  unfolding headingAt
-  heading-is = ap headingSeries (ap (λ (j : ℕ). seriesAt j s at) (sym w) ∙ x.read)
+  heading-is : heading_at s at ≡ heading_series (record { numbers = take r.count after; end = r.end })
+  unfolding heading_at
+  heading-is = ap heading_series (ap (λ (j : ℕ). series_at j s at) (sym w) ∙ x.read)
 
-  pub no-heading : (r.count ≡ headingMost → ⊥) → (r.count ≡ headingUsual → ⊥) → NoHeading ≡ headingAt s at
-  no-heading h h' = sym (heading-is ∙ rw (counted, ne_eqb r.count headingMost h, ne_eqb r.count headingUsual h'))
+  pub no-heading : (r.count ≡ heading_most → ⊥) → (r.count ≡ heading_usual → ⊥) → NoHeading ≡ heading_at s at
+  no-heading h h' = sym (heading-is ∙ rw (counted, ne_eqb r.count heading_most h, ne_eqb r.count heading_usual h'))
 
-  pub whole-heading : r.count ≡ headingMost → Parameters (planIn after) (get_or after 5 0) r.end ≡ headingAt s at
+  pub whole-heading : r.count ≡ heading_most → Parameters (plan_in after) (get_or after 5 0) r.end ≡ heading_at s at
   whole-heading h =
       let all : take r.count after ≡ after = filled-all s at lent r after x (h ∙ sym w) in
-      sym (heading-is ∙ rw (counted, eq-eqb r.count headingMost h, all))
+      sym (heading-is ∙ rw (counted, eq-eqb r.count heading_most h, all))
 
-  pub usual-heading : r.count ≡ headingUsual → Parameters (usualPlanIn after) (get_or after 4 0) r.end ≡ headingAt s at
+  pub usual-heading : r.count ≡ heading_usual → Parameters (usual_plan_in after) (get_or after 4 0) r.end ≡ heading_at s at
   usual-heading h = sym (heading-is ∙ rw (counted, h, first 0 (omega arith), first 1 (omega arith), first 2 (omega arith), first 3 (omega arith), first 4 (omega arith)))
     where
-      first : (i : ℕ) → i < headingUsual → get_or (take headingUsual after) i 0 ≡ get_or after i 0
-      first i l = get_or-take headingUsual after i 0 l
+      first : (i : ℕ) → i < heading_usual → get_or (take heading_usual after) i 0 ≡ get_or after i 0
+      first i l = get_or-take heading_usual after i 0 l
 
 -- ---- numbers below 2^64, with k and without it
 
-pub below-with : (a b : List ℕ) (k : ℕ) → k < fieldLimit → Below (a ++ b) → Below (a ++ (k ∷ b))
+pub below-with : (a b : List ℕ) (k : ℕ) → k < field_limit → Below (a ++ b) → Below (a ++ (k ∷ b))
 below-with a b k l h = every_append _ a (k ∷ b) (every_first _ a b h) (l, every-second _ a b h)
 
 pub below-without : (a b : List ℕ) (k : ℕ) → Below (a ++ (k ∷ b)) → Below (a ++ b)
@@ -93,118 +93,118 @@ below-without a b k h = every_append _ a b (every_first _ a (k ∷ b) h) (every-
 abbrev pub ReadAs : List ℕ → Read → Setup → Type 0
 ReadAs s (Read.Event e) u = EventLine s e
 ReadAs s Read.Opening u = SetupLine s u
-ReadAs s NoForm u = u ≡ noSetup
+ReadAs s NoForm u = u ≡ no_setup
 
 abbrev pub LineRead : List ℕ → Reading → Type 0
 LineRead s r = ReadAs s r.read r.setup
 
 -- with these numbers before its mask, the line is a form of the setup with this plan, mask and the table's clocks
 abbrev MakesForm : List ℕ → List ℕ → Plan → ℕ → Type 0
-MakesForm s ns plan faulty = (clocks : List ℕ) → Parts s ns (setupWith plan faulty clocks) → SetupBytes s (setupWith plan faulty clocks)
+MakesForm s ns plan faulty = (clocks : List ℕ) → Parts s ns (setup_with plan faulty clocks) → SetupBytes s (setup_with plan faulty clocks)
 
-setup-line : (s : List ℕ) (at k e : ℕ) (ns : List ℕ) (plan : Plan) (faulty : ℕ) (cs : List ℕ) → s ≡ openBracket ++ (openWord ++ drop at s)
-    → drop at s ≡ spacedBefore (heading ns faulty) (drop k s) → MakesForm s ns plan faulty → Below (heading (planNumbers plan) faulty) → eqb plan.n 0 ≡ false
-    → ltb nMost plan.n ≡ false → TakenTable s k plan.n cs e → e ≡ length s → SetupLine s (setupWith plan faulty (cs ++ replicate (tableClocks - length cs) 0))
+setup-line : (s : List ℕ) (at k e : ℕ) (ns : List ℕ) (plan : Plan) (faulty : ℕ) (cs : List ℕ) → s ≡ open_bracket ++ (open_word ++ drop at s)
+    → drop at s ≡ spaced_before (heading ns faulty) (drop k s) → MakesForm s ns plan faulty → Below (heading (plan_numbers plan) faulty) → eqb plan.n 0 ≡ false
+    → ltb n_most plan.n ≡ false → TakenTable s k plan.n cs e → e ≡ length s → SetupLine s (setup_with plan faulty (cs ++ replicate (table_clocks - length cs) 0))
 setup-line s at k e ns plan faulty cs h numbers forms b least most t end =
-    let zeros : List ℕ = replicate (tableClocks - length cs) 0 in
-    let u : Setup = setupWith plan faulty (cs ++ zeros) in
-    let m : plan.n ≤ nMost = ltb-false nMost plan.n most in
-    let l : lineClocks u ≡ cs = take_at cs zeros plan.n t.number in
-    let z : length zeros ≡ tableClocks - length cs = length-replicate (tableClocks - length cs) 0 in
+    let zeros : List ℕ = replicate (table_clocks - length cs) 0 in
+    let u : Setup = setup_with plan faulty (cs ++ zeros) in
+    let m : plan.n ≤ n_most = ltb-false n_most plan.n most in
+    let l : line_clocks u ≡ cs = take_at cs zeros plan.n t.number in
+    let z : length zeros ≡ table_clocks - length cs = length-replicate (table_clocks - length cs) 0 in
     record {
-      formed = or-neither (eqb plan.n 0) (ltb nMost plan.n) least most;
-      below = every_append _ (heading (planNumbers plan) faulty) (lineClocks u) b (subst Below (sym l) t.below);
+      formed = or-neither (eqb plan.n 0) (ltb n_most plan.n) least most;
+      below = every_append _ (heading (plan_numbers plan) faulty) (line_clocks u) b (subst Below (sym l) t.below);
       table = length-append cs zeros ∙ omega (arith, t.number);
       bytes = forms (cs ++ zeros) (
           h
-          ∙ ap (λ (r : List ℕ). openBracket ++ (openWord ++ r))
+          ∙ ap (λ (r : List ℕ). open_bracket ++ (open_word ++ r))
           (numbers
-          ∙ ap (spacedBefore (heading ns faulty))
-          (t.bytes ∙ ap (tableBefore cs) (drop_of_length-le s (le_of_eq (sym end))) ∙ ap (λ (x : List ℕ). tableBefore x []) (sym l))));
+          ∙ ap (spaced_before (heading ns faulty))
+          (t.bytes ∙ ap (table_before cs) (drop_of_length-le s (le_of_eq (sym end))) ∙ ap (λ (x : List ℕ). table_before x []) (sym l))));
     }
 
 -- behind the word
-pub opening-only : (s : List ℕ) (at : ℕ) → s ≡ openBracket ++ (openWord ++ drop at s) → LineRead s (openingAt s at)
-unfolding openingAt headingAt
-opening-only s at h = headed (seriesAt headingMost s at) (series-only headingMost s at)
+pub opening-only : (s : List ℕ) (at : ℕ) → s ≡ open_bracket ++ (open_word ++ drop at s) → LineRead s (opening_at s at)
+unfolding opening_at heading_at
+opening-only s at h = headed (series_at heading_most s at) (series-only heading_most s at)
   where
     told : (x : Series) → Taken s at x → (ns : List ℕ) (plan : Plan) (faulty : ℕ) → x.numbers ≡ heading ns faulty → MakesForm s ns plan faulty
-        → (Below (heading ns faulty) → Below (heading (planNumbers plan) faulty)) → LineRead s (endingHeading s (Parameters plan faulty x.end))
+        → (Below (heading ns faulty) → Below (heading (plan_numbers plan) faulty)) → LineRead s (ending_heading s (Parameters plan faulty x.end))
     told x t ns plan faulty l forms below =
-        by_cond (LineRead s) (eqb plan.n 0) noForm _ (λ _. refl)
-        (λ least. by_cond (LineRead s) (ltb nMost plan.n) noForm _ (λ _. refl)
-        (λ most. by-table (LineRead s) s x.end plan.n (endingTable s plan faulty) (omega (arith, eqb-false plan.n 0 (T_false (eqb plan.n 0) least)))
-        (λ cs e c. by_cond (LineRead s) (eqb e (length s)) _ noForm
-        (λ end. setup-line s at x.end e ns plan faulty cs h (t.bytes ∙ ap (λ (y : List ℕ). spacedBefore y (drop x.end s)) l) forms
-        (below (subst Below l t.below)) (T_false (eqb plan.n 0) least) (T_false (ltb nMost plan.n) most) c (eqb→eq e (length s) end)) (λ _. refl)) refl))
+        by_cond (LineRead s) (eqb plan.n 0) no_form _ (λ _. refl)
+        (λ least. by_cond (LineRead s) (ltb n_most plan.n) no_form _ (λ _. refl)
+        (λ most. by-table (LineRead s) s x.end plan.n (ending_table s plan faulty) (omega (arith, eqb-false plan.n 0 (T_false (eqb plan.n 0) least)))
+        (λ cs e c. by_cond (LineRead s) (eqb e (length s)) _ no_form
+        (λ end. setup-line s at x.end e ns plan faulty cs h (t.bytes ∙ ap (λ (y : List ℕ). spaced_before y (drop x.end s)) l) forms
+        (below (subst Below l t.below)) (T_false (eqb plan.n 0) least) (T_false (ltb n_most plan.n) most) c (eqb→eq e (length s) end)) (λ _. refl)) refl))
 
-    headed : (x : Series) → Taken s at x → LineRead s (endingHeading s (headingSeries x))
+    headed : (x : Series) → Taken s at x → LineRead s (ending_heading s (heading_series x))
     headed x t =
         let ns : List ℕ = x.numbers in
-        let P : Heading → Type 0 = λ (y : Heading). LineRead s (endingHeading s y) in
-        by_cond P (eqb (length ns) headingMost) (Parameters (planIn ns) (get_or ns 5 0) x.end) _
-        (λ six. told x t (planNumbers (planIn ns)) (planIn ns) (get_or ns 5 0) (picked_all _ ns (eqb→eq (length ns) headingMost six))
-        (λ cs e. inl (e ∙ sym (setup-parts (setupWith (planIn ns) (get_or ns 5 0) cs)))) (λ b. b))
-        (λ _. by_cond P (eqb (length ns) headingUsual) (Parameters (usualPlanIn ns) (get_or ns 4 0) x.end) NoHeading
-        (λ five. told x t (usualNumbers (usualPlanIn ns)) (usualPlanIn ns) (get_or ns 4 0) (picked_all _ ns (eqb→eq (length ns) headingUsual five))
-        (λ cs e. inr (e ∙ sym (usual-parts (setupWith (usualPlanIn ns) (get_or ns 4 0) cs)), refl))
-        (below-with (usualNumbers (usualPlanIn ns)) (get_or ns 4 0 ∷ []) perLeaderUsual (omega arith))) (λ _. refl))
+        let P : Heading → Type 0 = λ (y : Heading). LineRead s (ending_heading s y) in
+        by_cond P (eqb (length ns) heading_most) (Parameters (plan_in ns) (get_or ns 5 0) x.end) _
+        (λ six. told x t (plan_numbers (plan_in ns)) (plan_in ns) (get_or ns 5 0) (picked_all _ ns (eqb→eq (length ns) heading_most six))
+        (λ cs e. inl (e ∙ sym (setup-parts (setup_with (plan_in ns) (get_or ns 5 0) cs)))) (λ b. b))
+        (λ _. by_cond P (eqb (length ns) heading_usual) (Parameters (usual_plan_in ns) (get_or ns 4 0) x.end) NoHeading
+        (λ five. told x t (usual_numbers (usual_plan_in ns)) (usual_plan_in ns) (get_or ns 4 0) (picked_all _ ns (eqb→eq (length ns) heading_usual five))
+        (λ cs e. inr (e ∙ sym (usual-parts (setup_with (usual_plan_in ns) (get_or ns 4 0) cs)), refl))
+        (below-with (usual_numbers (usual_plan_in ns)) (get_or ns 4 0 ∷ []) per_leader_usual (omega arith))) (λ _. refl))
 
 -- ---- it is read
 
 -- "n clocks, 1 to 64 of them", as the reader tests it
 record Sized (u : Setup) : Type 0 where
   some : eqb u.plan.n 0 ≡ false
-  few : ltb nMost u.plan.n ≡ false
+  few : ltb n_most u.plan.n ≡ false
   least : 1 ≤ u.plan.n
-  clocks-in : length (lineClocks u) ≡ u.plan.n
+  clocks_in : length (line_clocks u) ≡ u.plan.n
 
 sized : (s : List ℕ) (u : Setup) → SetupLine s u → Sized u
 sized s u l =
-    let p = or_parts (eqb u.plan.n 0) (ltb nMost u.plan.n) l.formed in
-    let m : u.plan.n ≤ nMost = ltb-false nMost u.plan.n p.1 in
+    let p = or_parts (eqb u.plan.n 0) (ltb n_most u.plan.n) l.formed in
+    let m : u.plan.n ≤ n_most = ltb-false n_most u.plan.n p.1 in
     record {
       some = p.0;
       few = p.1;
       least = omega (arith, eqb-false u.plan.n 0 p.0);
-      clocks-in = length-take-le u.plan.n u.clocks (omega (arith, l.table));
+      clocks_in = length-take-le u.plan.n u.clocks (omega (arith, l.table));
     }
 
 -- the numbers before the mask: the line is made of them, and they are read as the setup's plan
 pub record Headed (s : List ℕ) (u : Setup) : Type 0 where
   pub numbers : List ℕ
   pub bytes : Parts s numbers u
-  few : length (heading numbers u.faulty) ≤ headingMost
+  few : length (heading numbers u.faulty) ≤ heading_most
   below : Below (heading numbers u.faulty)
-  told : (k : ℕ) → headingSeries (record { numbers = heading numbers u.faulty; end = k }) ≡ Parameters u.plan u.faulty k
+  told : (k : ℕ) → heading_series (record { numbers = heading numbers u.faulty; end = k }) ≡ Parameters u.plan u.faulty k
 
 pub setup-headed : (s : List ℕ) (u : Setup) → SetupLine s u → Headed s u
 setup-headed s u l = by l.bytes
   where
-    whole : Below (heading (planNumbers u.plan) u.faulty)
-    whole = every_first _ (heading (planNumbers u.plan) u.faulty) (lineClocks u) l.below
+    whole : Below (heading (plan_numbers u.plan) u.faulty)
+    whole = every_first _ (heading (plan_numbers u.plan) u.faulty) (line_clocks u) l.below
 
     by : SetupBytes s u → Headed s u
-    by (inl e) = record { numbers = planNumbers u.plan; bytes = e ∙ setup-parts u; few = omega arith; below = whole; told = λ k. refl }
+    by (inl e) = record { numbers = plan_numbers u.plan; bytes = e ∙ setup-parts u; few = omega arith; below = whole; told = λ k. refl }
     by (inr e) = record {
-      numbers = usualNumbers u.plan;
+      numbers = usual_numbers u.plan;
       bytes = e.0 ∙ usual-parts u;
       few = omega arith;
-      below = below-without (usualNumbers u.plan) (u.faulty ∷ []) (perLeader u.plan) whole;
-      told = λ k. ap (λ (j : ℕ). Parameters (planIn (usualNumbers u.plan ++ (j ∷ []))) u.faulty k) (sym e.1);
+      below = below-without (usual_numbers u.plan) (u.faulty ∷ []) (per_leader u.plan) whole;
+      told = λ k. ap (λ (j : ℕ). Parameters (plan_in (usual_numbers u.plan ++ (j ∷ []))) u.faulty k) (sym e.1);
     }
 
-pub opening-there : (s : List ℕ) (at : ℕ) (u : Setup) → SetupLine s u → (h : Headed s u) → Left s at (behindOpen h.numbers u) → openingAt s at ≡ openingReading (trimmed u)
-unfolding openingAt headingAt trimmed
+pub opening-there : (s : List ℕ) (at : ℕ) (u : Setup) → SetupLine s u → (h : Headed s u) → Left s at (behind_open h.numbers u) → opening_at s at ≡ opening_reading (trimmed u)
+unfolding opening_at heading_at trimmed
 opening-there s at u l h left =
-    series-there P headingMost s at (λ x. endingHeading s (headingSeries x)) (heading h.numbers u.faulty) (tableBefore (lineClocks u) []) left h.few
+    series-there P heading_most s at (λ x. ending_heading s (heading_series x)) (heading h.numbers u.faulty) (table_before (line_clocks u) []) left h.few
     h.below refl (λ k m. none-at-table s _ k m)
-    (λ k m. subst (λ (y : Heading). P (endingHeading s y)) (sym (h.told k)) (rw (c.some, c.few)
-    (table-there P s k u.plan.n (endingTable s u.plan u.faulty) (lineClocks u) [] m c.clocks-in c.least
-    (every-second _ (heading (planNumbers u.plan) u.faulty) (lineClocks u) l.below) (λ e end. rw (eq-eqb e (length s) (left-none s e end), c.clocks-in)))))
+    (λ k m. subst (λ (y : Heading). P (ending_heading s y)) (sym (h.told k)) (rw (c.some, c.few)
+    (table-there P s k u.plan.n (ending_table s u.plan u.faulty) (line_clocks u) [] m c.clocks_in c.least
+    (every-second _ (heading (plan_numbers u.plan) u.faulty) (line_clocks u) l.below) (λ e end. rw (eq-eqb e (length s) (left-none s e end), c.clocks_in)))))
   where
     P : Reading → Type 0
-    P x = x ≡ openingReading (trimmed u)
+    P x = x ≡ opening_reading (trimmed u)
 
     c : Sized u
     c = sized s u l

@@ -4,96 +4,96 @@ use Prim.Native.Nat.{ℕ, zero, suc, ◌+◌, ◌≤◌, ◌<◌}
 use native.Mathlib.Omega.{arith}
 use mathlib.Core.List.{List, [], ◌∷◌, ◌++◌, append_assoc}
 use lib.ListN.{length, drop, get_or}
-use Rattle.lines.specs.Decimal.{decimal, fieldLimit}
-use Rattle.lines.specs.Forms.{openBracket, closeBracket, oneBlank, joined, spaced, Below}
+use Rattle.lines.specs.Decimal.{decimal, field_limit}
+use Rattle.lines.specs.Forms.{open_bracket, close_bracket, one_blank, joined, spaced, Below}
 use Rattle.reader.specs.declared.Number.{Number}
 use Rattle.reader.specs.declared.Number.TheVariants.{Value, NoNumber}
-use Rattle.reader.specs.Bytes.{digitRun}
-use Rattle.reader.specs.Scan.{number_at, onNumber, nextNumberAt, Series, ending, following, seriesAt}
+use Rattle.reader.specs.Bytes.{digit_run}
+use Rattle.reader.specs.Scan.{number_at, on_number, next_number_at, Series, ending, following, series_at}
 use Rattle.reader.proofs.Numbers.{Counted, number-only, number-back}
 use Rattle.reader.proofs.Words.{Left, left_after, by_word, word-there, word-away}
 
 -- ---- a number that is read stands there
 
 pub by_number : {A : Type 0} (P : A → Type 0) (s : List ℕ) (at : ℕ) (f : ℕ → ℕ → A) (z : A)
-    → ((n k : ℕ) → n < fieldLimit → drop at s ≡ decimal n ++ drop k s → P (f n k)) → P z → P (onNumber (number_at s at) f z)
+    → ((n k : ℕ) → n < field_limit → drop at s ≡ decimal n ++ drop k s → P (f n k)) → P z → P (on_number (number_at s at) f z)
 by_number P s at f z g h = go (number_at s at) (number-only s at)
   where
-    go : (x : Number) → Counted s at x → P (onNumber x f z)
+    go : (x : Number) → Counted s at x → P (on_number x f z)
     go (Value n k) c = g n k c.0 c.1
     go NoNumber c = h
 
 pub by_next : {A : Type 0} (P : A → Type 0) (s : List ℕ) (at : ℕ) (f : ℕ → ℕ → A) (z : A)
-    → ((n k : ℕ) → n < fieldLimit → drop at s ≡ oneBlank ++ (decimal n ++ drop k s) → P (f n k)) → P z → P (onNumber (nextNumberAt s at) f z)
-unfolding nextNumberAt
+    → ((n k : ℕ) → n < field_limit → drop at s ≡ one_blank ++ (decimal n ++ drop k s) → P (f n k)) → P z → P (on_number (next_number_at s at) f z)
+unfolding next_number_at
 by_next P s at f z g h =
-    by_word (λ (x : Number). P (onNumber x f z)) s at oneBlank (number_at s) NoNumber
-    (λ k e. by_number P s k f z (λ n j m d. g n j m (e ∙ ap (λ (r : List ℕ). oneBlank ++ r) d)) h) h
+    by_word (λ (x : Number). P (on_number x f z)) s at one_blank (number_at s) NoNumber
+    (λ k e. by_number P s k f z (λ n j m d. g n j m (e ∙ ap (λ (r : List ℕ). one_blank ++ r) d)) h) h
 
 -- ---- a number that stands there is read
 
 pub number-there : {A : Type 0} (P : A → Type 0) (s : List ℕ) (at : ℕ) (f : ℕ → ℕ → A) (z : A) (n : ℕ) (r : List ℕ)
-    → Left s at (decimal n ++ r) → n < fieldLimit → digitRun r ≡ [] → ((k : ℕ) → Left s k r → P (f n k)) → P (onNumber (number_at s at) f z)
+    → Left s at (decimal n ++ r) → n < field_limit → digit_run r ≡ [] → ((k : ℕ) → Left s k r → P (f n k)) → P (on_number (number_at s at) f z)
 number-there P s at f z n r h m q g = rw (number-back s r at n m q h.bytes) (g (at + length (decimal n)) (left_after s (decimal n) r at h))
 
 pub next-there : {A : Type 0} (P : A → Type 0) (s : List ℕ) (at : ℕ) (f : ℕ → ℕ → A) (z : A) (n : ℕ) (r : List ℕ)
-    → Left s at (oneBlank ++ (decimal n ++ r)) → n < fieldLimit → digitRun r ≡ [] → ((k : ℕ) → Left s k r → P (f n k)) → P (onNumber (nextNumberAt s at) f z)
-unfolding nextNumberAt
+    → Left s at (one_blank ++ (decimal n ++ r)) → n < field_limit → digit_run r ≡ [] → ((k : ℕ) → Left s k r → P (f n k)) → P (on_number (next_number_at s at) f z)
+unfolding next_number_at
 next-there P s at f z n r h m q g =
-    word-there (λ (x : Number). P (onNumber x f z)) s at oneBlank (number_at s) NoNumber (decimal n ++ r) h (λ k l. number-there P s k f z n r l m q g)
+    word-there (λ (x : Number). P (on_number x f z)) s at one_blank (number_at s) NoNumber (decimal n ++ r) h (λ k l. number-there P s k f z n r l m q g)
 
 -- none stands at a bracket, be there a blank before it or not
 abbrev NoneAt : Number → Type 0
 NoneAt x = x ≡ NoNumber
 
-pub none-at-table : (s r : List ℕ) (at : ℕ) → Left s at (oneBlank ++ (openBracket ++ r)) → nextNumberAt s at ≡ NoNumber
-unfolding nextNumberAt number_at
-none-at-table s r at h = word-there NoneAt s at oneBlank (number_at s) NoNumber (openBracket ++ r) h (λ k l. rw l.bytes refl)
+pub none-at-table : (s r : List ℕ) (at : ℕ) → Left s at (one_blank ++ (open_bracket ++ r)) → next_number_at s at ≡ NoNumber
+unfolding next_number_at number_at
+none-at-table s r at h = word-there NoneAt s at one_blank (number_at s) NoNumber (open_bracket ++ r) h (λ k l. rw l.bytes refl)
 
-pub none-at-end : (s r : List ℕ) (at : ℕ) → Left s at (closeBracket ++ r) → nextNumberAt s at ≡ NoNumber
-unfolding nextNumberAt
-none-at-end s r at h = word-away NoneAt s at oneBlank (number_at s) NoNumber (closeBracket ++ r) h refl refl
+pub none-at-end : (s r : List ℕ) (at : ℕ) → Left s at (close_bracket ++ r) → next_number_at s at ≡ NoNumber
+unfolding next_number_at
+none-at-end s r at h = word-away NoneAt s at one_blank (number_at s) NoNumber (close_bracket ++ r) h refl refl
 
 -- ---- a series
 
 -- the numbers, each behind a blank, and then r
-abbrev pub spacedBefore : List ℕ → List ℕ → List ℕ
-spacedBefore [] r = r
-spacedBefore (n ∷ ns) r = oneBlank ++ (decimal n ++ spacedBefore ns r)
+abbrev pub spaced_before : List ℕ → List ℕ → List ℕ
+spaced_before [] r = r
+spaced_before (n ∷ ns) r = one_blank ++ (decimal n ++ spaced_before ns r)
 
-pub spaced-before : (ns r : List ℕ) → joined (spaced ns) ++ r ≡ spacedBefore ns r
+pub spaced-before : (ns r : List ℕ) → joined (spaced ns) ++ r ≡ spaced_before ns r
 spaced-before [] r = refl
 spaced-before (n ∷ ns) r =
-    ap (λ (l : List ℕ). oneBlank ++ l) (append_assoc (decimal n) (joined (spaced ns)) r ∙ ap (λ (l : List ℕ). decimal n ++ l) (spaced-before ns r))
+    ap (λ (l : List ℕ). one_blank ++ l) (append_assoc (decimal n) (joined (spaced ns)) r ∙ ap (λ (l : List ℕ). decimal n ++ l) (spaced-before ns r))
 
 -- the series stands at the place
 pub record Taken (s : List ℕ) (at : ℕ) (x : Series) : Type 0 where
-  pub bytes : drop at s ≡ spacedBefore x.numbers (drop x.end s)
+  pub bytes : drop at s ≡ spaced_before x.numbers (drop x.end s)
   pub below : Below x.numbers
 
-pub series-only : (j : ℕ) (s : List ℕ) (at : ℕ) → Taken s at (seriesAt j s at)
+pub series-only : (j : ℕ) (s : List ℕ) (at : ℕ) → Taken s at (series_at j s at)
 series-only zero s at = record { bytes = refl; below = tt }
 series-only (suc j) s at =
-    by_next (Taken s at) s at (λ n k. following n (seriesAt j s k)) (ending at)
-    (λ n k m e. taken n k m e (seriesAt j s k) (series-only j s k)) (record { bytes = refl; below = tt })
+    by_next (Taken s at) s at (λ n k. following n (series_at j s k)) (ending at)
+    (λ n k m e. taken n k m e (series_at j s k) (series-only j s k)) (record { bytes = refl; below = tt })
   where
-    taken : (n k : ℕ) → n < fieldLimit → drop at s ≡ oneBlank ++ (decimal n ++ drop k s) → (x : Series) → Taken s k x → Taken s at (following n x)
-    taken n k m e x t = record { bytes = e ∙ ap (λ (r : List ℕ). oneBlank ++ (decimal n ++ r)) t.bytes; below = (m, t.below) }
+    taken : (n k : ℕ) → n < field_limit → drop at s ≡ one_blank ++ (decimal n ++ drop k s) → (x : Series) → Taken s k x → Taken s at (following n x)
+    taken n k m e x t = record { bytes = e ∙ ap (λ (r : List ℕ). one_blank ++ (decimal n ++ r)) t.bytes; below = (m, t.below) }
 
 -- a number is followed by no digit where the next stands behind a blank
-pub no_digit : (ns r : List ℕ) → digitRun r ≡ [] → digitRun (spacedBefore ns r) ≡ []
+pub no_digit : (ns r : List ℕ) → digit_run r ≡ [] → digit_run (spaced_before ns r) ≡ []
 no_digit [] r q = q
 no_digit (n ∷ ns) r q = refl
 
 -- where they stand and no further one does, just these are read
 pub series-there : {A : Type 0} (P : A → Type 0) (j : ℕ) (s : List ℕ) (at : ℕ) (f : Series → A) (ns r : List ℕ)
-    → Left s at (spacedBefore ns r) → length ns ≤ j → Below ns → digitRun r ≡ [] → ((k : ℕ) → Left s k r → nextNumberAt s k ≡ NoNumber)
-    → ((k : ℕ) → Left s k r → P (f (record { numbers = ns; end = k }))) → P (f (seriesAt j s at))
+    → Left s at (spaced_before ns r) → length ns ≤ j → Below ns → digit_run r ≡ [] → ((k : ℕ) → Left s k r → next_number_at s k ≡ NoNumber)
+    → ((k : ℕ) → Left s k r → P (f (record { numbers = ns; end = k }))) → P (f (series_at j s at))
 series-there P zero s at f [] r h l b q e g = g at h
 series-there P zero s at f (n ∷ ns) r h l b q e g = absurd (omega arith)
 series-there P (suc j) s at f [] r h l b q e g = rw (e at h) (g at h)
 series-there P (suc j) s at f (n ∷ ns) r h l b q e g =
-    next-there (λ (x : Series). P (f x)) s at (λ m k. following m (seriesAt j s k)) (ending at) n (spacedBefore ns r) h b.0 (no_digit ns r q)
+    next-there (λ (x : Series). P (f x)) s at (λ m k. following m (series_at j s k)) (ending at) n (spaced_before ns r) h b.0 (no_digit ns r q)
     (λ k m. series-there P j s k (λ (x : Series). f (following n x)) ns r m (omega arith) b.1 q e g)
 
 -- ---- the numbers one by one

@@ -8,7 +8,7 @@ use lib.ListN.{length, take, set, length-set}
 use lib.Seq.{take-suc-set, length-take-le, take_all}
 use Rattle.reader.specs.declared.Number.TheVariants.{Value, NoNumber}
 use Rattle.reader.specs.declared.Several.{Several}
-use Rattle.reader.specs.Scan.{nextNumberAt, Series, ending, following, seriesAt, ReadsSeveral}
+use Rattle.reader.specs.Scan.{next_number_at, Series, ending, following, series_at, ReadsSeveral}
 
 abbrev behind : List ℕ → Series → Series
 behind ns x = record { numbers = ns ++ x.numbers; end = x.end }
@@ -19,37 +19,37 @@ behind_more ns n x = ap (λ (l : List ℕ). record { numbers = l; end = x.end })
 -- i of j numbers have been read, up to the place
 pub record SoFar (s : List ℕ) (at j : ℕ) (numbers : List ℕ) (place i : ℕ) : Type 0 where
   pub most : i ≤ j
-  pub rest : seriesAt j s at ≡ behind (take i numbers) (seriesAt (j - i) s place)
+  pub rest : series_at j s at ≡ behind (take i numbers) (series_at (j - i) s place)
   pub whole : length numbers ≡ j
 
 pub several-none : (s : List ℕ) (at : ℕ) (numbers : List ℕ) → SoFar s at (length numbers) numbers at 0
 several-none s at numbers = record { most = omega arith; rest = let z : length numbers - 0 ≡ length numbers = omega arith in rw z refl; whole = refl }
 
 module _ (s : List ℕ) (at j : ℕ) (numbers : List ℕ) (place i : ℕ) (x : SoFar s at j numbers place i) where
-  pub several-more : i < j → (n k : ℕ) → nextNumberAt s place ≡ Value n k → SoFar s at j (set numbers i n) k (i + 1)
+  pub several-more : i < j → (n k : ℕ) → next_number_at s place ≡ Value n k → SoFar s at j (set numbers i n) k (i + 1)
   several-more h n k e = record {
     most = omega arith;
     rest =
         let q : j - i ≡ suc (j - (i + 1)) = omega arith in
         let t : take (i + 1) (set numbers i n) ≡ take i numbers ++ (n ∷ []) = rw add-one (take-suc-set numbers i n (omega (arith, x.whole))) in
-        x.rest ∙ rw (q, t, e) (behind_more (take i numbers) n (seriesAt (j - (i + 1)) s k));
+        x.rest ∙ rw (q, t, e) (behind_more (take i numbers) n (series_at (j - (i + 1)) s k));
     whole = length-set numbers i n ∙ x.whole;
   }
 
-  ended : seriesAt (j - i) s place ≡ ending place → seriesAt j s at ≡ record { numbers = take i numbers; end = place }
+  ended : series_at (j - i) s place ≡ ending place → series_at j s at ≡ record { numbers = take i numbers; end = place }
   ended e = x.rest ∙ rw e (ap (λ (l : List ℕ). record { numbers = l; end = place }) (append-nil (take i numbers)))
 
-  pub several-stopped : i < j → nextNumberAt s place ≡ NoNumber → (lent : List ℕ) → length lent ≡ j
+  pub several-stopped : i < j → next_number_at s place ≡ NoNumber → (lent : List ℕ) → length lent ≡ j
       → ReadsSeveral s at lent (record { count = i; end = place }) numbers
   several-stopped h e lent w =
       let q : j - i ≡ suc (j - (i + 1)) = omega arith in
-      let n : seriesAt (j - i) s place ≡ ending place = rw (q, e) in
+      let n : series_at (j - i) s place ≡ ending place = rw (q, e) in
       record { read = rw w (ended n); within = omega (arith, w); whole = x.whole ∙ sym w }
 
-  pub several-full : j ≤ i → (lent : List ℕ) → length lent ≡ j → ReadsSeveral s at lent (record { count = i; end = place }) numbers
-  several-full h lent w =
+  pub several_full : j ≤ i → (lent : List ℕ) → length lent ≡ j → ReadsSeveral s at lent (record { count = i; end = place }) numbers
+  several_full h lent w =
       let q : j - i ≡ 0 = omega arith in
-      let n : seriesAt (j - i) s place ≡ ending place = rw q in
+      let n : series_at (j - i) s place ≡ ending place = rw q in
       record { read = rw w (ended n); within = omega (arith, w, x.most); whole = x.whole ∙ sym w }
 
 -- ---- what was read

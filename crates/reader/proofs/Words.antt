@@ -11,7 +11,7 @@ use borrow.Author.Tests.{le-ltb, eq-eqb}
 use Rattle.base.specs.Tests.{T-left, T-right, by_cond}
 use Rattle.reader.specs.declared.After.{After}
 use Rattle.reader.specs.declared.After.TheVariants.{At, Away}
-use Rattle.reader.specs.Scan.{starts, afterWord, on_after}
+use Rattle.reader.specs.Scan.{starts, after_word, on_after}
 
 -- ---- a word that is read stands there
 
@@ -25,8 +25,8 @@ abbrev pub Behind : List ℕ → ℕ → List ℕ → After → Type 0
 Behind s at w (At k) = drop at s ≡ w ++ drop k s
 Behind s at w Away = Unit {0}
 
-pub word-only : (s : List ℕ) (at : ℕ) (w : List ℕ) → Behind s at w (afterWord s at w)
-unfolding afterWord
+pub word-only : (s : List ℕ) (at : ℕ) (w : List ℕ) → Behind s at w (after_word s at w)
+unfolding after_word
 word-only s at w =
     by_cond (Behind s at w) (ltb (length s) at) Away (cond (starts (drop at s) w) (At (at + length w)) Away) (λ _. tt)
     (λ _. by_cond (Behind s at w) (starts (drop at s) w) (At (at + length w)) Away
@@ -34,8 +34,8 @@ word-only s at w =
 
 -- what holds of what comes after the word, wherever it stands, and of what comes without it
 pub by_word : {A : Type 0} (P : A → Type 0) (s : List ℕ) (at : ℕ) (w : List ℕ) (f : ℕ → A) (z : A)
-    → ((k : ℕ) → drop at s ≡ w ++ drop k s → P (f k)) → P z → P (on_after (afterWord s at w) f z)
-by_word P s at w f z g h = go (afterWord s at w) (word-only s at w)
+    → ((k : ℕ) → drop at s ≡ w ++ drop k s → P (f k)) → P z → P (on_after (after_word s at w) f z)
+by_word P s at w f z g h = go (after_word s at w) (word-only s at w)
   where
     go : (x : After) → Behind s at w x → P (on_after x f z)
     go (At k) e = g k e
@@ -67,12 +67,12 @@ starts-word [] r = refl
 starts-word (c ∷ w) r = rw (eq-eqb c c refl) (starts-word w r)
 
 pub word-there : {A : Type 0} (P : A → Type 0) (s : List ℕ) (at : ℕ) (w : List ℕ) (f : ℕ → A) (z : A) (r : List ℕ)
-    → Left s at (w ++ r) → ((k : ℕ) → Left s k r → P (f k)) → P (on_after (afterWord s at w) f z)
-unfolding afterWord
+    → Left s at (w ++ r) → ((k : ℕ) → Left s k r → P (f k)) → P (on_after (after_word s at w) f z)
+unfolding after_word
 word-there P s at w f z r h g = rw (le-ltb (length s) at h.within, h.bytes, starts-word w r) (g (at + length w) (left_after s w r at h))
 
 -- another word is not
 pub word-away : {A : Type 0} (P : A → Type 0) (s : List ℕ) (at : ℕ) (w : List ℕ) (f : ℕ → A) (z : A) (r : List ℕ)
-    → Left s at r → starts r w ≡ false → P z → P (on_after (afterWord s at w) f z)
-unfolding afterWord
+    → Left s at r → starts r w ≡ false → P z → P (on_after (after_word s at w) f z)
+unfolding after_word
 word-away P s at w f z r h q g = rw (le-ltb (length s) at h.within, h.bytes, q) g

@@ -1,24 +1,24 @@
 -- Bytes classed by digit range, bracket and blank; runs of digits.
 use Rattle.std.specs.Prelude.{ℕ, ◌+◌, ◌-◌, ◌*◌, Bool, ◌&&◌, cond, List, [], ◌∷◌, length, get_or, eqb, leb, ltb}
 use Rattle.lines.specs.Decimal.{digit}
-use Rattle.lines.specs.Forms.{openByte, closeByte, blankByte}
+use Rattle.lines.specs.Forms.{open_byte, close_byte, blank_byte}
 use Rattle.reader.specs.declared.Class.{Class}
 use Rattle.reader.specs.declared.Class.TheVariants.{Digit, OpenBracket, CloseBracket, Blank, Other}
 
-abbrev pub isDigit : ℕ → Bool
-isDigit b = leb (digit 0) b && leb b (digit 9)
+abbrev pub is_digit : ℕ → Bool
+is_digit b = leb (digit 0) b && leb b (digit 9)
 
 unfoldable pub class_of : ℕ → Class
-class_of b = cond (isDigit b) (Digit (b - digit 0)) (cond (eqb b openByte) OpenBracket (cond (eqb b closeByte) CloseBracket (cond (eqb b blankByte) Blank Other)))
+class_of b = cond (is_digit b) (Digit (b - digit 0)) (cond (eqb b open_byte) OpenBracket (cond (eqb b close_byte) CloseBracket (cond (eqb b blank_byte) Blank Other)))
 
 -- and beyond the end none of these
 unfoldable pub class_at : List ℕ → ℕ → Class
 class_at s i = cond (ltb i (length s)) (class_of (get_or s i 0)) Other
 
 -- the digits at the start of s
-abbrev pub digitRun : List ℕ → List ℕ
-digitRun [] = []
-digitRun (b ∷ s) = cond (isDigit b) (b ∷ digitRun s) []
+abbrev pub digit_run : List ℕ → List ℕ
+digit_run [] = []
+digit_run (b ∷ s) = cond (is_digit b) (b ∷ digit_run s) []
 
 -- the number that digits spell after a number that stands before them
 abbrev pub spelled : ℕ → List ℕ → ℕ

@@ -1,15 +1,15 @@
 -- A whole text that is one number, and what reading it owes.
 use Rattle.std.specs.Prelude.{ℕ, ◌<◌, ◌≡◌, cond, List, length, eqb}
-use Rattle.lines.specs.Decimal.{decimal, fieldLimit}
+use Rattle.lines.specs.Decimal.{decimal, field_limit}
 use Rattle.reader.specs.declared.Decimal.{Decimal}
 use Rattle.reader.specs.declared.Decimal.TheVariants.{Is, NoDecimal}
-use Rattle.reader.specs.Scan.{onNumber, number_at}
+use Rattle.reader.specs.Scan.{on_number, number_at}
 
 -- the number at the start, if the text ends behind it
-unfoldable pub decimalOf : List ℕ → Decimal
-decimalOf s = onNumber (number_at s 0) (λ n k. cond (eqb k (length s)) (Is n) NoDecimal) NoDecimal
+unfoldable pub decimal_of : List ℕ → Decimal
+decimal_of s = on_number (number_at s 0) (λ n k. cond (eqb k (length s)) (Is n) NoDecimal) NoDecimal
 
 -- that the text s is read as r: a number exactly where the text is its decimal, "without leading zeros, below 2^64"
 pub record ReadsDecimal (s : List ℕ) (r : Decimal) : Type 0 where
-  pub number : (n : ℕ) → r ≡ Is n → (n < fieldLimit) × (s ≡ decimal n)
-  pub number-form : (n : ℕ) → n < fieldLimit → s ≡ decimal n → r ≡ Is n
+  pub number : (n : ℕ) → r ≡ Is n → (n < field_limit) × (s ≡ decimal n)
+  pub number_form : (n : ℕ) → n < field_limit → s ≡ decimal n → r ≡ Is n

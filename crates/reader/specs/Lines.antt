@@ -6,14 +6,14 @@ use Rattle.types.specs.declared.Message.TheVariants.{View, Vote, Vc, Qc}
 use Rattle.types.specs.declared.Event.{Event}
 use Rattle.types.specs.declared.Event.TheVariants.{Deliver, Sign, Show, Settle, Tick}
 use Rattle.types.specs.declared.Setup.{Setup}
-use Rattle.types.specs.Quantities.{nMost, tableClocks}
-use Rattle.types.specs.Runs.{planIn, usualPlanIn}
-use Rattle.types.specs.Messages.{lacksForm}
+use Rattle.types.specs.Quantities.{n_most, table_clocks}
+use Rattle.types.specs.Runs.{plan_in, usual_plan_in}
+use Rattle.types.specs.Messages.{lacks_form}
 use Rattle.lines.specs.declared.Read.{Read}
 use Rattle.lines.specs.declared.Read.TheVariants as Read
 use Rattle.lines.specs.declared.Read.TheVariants.{NoForm}
-use Rattle.lines.specs.Forms.{openBracket, closeBracket, oneBlank, openWord, deliverWord, sign_word, showWord, settleWord, tickWord, viewWord, voteWord, vcWord, qcWord}
-use Rattle.lines.specs.Contracts.{Reading, readAs, noSetup, eventReading, openingReading, noForm}
+use Rattle.lines.specs.Forms.{open_bracket, close_bracket, one_blank, open_word, deliver_word, sign_word, show_word, settle_word, tick_word, view_word, vote_word, vc_word, qc_word}
+use Rattle.lines.specs.Clauses.{Reading, read_as, no_setup, event_reading, opening_reading, no_form}
 use Rattle.reader.specs.declared.After.{After}
 use Rattle.reader.specs.declared.After.TheVariants.{At, Away}
 use Rattle.reader.specs.declared.Number.{Number}
@@ -27,147 +27,147 @@ use Rattle.reader.specs.declared.Said.TheVariants.{Told, NoMessage}
 use Rattle.reader.specs.declared.Heading.{Heading}
 use Rattle.reader.specs.declared.Heading.TheVariants.{Parameters, NoHeading}
 use Rattle.reader.specs.declared.Table.{Table}
-use Rattle.reader.specs.Scan.{afterWord, number_at, on_after, onNumber, nextNumberAt, Series, seriesAt}
+use Rattle.reader.specs.Scan.{after_word, number_at, on_after, on_number, next_number_at, Series, series_at}
 
 -- ---- "(view w p)", and so for vote, vc, qc
 
 -- the kind whose word stands at the place, and the place after it
-unfoldable pub kindFoundAt : List ℕ → ℕ → KindFound
-kindFoundAt s at =
-    on_after (afterWord s at viewWord) (Is Kind.View)
-    (on_after (afterWord s at voteWord) (Is Kind.Vote)
-    (on_after (afterWord s at vcWord) (Is Kind.Vc)
-    (on_after (afterWord s at qcWord) (Is Kind.Qc) NoKind)))
+unfoldable pub kind_found_at : List ℕ → ℕ → KindFound
+kind_found_at s at =
+    on_after (after_word s at view_word) (Is Kind.View)
+    (on_after (after_word s at vote_word) (Is Kind.Vote)
+    (on_after (after_word s at vc_word) (Is Kind.Vc)
+    (on_after (after_word s at qc_word) (Is Kind.Qc) NoKind)))
 
-abbrev pub messageOf : Kind → ℕ → ℕ → Message
-messageOf Kind.View w p = View w p
-messageOf Kind.Vote w p = Vote w p
-messageOf Kind.Vc w p = Vc w p
-messageOf Kind.Qc w p = Qc w p
+abbrev pub message_of : Kind → ℕ → ℕ → Message
+message_of Kind.View w p = View w p
+message_of Kind.Vote w p = Vote w p
+message_of Kind.Vc w p = Vc w p
+message_of Kind.Qc w p = Qc w p
 
 -- " w p)"
 abbrev pub pair_at : List ℕ → Kind → ℕ → Said
 pair_at s k a =
-    onNumber (nextNumberAt s a)
-    (λ w b. onNumber (nextNumberAt s b) (λ p c. on_after (afterWord s c closeBracket) (Told (messageOf k w p)) NoMessage) NoMessage) NoMessage
+    on_number (next_number_at s a)
+    (λ w b. on_number (next_number_at s b) (λ p c. on_after (after_word s c close_bracket) (Told (message_of k w p)) NoMessage) NoMessage) NoMessage
 
-abbrev pub saidKind : List ℕ → KindFound → Said
-saidKind s (Is k a) = pair_at s k a
-saidKind s NoKind = NoMessage
+abbrev pub said_kind : List ℕ → KindFound → Said
+said_kind s (Is k a) = pair_at s k a
+said_kind s NoKind = NoMessage
 
 -- the message behind a blank, and the place after it
-unfoldable pub messageAt : List ℕ → ℕ → Said
-messageAt s at = on_after (afterWord s at oneBlank) (λ a. on_after (afterWord s a openBracket) (λ b. saidKind s (kindFoundAt s b)) NoMessage) NoMessage
+unfoldable pub message_at : List ℕ → ℕ → Said
+message_at s at = on_after (after_word s at one_blank) (λ a. on_after (after_word s a open_bracket) (λ b. said_kind s (kind_found_at s b)) NoMessage) NoMessage
 
 -- ---- the events
 
 -- the event, if it has this form and the line ends behind a bracket at the place
-unfoldable pub endingAt : List ℕ → ℕ → Event → Read
-endingAt s at e = on_after (afterWord s at closeBracket) (λ k. cond (eqb k (length s)) (cond (lacksForm e) NoForm (Read.Event e)) NoForm) NoForm
+unfoldable pub ending_at : List ℕ → ℕ → Event → Read
+ending_at s at e = on_after (after_word s at close_bracket) (λ k. cond (eqb k (length s)) (cond (lacks_form e) NoForm (Read.Event e)) NoForm) NoForm
 
 -- " (view w p))" behind the word of an event that carries a message
-abbrev pub endingSaid : List ℕ → (Message → Event) → Said → Read
-endingSaid s make (Told m k) = endingAt s k (make m)
-endingSaid s make NoMessage = NoForm
+abbrev pub ending_said : List ℕ → (Message → Event) → Said → Read
+ending_said s make (Told m k) = ending_at s k (make m)
+ending_said s make NoMessage = NoForm
 
-unfoldable pub deliverAt : List ℕ → ℕ → Read
-deliverAt s at = endingSaid s Deliver (messageAt s at)
+unfoldable pub deliver_at : List ℕ → ℕ → Read
+deliver_at s at = ending_said s Deliver (message_at s at)
 
-unfoldable pub signAt : List ℕ → ℕ → Read
-signAt s at = endingSaid s Sign (messageAt s at)
+unfoldable pub sign_at : List ℕ → ℕ → Read
+sign_at s at = ending_said s Sign (message_at s at)
 
-unfoldable pub showAt : List ℕ → ℕ → Read
-showAt s at = endingSaid s Show (messageAt s at)
+unfoldable pub show_at : List ℕ → ℕ → Read
+show_at s at = ending_said s Show (message_at s at)
 
 -- " m", and the bracket behind it
-unfoldable pub ticksAt : List ℕ → ℕ → Read
-ticksAt s at = onNumber (nextNumberAt s at) (λ m k. endingAt s k (Tick m)) NoForm
+unfoldable pub ticks_at : List ℕ → ℕ → Read
+ticks_at s at = on_number (next_number_at s at) (λ m k. ending_at s k (Tick m)) NoForm
 
 -- by the word behind the first bracket
-unfoldable pub eventAt : List ℕ → ℕ → Read
-eventAt s at =
-    on_after (afterWord s at deliverWord) (deliverAt s)
-    (on_after (afterWord s at tickWord) (ticksAt s)
-    (on_after (afterWord s at sign_word) (signAt s)
-    (on_after (afterWord s at showWord) (showAt s)
-    (on_after (afterWord s at settleWord) (λ a. endingAt s a Settle) NoForm))))
+unfoldable pub event_at : List ℕ → ℕ → Read
+event_at s at =
+    on_after (after_word s at deliver_word) (deliver_at s)
+    (on_after (after_word s at tick_word) (ticks_at s)
+    (on_after (after_word s at sign_word) (sign_at s)
+    (on_after (after_word s at show_word) (show_at s)
+    (on_after (after_word s at settle_word) (λ a. ending_at s a Settle) NoForm))))
 
 -- ---- the opening
 
 -- "n Δ Γ V mask" with k "after V": which numbers stand before the table, their count tells
-abbrev pub headingMost : ℕ
-headingMost = 6
+abbrev pub heading_most : ℕ
+heading_most = 6
 
 -- those of an "opening line without it"
-abbrev pub headingUsual : ℕ
-headingUsual = 5
+abbrev pub heading_usual : ℕ
+heading_usual = 5
 
 -- the mask comes last; "any opening line without it is read as k=3"
-abbrev pub headingSeries : Series → Heading
-headingSeries x =
+abbrev pub heading_series : Series → Heading
+heading_series x =
     let ns = x.numbers in
-    cond (eqb (length ns) headingMost) (Parameters (planIn ns) (get_or ns 5 0) x.end)
-    (cond (eqb (length ns) headingUsual) (Parameters (usualPlanIn ns) (get_or ns 4 0) x.end) NoHeading)
+    cond (eqb (length ns) heading_most) (Parameters (plan_in ns) (get_or ns 5 0) x.end)
+    (cond (eqb (length ns) heading_usual) (Parameters (usual_plan_in ns) (get_or ns 4 0) x.end) NoHeading)
 
-unfoldable pub headingAt : List ℕ → ℕ → Heading
-headingAt s at = headingSeries (seriesAt headingMost s at)
+unfoldable pub heading_at : List ℕ → ℕ → Heading
+heading_at s at = heading_series (series_at heading_most s at)
 
 -- " (c0"
-unfoldable pub firstClockAt : List ℕ → ℕ → Number
-firstClockAt s at = on_after (afterWord s at oneBlank) (λ a. on_after (afterWord s a openBracket) (number_at s) NoNumber) NoNumber
+unfoldable pub first_clock_at : List ℕ → ℕ → Number
+first_clock_at s at = on_after (after_word s at one_blank) (λ a. on_after (after_word s a open_bracket) (number_at s) NoNumber) NoNumber
 
 -- "))"
-unfoldable pub tableEndAt : List ℕ → ℕ → After
-tableEndAt s at = on_after (afterWord s at closeBracket) (λ a. afterWord s a closeBracket) Away
+unfoldable pub table_end_at : List ℕ → ℕ → After
+table_end_at s at = on_after (after_word s at close_bracket) (λ a. after_word s a close_bracket) Away
 
-abbrev pub noTable : Table
-noTable = record { end = Away; clocks = replicate tableClocks 0 }
+abbrev pub no_table : Table
+no_table = record { end = Away; clocks = replicate table_clocks 0 }
 
 -- the clocks read, and 0 behind them
 abbrev pub table_of : List ℕ → ℕ → Table
-table_of cs k = record { end = At k; clocks = cs ++ replicate (tableClocks - length cs) 0 }
+table_of cs k = record { end = At k; clocks = cs ++ replicate (table_clocks - length cs) 0 }
 
 -- behind the first of n clocks, c: the others and the brackets
-abbrev pub tableSeries : List ℕ → ℕ → ℕ → Series → Table
-tableSeries s n c x = cond (eqb (length x.numbers) (n - 1)) (on_after (tableEndAt s x.end) (table_of (c ∷ x.numbers)) noTable) noTable
+abbrev pub table_series : List ℕ → ℕ → ℕ → Series → Table
+table_series s n c x = cond (eqb (length x.numbers) (n - 1)) (on_after (table_end_at s x.end) (table_of (c ∷ x.numbers)) no_table) no_table
 
 -- " (c0 c1 ..))", n clocks from 1
 unfoldable pub table_at : List ℕ → ℕ → ℕ → Table
-table_at s at n = onNumber (firstClockAt s at) (λ c k. tableSeries s n c (seriesAt (n - 1) s k)) noTable
+table_at s at n = on_number (first_clock_at s at) (λ c k. table_series s n c (series_at (n - 1) s k)) no_table
 
 -- the opening, if the line ends behind its table
-abbrev pub endingTable : List ℕ → Plan → ℕ → Table → Reading
-endingTable s plan faulty t =
-    on_after t.end (λ k. cond (eqb k (length s)) (openingReading (record { plan = plan; faulty = faulty; clocks = t.clocks })) noForm) noForm
+abbrev pub ending_table : List ℕ → Plan → ℕ → Table → Reading
+ending_table s plan faulty t =
+    on_after t.end (λ k. cond (eqb k (length s)) (opening_reading (record { plan = plan; faulty = faulty; clocks = t.clocks })) no_form) no_form
 
-abbrev pub endingHeading : List ℕ → Heading → Reading
-endingHeading s (Parameters plan faulty k) =
-    cond (eqb plan.n 0) noForm (cond (ltb nMost plan.n) noForm (endingTable s plan faulty (table_at s k plan.n)))
-endingHeading s NoHeading = noForm
+abbrev pub ending_heading : List ℕ → Heading → Reading
+ending_heading s (Parameters plan faulty k) =
+    cond (eqb plan.n 0) no_form (cond (ltb n_most plan.n) no_form (ending_table s plan faulty (table_at s k plan.n)))
+ending_heading s NoHeading = no_form
 
 -- behind the word
-unfoldable pub openingAt : List ℕ → ℕ → Reading
-openingAt s at = endingHeading s (headingAt s at)
+unfoldable pub opening_at : List ℕ → ℕ → Reading
+opening_at s at = ending_heading s (heading_at s at)
 
 -- ---- a line
 
 unfoldable pub reading : List ℕ → Reading
 reading s =
-    on_after (afterWord s 0 openBracket)
-    (λ a. on_after (afterWord s a openWord) (openingAt s) (readAs (eventAt s a) noSetup))
-    noForm
+    on_after (after_word s 0 open_bracket)
+    (λ a. on_after (after_word s a open_word) (opening_at s) (read_as (event_at s a) no_setup))
+    no_form
 
 -- ---- a line skimmed: one that begins as an opening does is taken for one, whatever comes behind; any other is read
 
 unfoldable pub skimmed : List ℕ → Read
-skimmed s = on_after (afterWord s 0 openBracket) (λ a. on_after (afterWord s a openWord) (λ b. Read.Opening) (eventAt s a)) NoForm
+skimmed s = on_after (after_word s 0 open_bracket) (λ a. on_after (after_word s a open_word) (λ b. Read.Opening) (event_at s a)) NoForm
 
 -- what such a line is read as, its setup tells: no opening is of 0 processors
-abbrev pub openingOr : Setup → Reading
-openingOr u = cond (eqb u.plan.n 0) noForm (openingReading u)
+abbrev pub opening_or : Setup → Reading
+opening_or u = cond (eqb u.plan.n 0) no_form (opening_reading u)
 
 -- what is read of any line, by what it is skimmed as and its setup
-abbrev pub skimmedReading : Read → Setup → Reading
-skimmedReading (Read.Event e) u = eventReading e
-skimmedReading Read.Opening u = openingOr u
-skimmedReading Read.NoForm u = noForm
+abbrev pub skimmed_reading : Read → Setup → Reading
+skimmed_reading (Read.Event e) u = event_reading e
+skimmed_reading Read.Opening u = opening_or u
+skimmed_reading Read.NoForm u = no_form

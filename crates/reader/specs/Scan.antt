@@ -1,13 +1,13 @@
 -- Reading at a place of a line: a word, a number, numbers in a series.
 use Rattle.std.specs.Prelude.{ℕ, zero, suc, ◌+◌, ◌≤◌, ◌≡◌, Bool, true, false, ◌&&◌, cond, List, [], ◌∷◌, length, take, drop, eqb, ltb}
-use Rattle.lines.specs.Decimal.{digit, fieldLimit}
-use Rattle.lines.specs.Forms.{oneBlank}
+use Rattle.lines.specs.Decimal.{digit, field_limit}
+use Rattle.lines.specs.Forms.{one_blank}
 use Rattle.reader.specs.declared.After.{After}
 use Rattle.reader.specs.declared.After.TheVariants.{At, Away}
 use Rattle.reader.specs.declared.Number.{Number}
 use Rattle.reader.specs.declared.Number.TheVariants.{Value, NoNumber}
 use Rattle.reader.specs.declared.Several.{Several}
-use Rattle.reader.specs.Bytes.{digitRun, spelled}
+use Rattle.reader.specs.Bytes.{digit_run, spelled}
 
 -- ---- a word
 
@@ -18,13 +18,13 @@ starts [] (c ∷ w) = false
 starts (b ∷ s) (c ∷ w) = eqb b c && starts s w
 
 -- the place after w, if w stands at the place and the line reaches so far
-unfoldable pub afterWord : List ℕ → ℕ → List ℕ → After
-afterWord s at w = cond (ltb (length s) at) Away (cond (starts (drop at s) w) (At (at + length w)) Away)
+unfoldable pub after_word : List ℕ → ℕ → List ℕ → After
+after_word s at w = cond (ltb (length s) at) Away (cond (starts (drop at s) w) (At (at + length w)) Away)
 
 -- ---- a number
 
 abbrev pub fitting : ℕ → ℕ → Number
-fitting v k = cond (ltb v fieldLimit) (Value v k) NoNumber
+fitting v k = cond (ltb v field_limit) (Value v k) NoNumber
 
 -- what digits say that end before place k: "decimal without leading zeros, below 2^64"
 abbrev pub numeral : List ℕ → ℕ → Number
@@ -33,19 +33,19 @@ numeral (b ∷ l) k = cond (eqb b (digit 0)) (cond (eqb (length l) 0) (Value 0 k
 
 -- the number at a place, and the place after it
 unfoldable pub number_at : List ℕ → ℕ → Number
-number_at s at = numeral (digitRun (drop at s)) (at + length (digitRun (drop at s)))
+number_at s at = numeral (digit_run (drop at s)) (at + length (digit_run (drop at s)))
 
 abbrev pub on_after : {A : Type 0} → After → (ℕ → A) → A → A
 on_after (At k) f z = f k
 on_after Away f z = z
 
-abbrev pub onNumber : {A : Type 0} → Number → (ℕ → ℕ → A) → A → A
-onNumber (Value n k) f z = f n k
-onNumber NoNumber f z = z
+abbrev pub on_number : {A : Type 0} → Number → (ℕ → ℕ → A) → A → A
+on_number (Value n k) f z = f n k
+on_number NoNumber f z = z
 
 -- a blank and a number
-unfoldable pub nextNumberAt : List ℕ → ℕ → Number
-nextNumberAt s at = on_after (afterWord s at oneBlank) (number_at s) NoNumber
+unfoldable pub next_number_at : List ℕ → ℕ → Number
+next_number_at s at = on_after (after_word s at one_blank) (number_at s) NoNumber
 
 -- ---- numbers in a series
 
@@ -61,12 +61,12 @@ abbrev pub following : ℕ → Series → Series
 following n x = record { numbers = n ∷ x.numbers; end = x.end }
 
 -- as many as stand at the place, each behind a blank, but j at most
-abbrev pub seriesAt : ℕ → List ℕ → ℕ → Series
-seriesAt zero s at = ending at
-seriesAt (suc j) s at = onNumber (nextNumberAt s at) (λ n k. following n (seriesAt j s k)) (ending at)
+abbrev pub series_at : ℕ → List ℕ → ℕ → Series
+series_at zero s at = ending at
+series_at (suc j) s at = on_number (next_number_at s at) (λ n k. following n (series_at j s k)) (ending at)
 
 -- that they were read into the words lent, as many at most as these are
 pub record ReadsSeveral (s : List ℕ) (at : ℕ) (lent : List ℕ) (r : Several) (after : List ℕ) : Type 0 where
-  pub read : seriesAt (length lent) s at ≡ record { numbers = take r.count after; end = r.end }
+  pub read : series_at (length lent) s at ≡ record { numbers = take r.count after; end = r.end }
   pub within : r.count ≤ length lent
   pub whole : length after ≡ length lent

@@ -1,13 +1,13 @@
 // Reading one line of a schedule: any bytes in, the event, that it is an opening or none of the forms; and an opening's setup.
 ghost use Rattle.std.specs.Prelude.{◌≡◌, ◌+◌, ◌-◌, ◌/◌, ◌≤◌, length, drop};
-ghost use Rattle.types.specs.Quantities.{nMost};
-ghost use Rattle.lines.specs.Decimal.{fieldLimit};
-ghost use Rattle.lines.specs.Forms.{openBracket, closeBracket, oneBlank};
-ghost use Rattle.lines.specs.Contracts.{noSetup, Reads};
-ghost use Rattle.reader.specs.Bytes.{class_of, class_at, digitRun, spelled};
-ghost use Rattle.reader.specs.Scan.{afterWord, fitting, number_at, nextNumberAt, ReadsSeveral};
-ghost use Rattle.reader.specs.Decimals.{decimalOf, ReadsDecimal};
-ghost use Rattle.reader.specs.Lines.{kindFoundAt, messageOf, saidKind, messageAt, endingAt, deliverAt, signAt, showAt, ticksAt, eventAt, headingAt, firstClockAt, tableEndAt, noTable, table_at, openingAt, reading, skimmed};
+ghost use Rattle.types.specs.Quantities.{n_most};
+ghost use Rattle.lines.specs.Decimal.{field_limit};
+ghost use Rattle.lines.specs.Forms.{open_bracket, close_bracket, one_blank};
+ghost use Rattle.lines.specs.Clauses.{no_setup, Reads};
+ghost use Rattle.reader.specs.Bytes.{class_of, class_at, digit_run, spelled};
+ghost use Rattle.reader.specs.Scan.{after_word, fitting, number_at, next_number_at, ReadsSeveral};
+ghost use Rattle.reader.specs.Decimals.{decimal_of, ReadsDecimal};
+ghost use Rattle.reader.specs.Lines.{kind_found_at, message_of, said_kind, message_at, ending_at, deliver_at, sign_at, show_at, ticks_at, event_at, heading_at, first_clock_at, table_end_at, no_table, table_at, opening_at, reading, skimmed};
 
 use lines::Read;
 use types::{Event, Message, Plan, Setup};
@@ -62,7 +62,7 @@ enum After {
 }
 
 fn after_open_bracket(s: &[u8], at: usize) -> After
-    ensures { result ≡ afterWord s.now at openBracket }
+    ensures { result ≡ after_word s.now at open_bracket }
 {
     let Class::OpenBracket = class_at(s, at) else {
         return After::Away;
@@ -71,7 +71,7 @@ fn after_open_bracket(s: &[u8], at: usize) -> After
 }
 
 fn after_close_bracket(s: &[u8], at: usize) -> After
-    ensures { result ≡ afterWord s.now at closeBracket }
+    ensures { result ≡ after_word s.now at close_bracket }
 {
     let Class::CloseBracket = class_at(s, at) else {
         return After::Away;
@@ -80,7 +80,7 @@ fn after_close_bracket(s: &[u8], at: usize) -> After
 }
 
 fn after_blank(s: &[u8], at: usize) -> After
-    ensures { result ≡ afterWord s.now at oneBlank }
+    ensures { result ≡ after_word s.now at one_blank }
 {
     let Class::Blank = class_at(s, at) else {
         return After::Away;
@@ -90,7 +90,7 @@ fn after_blank(s: &[u8], at: usize) -> After
 
 // The place after the word, if it stands there.
 fn after_word(s: &[u8], at: usize, word: &[u8]) -> After
-    ensures { result ≡ afterWord s.now at word.now }
+    ensures { result ≡ after_word s.now at word.now }
 {
     if s.len() < at {
         return After::Away;
@@ -121,7 +121,7 @@ enum Number {
 // The most behind which a digit may stand, so that the number is below 2^64. It has no division: it is asked for every digit.
 fn most_before(d: u64) -> u64
     requires { d ≤ 9 }
-    ensures { result ≡ (fieldLimit - 1 - d) / 10 }
+    ensures { result ≡ (field_limit - 1 - d) / 10 }
 {
     if 5 < d {
         return 1844674407370955160;
@@ -131,7 +131,7 @@ fn most_before(d: u64) -> u64
 
 // The number that the digits from a place on spell after v, which stands before them.
 fn further_digits(s: &[u8], at: usize, v: u64) -> Number
-    ensures { result ≡ fitting (spelled v (digitRun (drop at s.now))) (at + length (digitRun (drop at s.now))) }
+    ensures { result ≡ fitting (spelled v (digit_run (drop at s.now))) (at + length (digit_run (drop at s.now))) }
 {
     let mut value = v;
     let mut i = at;
@@ -166,7 +166,7 @@ fn read_number(s: &[u8], at: usize) -> Number
 
 // A blank and a number.
 fn next_number(s: &[u8], at: usize) -> Number
-    ensures { result ≡ nextNumberAt s.now at }
+    ensures { result ≡ next_number_at s.now at }
 {
     let After::At(a) = after_blank(s, at) else {
         return Number::NoNumber;
@@ -229,7 +229,7 @@ enum Said {
 }
 
 fn read_kind(s: &[u8], at: usize) -> KindFound
-    ensures { result ≡ kindFoundAt s.now at }
+    ensures { result ≡ kind_found_at s.now at }
 {
     if let After::At(a) = after_word(s, at, b"view") {
         return KindFound::Is(Kind::View, a);
@@ -247,7 +247,7 @@ fn read_kind(s: &[u8], at: usize) -> KindFound
 }
 
 fn make(kind: Kind, w: u64, p: u64) -> Message
-    ensures { result ≡ messageOf kind w p }
+    ensures { result ≡ message_of kind w p }
 {
     match kind {
         Kind::View => Message::View(w, p),
@@ -259,7 +259,7 @@ fn make(kind: Kind, w: u64, p: u64) -> Message
 
 // Behind the bracket: kind, view, processor and the closing bracket.
 fn read_inside(s: &[u8], at: usize) -> Said
-    ensures { result ≡ saidKind s.now (kindFoundAt s.now at) }
+    ensures { result ≡ said_kind s.now (kind_found_at s.now at) }
 {
     let KindFound::Is(kind, a) = read_kind(s, at) else {
         return Said::NoMessage;
@@ -278,7 +278,7 @@ fn read_inside(s: &[u8], at: usize) -> Said
 
 // A blank and a message.
 fn read_message(s: &[u8], at: usize) -> Said
-    ensures { result ≡ messageAt s.now at }
+    ensures { result ≡ message_at s.now at }
 {
     let After::At(a) = after_blank(s, at) else {
         return Said::NoMessage;
@@ -293,7 +293,7 @@ fn read_message(s: &[u8], at: usize) -> Said
 
 // The event, if it has this form and the line ends behind a bracket at the place.
 fn ending(s: &[u8], at: usize, event: Event) -> Read
-    ensures { result ≡ endingAt s.now at event }
+    ensures { result ≡ ending_at s.now at event }
 {
     let After::At(k) = after_close_bracket(s, at) else {
         return Read::NoForm;
@@ -308,7 +308,7 @@ fn ending(s: &[u8], at: usize, event: Event) -> Read
 }
 
 fn read_deliver(s: &[u8], at: usize) -> Read
-    ensures { result ≡ deliverAt s.now at }
+    ensures { result ≡ deliver_at s.now at }
 {
     let Said::Told(m, k) = read_message(s, at) else {
         return Read::NoForm;
@@ -317,7 +317,7 @@ fn read_deliver(s: &[u8], at: usize) -> Read
 }
 
 fn read_sign(s: &[u8], at: usize) -> Read
-    ensures { result ≡ signAt s.now at }
+    ensures { result ≡ sign_at s.now at }
 {
     let Said::Told(m, k) = read_message(s, at) else {
         return Read::NoForm;
@@ -326,7 +326,7 @@ fn read_sign(s: &[u8], at: usize) -> Read
 }
 
 fn read_show(s: &[u8], at: usize) -> Read
-    ensures { result ≡ showAt s.now at }
+    ensures { result ≡ show_at s.now at }
 {
     let Said::Told(m, k) = read_message(s, at) else {
         return Read::NoForm;
@@ -335,7 +335,7 @@ fn read_show(s: &[u8], at: usize) -> Read
 }
 
 fn read_tick(s: &[u8], at: usize) -> Read
-    ensures { result ≡ ticksAt s.now at }
+    ensures { result ≡ ticks_at s.now at }
 {
     let Number::Value(m, k) = next_number(s, at) else {
         return Read::NoForm;
@@ -345,7 +345,7 @@ fn read_tick(s: &[u8], at: usize) -> Read
 
 // By the word behind the first bracket.
 fn read_event(s: &[u8], at: usize) -> Read
-    ensures { result ≡ eventAt s.now at }
+    ensures { result ≡ event_at s.now at }
 {
     if let After::At(a) = after_word(s, at, b"deliver") {
         return read_deliver(s, a);
@@ -383,7 +383,7 @@ struct Table {
 
 // The numbers before the table: which they are, their count tells, six with k and five without it.
 fn read_heading(s: &[u8], at: usize) -> Heading
-    ensures { result ≡ headingAt s.now at }
+    ensures { result ≡ heading_at s.now at }
 {
     let mut numbers = [0; 6];
     let several = read_several(s, at, &mut numbers);
@@ -417,7 +417,7 @@ fn read_heading(s: &[u8], at: usize) -> Heading
 
 // A blank, a bracket and a number.
 fn first_clock(s: &[u8], at: usize) -> Number
-    ensures { result ≡ firstClockAt s.now at }
+    ensures { result ≡ first_clock_at s.now at }
 {
     let After::At(a) = after_blank(s, at) else {
         return Number::NoNumber;
@@ -430,7 +430,7 @@ fn first_clock(s: &[u8], at: usize) -> Number
 
 // Two brackets.
 fn table_end(s: &[u8], at: usize) -> After
-    ensures { result ≡ tableEndAt s.now at }
+    ensures { result ≡ table_end_at s.now at }
 {
     let After::At(a) = after_close_bracket(s, at) else {
         return After::Away;
@@ -439,7 +439,7 @@ fn table_end(s: &[u8], at: usize) -> After
 }
 
 fn no_table() -> Table
-    ensures { result ≡ noTable }
+    ensures { result ≡ no_table }
 {
     Table {
         end: After::Away,
@@ -449,7 +449,7 @@ fn no_table() -> Table
 
 // The table of n clocks.
 fn read_table(s: &[u8], at: usize, n: usize) -> Table
-    requires { (1 ≤ n) × (n ≤ nMost) }
+    requires { (1 ≤ n) × (n ≤ n_most) }
     ensures { result ≡ table_at s.now at n }
 {
     let Number::Value(c, a) = first_clock(s, at) else {
@@ -473,7 +473,7 @@ fn read_table(s: &[u8], at: usize, n: usize) -> Table
 // ---- a line
 
 fn no_setup() -> Setup
-    ensures { result ≡ noSetup }
+    ensures { result ≡ no_setup }
 {
     Setup {
         plan: Plan {
@@ -490,7 +490,7 @@ fn no_setup() -> Setup
 
 // The setup behind the word of an opening; 0 everywhere where there is none.
 fn read_opening(s: &[u8], at: usize) -> Setup
-    ensures { result ≡ (openingAt s.now at).setup }
+    ensures { result ≡ (opening_at s.now at).setup }
 {
     let Heading::Parameters(plan, faulty, a) = read_heading(s, at) else {
         return no_setup();
@@ -567,7 +567,7 @@ pub enum Decimal {
 }
 
 fn whole_number(text: &[u8]) -> Decimal
-    ensures { result ≡ decimalOf text.now }
+    ensures { result ≡ decimal_of text.now }
 {
     let Number::Value(n, end) = read_number(text, 0) else {
         return Decimal::NoDecimal;
@@ -580,7 +580,7 @@ fn whole_number(text: &[u8]) -> Decimal
 
 // The number that a text is the decimal of.
 pub fn read_decimal(text: &[u8]) -> Decimal
-    ensures { (result ≡ decimalOf text.now) × ReadsDecimal text.now result }
+    ensures { (result ≡ decimal_of text.now) × ReadsDecimal text.now result }
 {
     whole_number(text)
 }

@@ -18,19 +18,19 @@ use Rattle.types.specs.declared.Form.TheVariants.{Packed}
 use Rattle.types.specs.declared.Sends.{Sends}
 use Rattle.types.specs.declared.Sends.TheVariants.{Nothing}
 use Rattle.types.specs.declared.Input.TheVariants.{Vc as VcIn, Qc as QcIn}
-use Rattle.types.specs.Quantities.{nMost, viewsMost, initial}
-use Rattle.types.specs.Traffic.{trafficSent}
-use Rattle.types.specs.Messages.{viewStage, voteStage, viewIn, processorIn, stageOf, isSignature}
-use Rattle.model.specs.State.{state_of, withHeld, withTraffic, view_of, isCorrect}
-use Rattle.model.specs.Moves.{Change, changed, byView, byQuorum, forms, hearing, handling, made, formedMessages, heardChange}
-use Rattle.model.specs.Checks.{planOutside, noProcessor, no_view, namedOutside, notInitial, reachesEnd}
+use Rattle.types.specs.Quantities.{n_most, views_most, initial}
+use Rattle.types.specs.Traffic.{traffic_sent}
+use Rattle.types.specs.Messages.{view_stage, vote_stage, view_in, processor_in, stage_of, is_signature}
+use Rattle.model.specs.State.{state_of, with_held, with_traffic, view_of, is_correct}
+use Rattle.model.specs.Moves.{Change, changed, by_view, by_quorum, forms, hearing, handling, made, formed_messages, heard_change}
+use Rattle.model.specs.Checks.{plan_outside, no_processor, no_view, named_outside, not_initial, reaches_end}
 use Rattle.liveness.proofs.Answers.{no-yes}
 use Rattle.liveness.proofs.Judging.{named-within}
-use Rattle.model.specs.Processors.{movingBy}
+use Rattle.model.specs.Processors.{moving_by}
 use Rattle.pacemaker.proofs.LimitLaws.{within as limits}
 use Rattle.buffers.specs.Network.{packable, is-sayable}
 use Rattle.simulator.specs.declared.Reaction.{Reaction}
-use Rattle.simulator.specs.Inner.{Posts, AllPackable, sentBy, Reacts, movedChange, changeBy, sentFor, Fit, seat, namedCheck, Decides}
+use Rattle.simulator.specs.Inner.{Posts, AllPackable, sent_by, Reacts, moved_change, change_by, sent_for, Fit, seat, named_check, Decides}
 use Rattle.simulator.proofs.Moving.{moved-taking, stays-below, taking-reaches}
 use Rattle.simulator.proofs.Packing.{none-packs, taking-packs}
 use Rattle.simulator.proofs.Ticking.{state-by}
@@ -39,33 +39,33 @@ use Rattle.simulator.proofs.Ticking.{state-by}
 
 module _ (plan : Plan) (m : Message) where
   abbrev outside : Bool
-  outside = namedOutside plan (processorIn m) (viewIn m)
+  outside = named_outside plan (processor_in m) (view_in m)
 
   abbrev uninitial : Bool
-  uninitial = notInitial plan (stageOf m) (viewIn m)
+  uninitial = not_initial plan (stage_of m) (view_in m)
 
-  pub no-such-processor : (p : ℕ) → p ≡ processorIn m → plan.n ≤ p → 10 ≡ namedCheck plan m
-  no-such-processor p e l = cond_yes outside 10 10 _ (or-first (noProcessor plan (processorIn m)) (no_view plan (viewIn m)) (ap (noProcessor plan) (sym e) ∙ le-leb _ _ l)) refl
+  pub no-such-processor : (p : ℕ) → p ≡ processor_in m → plan.n ≤ p → 10 ≡ named_check plan m
+  no-such-processor p e l = cond_yes outside 10 10 _ (or-first (no_processor plan (processor_in m)) (no_view plan (view_in m)) (ap (no_processor plan) (sym e) ∙ le-leb _ _ l)) refl
 
-  pub no-such-view : (w : ℕ) → w ≡ viewIn m → plan.views ≤ w → 10 ≡ namedCheck plan m
-  no-such-view w e l = cond_yes outside 10 10 _ (or-second (noProcessor plan (processorIn m)) (no_view plan (viewIn m)) (ap (no_view plan) (sym e) ∙ le-leb _ _ l)) refl
+  pub no-such-view : (w : ℕ) → w ≡ view_in m → plan.views ≤ w → 10 ≡ named_check plan m
+  no-such-view w e l = cond_yes outside 10 10 _ (or-second (no_processor plan (processor_in m)) (no_view plan (view_in m)) (ap (no_view plan) (sym e) ∙ le-leb _ _ l)) refl
 
-  module _ (p w : ℕ) (is-p : p ≡ processorIn m) (is-w : w ≡ viewIn m) (p-low : p < plan.n) (w-low : w < plan.views) where
+  module _ (p w : ℕ) (is-p : p ≡ processor_in m) (is-w : w ≡ view_in m) (p-low : p < plan.n) (w-low : w < plan.views) where
     within : outside ≡ false
-    within = or-neither (noProcessor plan (processorIn m)) (no_view plan (viewIn m)) (ap (noProcessor plan) (sym is-p) ∙ lt-leb _ _ p-low)
+    within = or-neither (no_processor plan (processor_in m)) (no_view plan (view_in m)) (ap (no_processor plan) (sym is-p) ∙ lt-leb _ _ p-low)
         (ap (no_view plan) (sym is-w) ∙ lt-leb _ _ w-low)
 
-    pub second-stage : stageOf m ≡ true → 0 ≡ namedCheck plan m
-    second-stage e = cond_no outside 0 10 _ within (cond_no uninitial 0 11 0 (and-not-first (not (stageOf m)) (not (initial plan (viewIn m))) (not_yes _ e)) refl)
+    pub second-stage : stage_of m ≡ true → 0 ≡ named_check plan m
+    second-stage e = cond_no outside 0 10 _ within (cond_no uninitial 0 11 0 (and-not-first (not (stage_of m)) (not (initial plan (view_in m))) (not_yes _ e)) refl)
 
-    pub at-initial : initial plan (viewIn m) ≡ true → 0 ≡ namedCheck plan m
-    at-initial e = cond_no outside 0 10 _ within (cond_no uninitial 0 11 0 (and-not-second (not (stageOf m)) (not (initial plan (viewIn m))) (not_yes _ e)) refl)
+    pub at-initial : initial plan (view_in m) ≡ true → 0 ≡ named_check plan m
+    at-initial e = cond_no outside 0 10 _ within (cond_no uninitial 0 11 0 (and-not-second (not (stage_of m)) (not (initial plan (view_in m))) (not_yes _ e)) refl)
 
-    pub not-at-initial : stageOf m ≡ false → initial plan (viewIn m) ≡ false → 11 ≡ namedCheck plan m
+    pub not-at-initial : stage_of m ≡ false → initial plan (view_in m) ≡ false → 11 ≡ named_check plan m
     not-at-initial e f = cond_no outside 11 10 _ within (cond_yes uninitial 11 11 0 (and_both _ _ (not-no _ e) (not-no _ f)) refl)
 
   -- what passes them
-  pub named-passed : namedCheck plan m ≡ 0 → (outside ≡ false) × (uninitial ≡ false)
+  pub named-passed : named_check plan m ≡ 0 → (outside ≡ false) × (uninitial ≡ false)
   named-passed e = go outside uninitial e
     where
       go : (b c : Bool) → ◌≡◌ {A = ℕ} (cond b 10 (cond c 11 0)) 0 → (b ≡ false) × (c ≡ false)
@@ -73,27 +73,27 @@ module _ (plan : Plan) (m : Message) where
       go false true q = absurd (omega arith)
       go false false q = (refl, refl)
 
-  pub named-low : namedCheck plan m ≡ 0 → (processorIn m < plan.n) × (viewIn m < plan.views)
-  named-low e = named-within plan (processorIn m) (viewIn m) (fails outside (named-passed e).0)
+  pub named-low : named_check plan m ≡ 0 → (processor_in m < plan.n) × (view_in m < plan.views)
+  named-low e = named-within plan (processor_in m) (view_in m) (fails outside (named-passed e).0)
 
 -- the same of a message that is known
-pub named-at : (plan : Plan) (m m' : Message) → m ≡ m' → namedCheck plan m ≡ 0 → (processorIn m' < plan.n) × (viewIn m' < plan.views)
-named-at plan m m' e h = named-low plan m' (ap (namedCheck plan) (sym e) ∙ h)
+pub named-at : (plan : Plan) (m m' : Message) → m ≡ m' → named_check plan m ≡ 0 → (processor_in m' < plan.n) × (view_in m' < plan.views)
+named-at plan m m' e h = named-low plan m' (ap (named_check plan) (sym e) ∙ h)
 
 -- its processor has a place in a table of the run
-pub named-place : (plan : Plan) (m m' : Message) (k : ℕ) → planOutside plan ≡ false → m ≡ m' → namedCheck plan m ≡ 0 → k ≡ 64 → processorIn m' < k
-named-place plan m m' k o e h long = omega (arith, (limits plan o).n-most, (named-at plan m m' e h).0)
+pub named-place : (plan : Plan) (m m' : Message) (k : ℕ) → plan_outside plan ≡ false → m ≡ m' → named_check plan m ≡ 0 → k ≡ 64 → processor_in m' < k
+named-place plan m m' k o e h long = omega (arith, (limits plan o).n_at_most, (named-at plan m m' e h).0)
 
 -- a view certificate that passes them names an initial view
-pub named_small : (plan : Plan) (m m' : Message) → planOutside plan ≡ false → m ≡ m' → namedCheck plan m ≡ 0 → viewIn m' < viewsMost
-named_small plan m m' ok e h = omega (arith, (named-at plan m m' e h).1, (limits plan ok).views-most)
+pub named_small : (plan : Plan) (m m' : Message) → plan_outside plan ≡ false → m ≡ m' → named_check plan m ≡ 0 → view_in m' < views_most
+named_small plan m m' ok e h = omega (arith, (named-at plan m m' e h).1, (limits plan ok).views_at_most)
 
 -- it has a packed word
-pub named-packs : (plan : Plan) (m : Message) → planOutside plan ≡ false → namedCheck plan m ≡ 0 → packable m ≡ true
+pub named-packs : (plan : Plan) (m : Message) → plan_outside plan ≡ false → named_check plan m ≡ 0 → packable m ≡ true
 named-packs plan m ok h =
-    let v = named_small plan m m ok refl h in is-sayable Packed m (omega arith) (named-place plan m m nMost ok refl h refl)
+    let v = named_small plan m m ok refl h in is-sayable Packed m (omega arith) (named-place plan m m n_most ok refl h refl)
 
-pub named-vc : (plan : Plan) (w p : ℕ) → namedCheck plan (Vc w p) ≡ 0 → (w < plan.views) × (initial plan w ≡ true)
+pub named-vc : (plan : Plan) (w p : ℕ) → named_check plan (Vc w p) ≡ 0 → (w < plan.views) × (initial plan w ≡ true)
 named-vc plan w p e = ((named-low plan (Vc w p) e).1, go (initial plan w) (named-passed plan (Vc w p) e).1)
   where
     go : (b : Bool) → not b ≡ false → b ≡ true
@@ -101,7 +101,7 @@ named-vc plan w p e = ((named-low plan (Vc w p) e).1, go (initial plan w) (named
     go false q = sym q
 
 -- what a refusal by them gives, and what is left without one
-pub named-refused : {A : Type 0} (refusal : ℕ → A) (plan : Plan) (m : Message) (k : ℕ) (x : A) → k ≡ namedCheck plan m → 0 < k
+pub named-refused : {A : Type 0} (refusal : ℕ → A) (plan : Plan) (m : Message) (k : ℕ) (x : A) → k ≡ named_check plan m → 0 < k
     → refusal k ≡ cond (outside plan m) (refusal 10) (cond (uninitial plan m) (refusal 11) x)
 named-refused {A} refusal plan m k x e l = go (outside plan m) (uninitial plan m) e
   where
@@ -112,7 +112,7 @@ named-refused {A} refusal plan m k x e l = go (outside plan m) (uninitial plan m
 
 -- ---- what a reaction sends
 
-pub change-sent : (r : Run) (t : List ℕ) (m : Message) (x : Reaction) → (changeBy r t m x).sent ≡ sentFor r.plan r.faulty m x
+pub change-sent : (r : Run) (t : List ℕ) (m : Message) (x : Reaction) → (change_by r t m x).sent ≡ sent_for r.plan r.faulty m x
 change-sent r t (View w p) x = refl
 change-sent r t (Vote w p) x = refl
 change-sent r t (Vc w p) x = refl
@@ -121,26 +121,26 @@ change-sent r t (Qc w p) x = refl
 -- ---- a signature is heard, a certificate moves its receiver
 
 module _ (r : Run) (t : List ℕ) (x : Reaction) where
-  pub signature-change : (m : Message) → isSignature m ≡ true → changeBy r t m x ≡ heardChange (stageOf m) r t (viewIn m) (processorIn m) x.formed
+  pub signature-change : (m : Message) → is_signature m ≡ true → change_by r t m x ≡ heard_change (stage_of m) r t (view_in m) (processor_in m) x.formed
   signature-change (View w p) e = refl
   signature-change (Vote w p) e = refl
   signature-change (Vc w p) e = no-yes (sym e)
   signature-change (Qc w p) e = no-yes (sym e)
 
-  pub certificate-change : (m : Message) → isSignature m ≡ false → changeBy r t m x ≡ movedChange r t (processorIn m) x
+  pub certificate-change : (m : Message) → is_signature m ≡ false → change_by r t m x ≡ moved_change r t (processor_in m) x
   certificate-change (View w p) e = no-yes e
   certificate-change (Vote w p) e = no-yes e
   certificate-change (Vc w p) e = refl
   certificate-change (Qc w p) e = refl
 
 module _ (plan : Plan) (faulty : ℕ) (x : Reaction) where
-  pub signature-sent : (m : Message) → isSignature m ≡ true → sentFor plan faulty m x ≡ formedMessages plan faulty (stageOf m) (viewIn m) x.formed
+  pub signature-sent : (m : Message) → is_signature m ≡ true → sent_for plan faulty m x ≡ formed_messages plan faulty (stage_of m) (view_in m) x.formed
   signature-sent (View w p) e = refl
   signature-sent (Vote w p) e = refl
   signature-sent (Vc w p) e = no-yes (sym e)
   signature-sent (Qc w p) e = no-yes (sym e)
 
-  pub certificate-sent : (m : Message) → isSignature m ≡ false → sentFor plan faulty m x ≡ sentBy plan faulty (processorIn m) x.sends
+  pub certificate-sent : (m : Message) → is_signature m ≡ false → sent_for plan faulty m x ≡ sent_by plan faulty (processor_in m) x.sends
   certificate-sent (View w p) e = no-yes e
   certificate-sent (Vote w p) e = no-yes e
   certificate-sent (Vc w p) e = refl
@@ -150,44 +150,44 @@ module _ (plan : Plan) (faulty : ℕ) (x : Reaction) where
 
 module _ (r : Run) (t : List ℕ) (fit : Fit r) (x : Reaction) where
   decides-heard : (stage : Bool) (w p : ℕ) → x.ends ≡ false → x.formed ≡ forms stage r t w p
-      → (x.ends ≡ reachesEnd r (hearing stage r t w p)) × (heardChange stage r t w p x.formed ≡ hearing stage r t w p)
+      → (x.ends ≡ reaches_end r (hearing stage r t w p)) × (heard_change stage r t w p x.formed ≡ hearing stage r t w p)
   unfolding hearing
   decides-heard stage w p e f = (
     e ∙ sym (stays-below r fit (hearing stage r t w p) refl),
-    ap (heardChange stage r t w p) f,
+    ap (heard_change stage r t w p) f,
   )
 
-  pub decides-view : (w p : ℕ) → x.ends ≡ false → x.formed ≡ forms viewStage r t w p → x.sends ≡ Nothing → Decides r t (View w p) x
+  pub decides-view : (w p : ℕ) → x.ends ≡ false → x.formed ≡ forms view_stage r t w p → x.sends ≡ Nothing → Decides r t (View w p) x
   unfolding handling
-  decides-view w p e f n = let d = decides-heard viewStage w p e f in record { ends = d.0; change = λ _. d.1; packs = λ _. subst (λ (y : Sends). AllPackable (sentBy r.plan r.faulty p y)) (sym n) (none-packs r.plan r.faulty) }
+  decides-view w p e f n = let d = decides-heard view_stage w p e f in record { ends = d.0; change = λ _. d.1; packs = λ _. subst (λ (y : Sends). AllPackable (sent_by r.plan r.faulty p y)) (sym n) (none-packs r.plan r.faulty) }
 
-  pub decides-vote : (w p : ℕ) → x.ends ≡ false → x.formed ≡ forms voteStage r t w p → x.sends ≡ Nothing → Decides r t (Vote w p) x
+  pub decides-vote : (w p : ℕ) → x.ends ≡ false → x.formed ≡ forms vote_stage r t w p → x.sends ≡ Nothing → Decides r t (Vote w p) x
   unfolding handling
-  decides-vote w p e f n = let d = decides-heard voteStage w p e f in record { ends = d.0; change = λ _. d.1; packs = λ _. subst (λ (y : Sends). AllPackable (sentBy r.plan r.faulty p y)) (sym n) (none-packs r.plan r.faulty) }
+  decides-vote w p e f n = let d = decides-heard vote_stage w p e f in record { ends = d.0; change = λ _. d.1; packs = λ _. subst (λ (y : Sends). AllPackable (sent_by r.plan r.faulty p y)) (sym n) (none-packs r.plan r.faulty) }
 
-  module _ (p : ℕ) (ok : isCorrect r p ≡ true) (low : p < length r.clocks) (seated : p < nMost) (w : ℕ) (small : w < viewsMost) where
-    pub decides-vc : Reacts r.plan (seat r p) (movingBy r.plan (seat r p) (VcIn w)) x → Decides r t (Vc w p) x
+  module _ (p : ℕ) (ok : is_correct r p ≡ true) (low : p < length r.clocks) (seated : p < n_most) (w : ℕ) (small : w < views_most) where
+    pub decides-vc : Reacts r.plan (seat r p) (moving_by r.plan (seat r p) (VcIn w)) x → Decides r t (Vc w p) x
     unfolding handling
     decides-vc a = record {
-      ends = a.ends ∙ sym (taking-reaches r fit t p (byView r.plan (view_of r p) w) ok low);
-      change = λ e. moved-taking r t p (byView r.plan (view_of r p) w) x (a.processor e) (a.sent e);
-      packs = λ e. subst (λ (c : Change). AllPackable c.sent) (sym (moved-taking r t p (byView r.plan (view_of r p) w) x (a.processor e) (a.sent e)))
+      ends = a.ends ∙ sym (taking-reaches r fit t p (by_view r.plan (view_of r p) w) ok low);
+      change = λ e. moved-taking r t p (by_view r.plan (view_of r p) w) x (a.processor e) (a.sent e);
+      packs = λ e. subst (λ (c : Change). AllPackable c.sent) (sym (moved-taking r t p (by_view r.plan (view_of r p) w) x (a.processor e) (a.sent e)))
           (taking-packs r t p w (initial r.plan w && ltb (view_of r p) w) seated (omega arith));
     }
 
-    pub decides-qc : Reacts r.plan (seat r p) (movingBy r.plan (seat r p) (QcIn w)) x → Decides r t (Qc w p) x
+    pub decides-qc : Reacts r.plan (seat r p) (moving_by r.plan (seat r p) (QcIn w)) x → Decides r t (Qc w p) x
     unfolding handling
     decides-qc a = record {
-      ends = a.ends ∙ sym (taking-reaches r fit t p (byQuorum (view_of r p) w) ok low);
-      change = λ e. moved-taking r t p (byQuorum (view_of r p) w) x (a.processor e) (a.sent e);
-      packs = λ e. subst (λ (c : Change). AllPackable c.sent) (sym (moved-taking r t p (byQuorum (view_of r p) w) x (a.processor e) (a.sent e)))
+      ends = a.ends ∙ sym (taking-reaches r fit t p (by_quorum (view_of r p) w) ok low);
+      change = λ e. moved-taking r t p (by_quorum (view_of r p) w) x (a.processor e) (a.sent e);
+      packs = λ e. subst (λ (c : Change). AllPackable c.sent) (sym (moved-taking r t p (by_quorum (view_of r p) w) x (a.processor e) (a.sent e)))
           (taking-packs r t p (w + 1) (leb (view_of r p) w) seated (omega arith));
     }
 
 -- ---- a reaction done
 
 pub made_by : (r : Run) (t₀ ws₀ : List ℕ) (c : Change) (held : ℕ) (traffic : Traffic) (t ws : List ℕ)
-    → Posts c.sent r.held r.time ws₀ held ws → t ≡ c.tally → traffic ≡ trafficSent r.traffic c.sent
-    → state_of (withTraffic traffic (withHeld held (changed r c))) t ws ≡ made (state_of r t₀ ws₀) c
+    → Posts c.sent r.held r.time ws₀ held ws → t ≡ c.tally → traffic ≡ traffic_sent r.traffic c.sent
+    → state_of (with_traffic traffic (with_held held (changed r c))) t ws ≡ made (state_of r t₀ ws₀) c
 unfolding made
-made_by r t₀ ws₀ c held traffic t ws x e f = state-by (ap₂ (λ (h : ℕ) (y : Traffic). withTraffic y (withHeld h (changed r c))) x.number f) e x.words
+made_by r t₀ ws₀ c held traffic t ws x e f = state-by (ap₂ (λ (h : ℕ) (y : Traffic). with_traffic y (with_held h (changed r c))) x.number f) e x.words

@@ -22,16 +22,16 @@ use Rattle.types.specs.declared.AppliedHead.{AppliedHead}
 use Rattle.types.specs.declared.Traffic.{Traffic}
 use Rattle.types.specs.declared.Form.TheVariants.{Packed}
 use Rattle.types.specs.Quantities.{lead}
-use Rattle.types.specs.Messages.{viewIn, processorIn, stageOf, lacksForm}
-use Rattle.model.specs.State.{State, After, state_of, run_from, withTraffic, leftBehind, isCorrect, capacity, roomIn, refused, done}
+use Rattle.types.specs.Messages.{view_in, processor_in, stage_of, lacks_form}
+use Rattle.model.specs.State.{State, After, state_of, run_from, with_traffic, left_behind, is_correct, capacity, room_in, refused, done}
 use Rattle.model.specs.Moves.{Change, still, handling, made}
-use Rattle.model.specs.Checks.{unsound, namedOutside, notInitial, exists, notHeld, reachesEnd, overfull}
-use Rattle.model.specs.Events.{without, delivering, signing, nowSettled, tickRun, checks, effect, applied}
+use Rattle.model.specs.Checks.{unsound, named_outside, not_initial, exists, not_held, reaches_end, overfull}
+use Rattle.model.specs.Events.{without, delivering, signing, now_settled, tick_run, checks, effect, applied}
 use Rattle.liveness.proofs.Answers.{no-yes}
 use Rattle.liveness.proofs.Unchecked.{handling-sums}
 use Rattle.leaps.proofs.Leaping.{still-made}
 use Rattle.simulator.specs.declared.Reaction.{Reaction}
-use Rattle.simulator.specs.Inner.{changeBy, sentFor, Decides, ReachesCorrect, namedCheck, finished, headWithout, leaving, handled}
+use Rattle.simulator.specs.Inner.{change_by, sent_for, Decides, ReachesCorrect, named_check, finished, head_without, leaving, handled}
 use Rattle.simulator.proofs.Fitness.{fit_of, room_of}
 use Rattle.simulator.proofs.Delivery.{room-left}
 use Rattle.simulator.proofs.Moving.{stays-below}
@@ -39,11 +39,11 @@ use Rattle.simulator.proofs.Deciding.{named-passed, named-refused, change-sent}
 
 -- what was left behind, by its parts
 pub refused-is : (h : Head) (c v t ws : List ℕ) (x : AppliedHead) (k : ℕ) → (x.head ≡ h) × (x.answer ≡ Refused k)
-    → leftBehind x c v t ws ≡ refused (state_of (run_from h c v) t ws) k
+    → left_behind x c v t ws ≡ refused (state_of (run_from h c v) t ws) k
 refused-is h c v t ws x k e = λ i. record { state = state_of (run_from (e.0 i) c v) t ws; answer = e.1 i }
 
 pub done-is : (s : State) (h : Head) (c v t ws : List ℕ) (x : AppliedHead) → (x.head ≡ h) × (x.answer ≡ Done 0 h.held) → state_of (run_from h c v) t ws ≡ s
-    → leftBehind x c v t ws ≡ done s
+    → left_behind x c v t ws ≡ done s
 done-is s h c v t ws x e q = (λ i. record { state = state_of (run_from (e.0 i) c v) t ws; answer = e.1 i }) ∙ ap done q
 
 -- ---- checks 17 and 18 of a change, and the change made
@@ -64,39 +64,39 @@ outcome-passed false true e = absurd (omega (arith, e))
 outcome-passed false false e = (refl, refl)
 
 module _ (s s' : State) (c : Change) where
-  pub finish-refused : (k : ℕ) → k ≡ outcome (reachesEnd s'.run c) (overfull s' c) → 0 < k → refused s k ≡ finished s s' c
-  finish-refused k e l = outcome-refused (reachesEnd s'.run c) (overfull s' c) s (done (made s' c)) k e l
+  pub finish-refused : (k : ℕ) → k ≡ outcome (reaches_end s'.run c) (overfull s' c) → 0 < k → refused s k ≡ finished s s' c
+  finish-refused k e l = outcome-refused (reaches_end s'.run c) (overfull s' c) s (done (made s' c)) k e l
 
-  pub finish-done : reachesEnd s'.run c ≡ false → overfull s' c ≡ false → done (made s' c) ≡ finished s s' c
+  pub finish-done : reaches_end s'.run c ≡ false → overfull s' c ≡ false → done (made s' c) ≡ finished s s' c
   finish-done e f = rw (e, f) refl
 
 -- what was decided of a change tells its outcome
 module _ (r : Run) (t : List ℕ) (m : Message) (x : Reaction) (d : Decides r t m x) where
-  decided-sent : x.ends ≡ false → sentFor r.plan r.faulty m x ≡ (handling r t m).sent
+  decided-sent : x.ends ≡ false → sent_for r.plan r.faulty m x ≡ (handling r t m).sent
   decided-sent goes_on = sym (change-sent r t m x) ∙ ap (λ (c : Change). c.sent) (d.change goes_on)
 
-  pub decided-outcome : (h k : ℕ) → outcome x.ends (ltb k (h + length (sentFor r.plan r.faulty m x)))
-      ≡ outcome (reachesEnd r (handling r t m)) (ltb k (h + length (handling r t m).sent))
+  pub decided-outcome : (h k : ℕ) → outcome x.ends (ltb k (h + length (sent_for r.plan r.faulty m x)))
+      ≡ outcome (reaches_end r (handling r t m)) (ltb k (h + length (handling r t m).sent))
   decided-outcome h k = go x.ends refl
     where
-      go : (b : Bool) → x.ends ≡ b → outcome x.ends (ltb k (h + length (sentFor r.plan r.faulty m x)))
-          ≡ outcome (reachesEnd r (handling r t m)) (ltb k (h + length (handling r t m).sent))
-      go true e = ap (λ (b : Bool). outcome b (ltb k (h + length (sentFor r.plan r.faulty m x)))) e
+      go : (b : Bool) → x.ends ≡ b → outcome x.ends (ltb k (h + length (sent_for r.plan r.faulty m x)))
+          ≡ outcome (reaches_end r (handling r t m)) (ltb k (h + length (handling r t m).sent))
+      go true e = ap (λ (b : Bool). outcome b (ltb k (h + length (sent_for r.plan r.faulty m x)))) e
           ∙ ap (λ (b : Bool). outcome b (ltb k (h + length (handling r t m).sent))) (sym e ∙ d.ends)
       go false e = ap (λ (ms : List Message). outcome x.ends (ltb k (h + length ms))) (decided-sent e)
           ∙ ap (λ (b : Bool). outcome b (ltb k (h + length (handling r t m).sent))) d.ends
 
 -- nothing of it looks at the sums
-change-counted : (r : Run) (y : Traffic) (t : List ℕ) (m : Message) (x : Reaction) → changeBy (withTraffic y r) t m x ≡ changeBy r t m x
+change-counted : (r : Run) (y : Traffic) (t : List ℕ) (m : Message) (x : Reaction) → change_by (with_traffic y r) t m x ≡ change_by r t m x
 change-counted r y t (View w p) x = refl
 change-counted r y t (Vote w p) x = refl
 change-counted r y t (Vc w p) x = refl
 change-counted r y t (Qc w p) x = refl
 
-pub decides-counted : (r : Run) (y : Traffic) (t : List ℕ) (m : Message) (x : Reaction) → Decides r t m x → Decides (withTraffic y r) t m x
-unfolding reachesEnd
+pub decides-counted : (r : Run) (y : Traffic) (t : List ℕ) (m : Message) (x : Reaction) → Decides r t m x → Decides (with_traffic y r) t m x
+unfolding reaches_end
 decides-counted r y t m x d = record {
-  ends = d.ends ∙ ap (reachesEnd r) (sym (handling-sums y r t m));
+  ends = d.ends ∙ ap (reaches_end r) (sym (handling-sums y r t m));
   change = λ e. change-counted r y t m x ∙ d.change e ∙ sym (handling-sums y r t m);
   packs = d.packs;
 }
@@ -114,18 +114,18 @@ counting h x = record {
 }
 
 -- the outcome of a message that is handled, by what was decided on a head without it
-pub handled-outcome : (before : Head) (cs vs t ws : List ℕ) (m : Message) (i : ℕ) → before.held ≤ capacity Packed ws → (h : Head) → h ≡ headWithout before i
+pub handled-outcome : (before : Head) (cs vs t ws : List ℕ) (m : Message) (i : ℕ) → before.held ≤ capacity Packed ws → (h : Head) → h ≡ head_without before i
     → (x : Reaction) → Decides (run_from h cs vs) t m x → (room k : ℕ) → room ≡ capacity Packed ws
-    → k ≡ outcome x.ends (ltb room (h.held + length (sentFor h.plan h.faulty m x)))
-    → let s' = leaving (state_of (run_from before cs vs) t ws) m i in let c = handling s'.run t m in k ≡ outcome (reachesEnd s'.run c) (overfull s' c)
+    → k ≡ outcome x.ends (ltb room (h.held + length (sent_for h.plan h.faulty m x)))
+    → let s' = leaving (state_of (run_from before cs vs) t ws) m i in let c = handling s'.run t m in k ≡ outcome (reaches_end s'.run c) (overfull s' c)
 handled-outcome before cs vs t ws m i fits h e x d room k r q =
     let s : State = state_of (run_from before cs vs) t ws in
     let s' : State = leaving s m i in
     let c : Change = handling s'.run s.tally m in
-    q ∙ ap₂ (λ (y : Head) (n : ℕ). outcome x.ends (ltb n (y.held + length (sentFor y.plan y.faulty m x)))) e (r ∙ sym (room-left s.run t ws m i fits).0)
+    q ∙ ap₂ (λ (y : Head) (n : ℕ). outcome x.ends (ltb n (y.held + length (sent_for y.plan y.faulty m x)))) e (r ∙ sym (room-left s.run t ws m i fits).0)
     ∙ decided-outcome s'.run s.tally m x
-    (decides-counted (run_from (headWithout before i) cs vs) s'.run.traffic t m x (subst (λ (y : Head). Decides (run_from y cs vs) t m x) e d))
-    s'.run.held (roomIn s')
+    (decides-counted (run_from (head_without before i) cs vs) s'.run.traffic t m x (subst (λ (y : Head). Decides (run_from y cs vs) t m x) e d))
+    s'.run.held (room_in s')
 
 -- ---- what is named
 
@@ -135,80 +135,80 @@ module _ (s : State) (m : Message) where
 
   -- deliver
   module _ (sound : unsound s ≡ false) where
-    pub deliver-named : (k : ℕ) → k ≡ namedCheck plan m → 0 < k → refused s k ≡ applied (Deliver m) s
+    pub deliver-named : (k : ℕ) → k ≡ named_check plan m → 0 < k → refused s k ≡ applied (Deliver m) s
     unfolding applied checks
     deliver-named k e l = cond_no (unsound s) (refused s k) (refused s 9) _ sound (named-refused (refused s) plan m k _ e l)
 
-    module _ (named : namedCheck plan m ≡ 0) where
-      deliver-rest : (a : After) → a ≡ cond (notHeld s m) (refused s 13) (finished s (without s m) (delivering s m)) → a ≡ applied (Deliver m) s
+    module _ (named : named_check plan m ≡ 0) where
+      deliver-rest : (a : After) → a ≡ cond (not_held s m) (refused s 13) (finished s (without s m) (delivering s m)) → a ≡ applied (Deliver m) s
       unfolding applied checks effect
-      deliver-rest a e = cond_no (unsound s) a (refused s 9) _ sound (cond_no (namedOutside plan (processorIn m) (viewIn m)) a (refused s 10) _ (named-passed plan m named).0
-          (cond_no (notInitial plan (stageOf m) (viewIn m)) a (refused s 11) _ (named-passed plan m named).1 e))
+      deliver-rest a e = cond_no (unsound s) a (refused s 9) _ sound (cond_no (named_outside plan (processor_in m) (view_in m)) a (refused s 10) _ (named-passed plan m named).0
+          (cond_no (not_initial plan (stage_of m) (view_in m)) a (refused s 11) _ (named-passed plan m named).1 e))
 
-      pub deliver-missing : notHeld s m ≡ true → refused s 13 ≡ applied (Deliver m) s
-      deliver-missing e = deliver-rest (refused s 13) (cond_yes (notHeld s m) (refused s 13) (refused s 13) _ e refl)
+      pub deliver-missing : not_held s m ≡ true → refused s 13 ≡ applied (Deliver m) s
+      deliver-missing e = deliver-rest (refused s 13) (cond_yes (not_held s m) (refused s 13) (refused s 13) _ e refl)
 
-      pub deliver-held : notHeld s m ≡ false → (i : ℕ) → leaving s m i ≡ without s m → handled s m i ≡ applied (Deliver m) s
+      pub deliver-held : not_held s m ≡ false → (i : ℕ) → leaving s m i ≡ without s m → handled s m i ≡ applied (Deliver m) s
       unfolding delivering
-      deliver-held e i w = deliver-rest (handled s m i) (cond_no (notHeld s m) (handled s m i) (refused s 13) _ e
+      deliver-held e i w = deliver-rest (handled s m i) (cond_no (not_held s m) (handled s m i) (refused s 13) _ e
           (ap (λ (x : State). finished s x (handling x.run s.tally m)) w))
 
   -- sign
-  module _ (formed : lacksForm (Sign m) ≡ false) (sound : unsound s ≡ false) where
-    pub sign-named : (k : ℕ) → k ≡ namedCheck plan m → 0 < k → refused s k ≡ applied (Sign m) s
+  module _ (formed : lacks_form (Sign m) ≡ false) (sound : unsound s ≡ false) where
+    pub sign-named : (k : ℕ) → k ≡ named_check plan m → 0 < k → refused s k ≡ applied (Sign m) s
     unfolding applied checks
-    sign-named k e l = cond_no (lacksForm (Sign m)) (refused s k) (refused s 1) _ formed
+    sign-named k e l = cond_no (lacks_form (Sign m)) (refused s k) (refused s 1) _ formed
         (cond_no (unsound s) (refused s k) (refused s 9) _ sound (named-refused (refused s) plan m k _ e l))
 
-    module _ (named : namedCheck plan m ≡ 0) where
-      sign-rest : (a : After) → a ≡ cond (isCorrect s.run (processorIn m)) (refused s 12) (finished s s (signing s m)) → a ≡ applied (Sign m) s
+    module _ (named : named_check plan m ≡ 0) where
+      sign-rest : (a : After) → a ≡ cond (is_correct s.run (processor_in m)) (refused s 12) (finished s s (signing s m)) → a ≡ applied (Sign m) s
       unfolding applied checks effect
-      sign-rest a e = cond_no (lacksForm (Sign m)) a (refused s 1) _ formed (cond_no (unsound s) a (refused s 9) _ sound
-          (cond_no (namedOutside plan (processorIn m) (viewIn m)) a (refused s 10) _ (named-passed plan m named).0
-          (cond_no (notInitial plan (stageOf m) (viewIn m)) a (refused s 11) _ (named-passed plan m named).1 e)))
+      sign-rest a e = cond_no (lacks_form (Sign m)) a (refused s 1) _ formed (cond_no (unsound s) a (refused s 9) _ sound
+          (cond_no (named_outside plan (processor_in m) (view_in m)) a (refused s 10) _ (named-passed plan m named).0
+          (cond_no (not_initial plan (stage_of m) (view_in m)) a (refused s 11) _ (named-passed plan m named).1 e)))
 
-      pub sign-correct : isCorrect s.run (processorIn m) ≡ true → refused s 12 ≡ applied (Sign m) s
-      sign-correct e = sign-rest (refused s 12) (cond_yes (isCorrect s.run (processorIn m)) (refused s 12) (refused s 12) _ e refl)
+      pub sign-correct : is_correct s.run (processor_in m) ≡ true → refused s 12 ≡ applied (Sign m) s
+      sign-correct e = sign-rest (refused s 12) (cond_yes (is_correct s.run (processor_in m)) (refused s 12) (refused s 12) _ e refl)
 
-      pub sign-heard : isCorrect s.run (processorIn m) ≡ false → isCorrect s.run (lead plan (viewIn m)) ≡ true → (a : After)
+      pub sign-heard : is_correct s.run (processor_in m) ≡ false → is_correct s.run (lead plan (view_in m)) ≡ true → (a : After)
           → a ≡ finished s s (handling s.run s.tally m) → a ≡ applied (Sign m) s
       unfolding signing
-      sign-heard e l a q = sign-rest a (cond_no (isCorrect s.run (processorIn m)) a (refused s 12) _ e
-          (q ∙ ap (finished s s) (cond_yes (isCorrect s.run (lead plan (viewIn m))) _ _ (still s.run s.tally) l refl)))
+      sign-heard e l a q = sign-rest a (cond_no (is_correct s.run (processor_in m)) a (refused s 12) _ e
+          (q ∙ ap (finished s s) (cond_yes (is_correct s.run (lead plan (view_in m))) _ _ (still s.run s.tally) l refl)))
 
-      pub sign-unheard : isCorrect s.run (processorIn m) ≡ false → isCorrect s.run (lead plan (viewIn m)) ≡ false → (a : After)
+      pub sign-unheard : is_correct s.run (processor_in m) ≡ false → is_correct s.run (lead plan (view_in m)) ≡ false → (a : After)
           → a ≡ finished s s (still s.run s.tally) → a ≡ applied (Sign m) s
       unfolding signing
-      sign-unheard e l a q = sign-rest a (cond_no (isCorrect s.run (processorIn m)) a (refused s 12) _ e
-          (q ∙ ap (finished s s) (cond_no (isCorrect s.run (lead plan (viewIn m))) _ (handling s.run s.tally m) _ l refl)))
+      sign-unheard e l a q = sign-rest a (cond_no (is_correct s.run (processor_in m)) a (refused s 12) _ e
+          (q ∙ ap (finished s s) (cond_no (is_correct s.run (lead plan (view_in m))) _ (handling s.run s.tally m) _ l refl)))
 
   -- show
-  module _ (formed : lacksForm (Show m) ≡ false) (sound : unsound s ≡ false) where
-    pub show-named : (k : ℕ) → k ≡ namedCheck plan m → 0 < k → refused s k ≡ applied (Show m) s
+  module _ (formed : lacks_form (Show m) ≡ false) (sound : unsound s ≡ false) where
+    pub show-named : (k : ℕ) → k ≡ named_check plan m → 0 < k → refused s k ≡ applied (Show m) s
     unfolding applied checks
-    show-named k e l = cond_no (lacksForm (Show m)) (refused s k) (refused s 1) _ formed
+    show-named k e l = cond_no (lacks_form (Show m)) (refused s k) (refused s 1) _ formed
         (cond_no (unsound s) (refused s k) (refused s 9) _ sound (named-refused (refused s) plan m k _ e l))
 
-    module _ (named : namedCheck plan m ≡ 0) where
+    module _ (named : named_check plan m ≡ 0) where
       abbrev there : Bool
-      there = exists (stageOf m) s.run s.tally (viewIn m)
+      there = exists (stage_of m) s.run s.tally (view_in m)
 
-      show-rest : (a : After) → a ≡ cond (not (isCorrect s.run (processorIn m))) (refused s 12) (cond (not there) (refused s 14)
+      show-rest : (a : After) → a ≡ cond (not (is_correct s.run (processor_in m))) (refused s 12) (cond (not there) (refused s 14)
           (finished s s (handling s.run s.tally m))) → a ≡ applied (Show m) s
       unfolding applied checks effect
-      show-rest a e = cond_no (lacksForm (Show m)) a (refused s 1) _ formed (cond_no (unsound s) a (refused s 9) _ sound
-          (cond_no (namedOutside plan (processorIn m) (viewIn m)) a (refused s 10) _ (named-passed plan m named).0
-          (cond_no (notInitial plan (stageOf m) (viewIn m)) a (refused s 11) _ (named-passed plan m named).1 e)))
+      show-rest a e = cond_no (lacks_form (Show m)) a (refused s 1) _ formed (cond_no (unsound s) a (refused s 9) _ sound
+          (cond_no (named_outside plan (processor_in m) (view_in m)) a (refused s 10) _ (named-passed plan m named).0
+          (cond_no (not_initial plan (stage_of m) (view_in m)) a (refused s 11) _ (named-passed plan m named).1 e)))
 
-      pub show-faulty : isCorrect s.run (processorIn m) ≡ false → refused s 12 ≡ applied (Show m) s
-      show-faulty e = show-rest (refused s 12) (cond_yes (not (isCorrect s.run (processorIn m))) (refused s 12) (refused s 12) _ (not-no _ e) refl)
+      pub show-faulty : is_correct s.run (processor_in m) ≡ false → refused s 12 ≡ applied (Show m) s
+      show-faulty e = show-rest (refused s 12) (cond_yes (not (is_correct s.run (processor_in m))) (refused s 12) (refused s 12) _ (not-no _ e) refl)
 
-      pub show-none : isCorrect s.run (processorIn m) ≡ true → there ≡ false → refused s 14 ≡ applied (Show m) s
-      show-none e f = show-rest (refused s 14) (cond_no (not (isCorrect s.run (processorIn m))) (refused s 14) (refused s 12) _ (not_yes _ e)
+      pub show-none : is_correct s.run (processor_in m) ≡ true → there ≡ false → refused s 14 ≡ applied (Show m) s
+      show-none e f = show-rest (refused s 14) (cond_no (not (is_correct s.run (processor_in m))) (refused s 14) (refused s 12) _ (not_yes _ e)
           (cond_yes (not there) (refused s 14) (refused s 14) _ (not-no _ f) refl))
 
-      pub show-there : isCorrect s.run (processorIn m) ≡ true → there ≡ true → (a : After) → a ≡ finished s s (handling s.run s.tally m) → a ≡ applied (Show m) s
-      show-there e f a q = show-rest a (cond_no (not (isCorrect s.run (processorIn m))) a (refused s 12) _ (not_yes _ e)
+      pub show-there : is_correct s.run (processor_in m) ≡ true → there ≡ true → (a : After) → a ≡ finished s s (handling s.run s.tally m) → a ≡ applied (Show m) s
+      show-there e f a q = show-rest a (cond_no (not (is_correct s.run (processor_in m))) a (refused s 12) _ (not_yes _ e)
           (cond_no (not there) a (refused s 14) _ (not_yes _ f) q))
 
 -- ---- settle
@@ -217,20 +217,20 @@ pub settle-again : (s : State) → unsound s ≡ false → s.run.settled ≡ tru
 unfolding applied checks
 settle-again s sound e = cond_no (unsound s) (refused s 15) (refused s 9) _ sound (cond_yes s.run.settled (refused s 15) (refused s 15) _ e refl)
 
-pub settle-first : (s : State) → unsound s ≡ false → s.run.settled ≡ false → done (nowSettled s) ≡ applied Settle s
+pub settle-first : (s : State) → unsound s ≡ false → s.run.settled ≡ false → done (now_settled s) ≡ applied Settle s
 unfolding applied checks effect
-settle-first s sound e = cond_no (unsound s) (done (nowSettled s)) (refused s 9) _ sound
-    (cond_no s.run.settled (done (nowSettled s)) (refused s 15) _ e refl)
+settle-first s sound e = cond_no (unsound s) (done (now_settled s)) (refused s 9) _ sound
+    (cond_no s.run.settled (done (now_settled s)) (refused s 15) _ e refl)
 
 -- ---- whom a signature or a certificate reaches
 
-pub signature-reaches : (r : Run) (m : Message) → lacksForm (Sign m) ≡ false → ReachesCorrect r m
+pub signature-reaches : (r : Run) (m : Message) → lacks_form (Sign m) ≡ false → ReachesCorrect r m
 signature-reaches r (View w p) e = tt
 signature-reaches r (Vote w p) e = tt
 signature-reaches r (Vc w p) e = no-yes e
 signature-reaches r (Qc w p) e = no-yes e
 
-pub certificate-reaches : (r : Run) (m : Message) → isCorrect r (processorIn m) ≡ true → ReachesCorrect r m
+pub certificate-reaches : (r : Run) (m : Message) → is_correct r (processor_in m) ≡ true → ReachesCorrect r m
 certificate-reaches r (View w p) e = tt
 certificate-reaches r (Vote w p) e = tt
 certificate-reaches r (Vc w p) e = e
@@ -239,7 +239,7 @@ certificate-reaches r (Qc w p) e = e
 -- nothing changed is done: no clock has moved, and what is held fits
 pub finish-still : (s : State) → unsound s ≡ false → done s ≡ finished s s (still s.run s.tally)
 finish-still s sound =
-    let l : s.run.held + 0 ≤ roomIn s = omega (arith, room_of s sound) in
+    let l : s.run.held + 0 ≤ room_in s = omega (arith, room_of s sound) in
     ap done (still-made s) ∙ finish-done s s (still s.run s.tally) (stays-below s.run (fit_of s sound) (still s.run s.tally) refl) (le-ltb _ _ l)
 
 -- a message that is not held leaves nothing behind
@@ -250,17 +250,17 @@ none-leaves s m =
 
 -- ---- checks 1 and 9 of every event
 
-pub lacking : (e : Event) (s : State) → lacksForm e ≡ true → refused s 1 ≡ applied e s
+pub lacking : (e : Event) (s : State) → lacks_form e ≡ true → refused s 1 ≡ applied e s
 unfolding applied checks
-lacking e s q = cond_yes (lacksForm e) (refused s 1) (refused s 1) _ q refl
+lacking e s q = cond_yes (lacks_form e) (refused s 1) (refused s 1) _ q refl
 
-pub unsound-handed : (e : Event) (s : State) → lacksForm e ≡ false → unsound s ≡ true → refused s 9 ≡ applied e s
+pub unsound-handed : (e : Event) (s : State) → lacks_form e ≡ false → unsound s ≡ true → refused s 9 ≡ applied e s
 unfolding applied checks
-unsound-handed e s q u = cond_no (lacksForm e) (refused s 9) (refused s 1) _ q (cond_yes (unsound s) (refused s 9) (refused s 9) _ u refl)
+unsound-handed e s q u = cond_no (lacks_form e) (refused s 9) (refused s 1) _ q (cond_yes (unsound s) (refused s 9) (refused s 9) _ u refl)
 
-pub ticks-applied : (m : ℕ) (s : State) → lacksForm (Tick m) ≡ false → unsound s ≡ false → tickRun m s ≡ applied (Tick m) s
+pub ticks-applied : (m : ℕ) (s : State) → lacks_form (Tick m) ≡ false → unsound s ≡ false → tick_run m s ≡ applied (Tick m) s
 unfolding applied checks effect
-ticks-applied m s q u = cond_no (lacksForm (Tick m)) (tickRun m s) (refused s 1) _ q (cond_no (unsound s) (tickRun m s) (refused s 9) _ u refl)
+ticks-applied m s q u = cond_no (lacks_form (Tick m)) (tick_run m s) (refused s 1) _ q (cond_no (unsound s) (tick_run m s) (refused s 9) _ u refl)
 
-pub ticks-some : (m : ℕ) → lacksForm (Tick m) ≡ false → 0 < m
+pub ticks-some : (m : ℕ) → lacks_form (Tick m) ≡ false → 0 < m
 ticks-some m q = let ne : m ≢ 0 = eqb-false m 0 q in omega arith

@@ -12,14 +12,14 @@ use Rattle.base.specs.Scan.{some}
 use Rattle.base.specs.ScanLaws.{some-by, some-gives, some-none}
 use Rattle.types.specs.declared.Run.{Run}
 use Rattle.types.specs.declared.Processor.{Processor}
-use Rattle.model.specs.State.{clockOf, view_of, isCorrect}
-use Rattle.model.specs.Moves.{Change, toCorrect, Entry, stay, into, taking, entering}
-use Rattle.model.specs.Checks.{clockOutside, atEnd, reachesEnd}
-use Rattle.model.specs.Processors.{Moved, messagesOf, moving}
-use Rattle.liveness.proofs.Link.{correct-below}
+use Rattle.model.specs.State.{clock_of, view_of, is_correct}
+use Rattle.model.specs.Moves.{Change, to_correct, Entry, stay, into, taking, entering}
+use Rattle.model.specs.Checks.{clock_outside, at_end, reaches_end}
+use Rattle.model.specs.Processors.{Moved, messages_of, moving}
+use Rattle.liveness.proofs.Link.{correct_below}
 use Rattle.liveness.proofs.Judging.{neither}
 use Rattle.simulator.specs.declared.Reaction.{Reaction}
-use Rattle.simulator.specs.Inner.{Fit, movedChange}
+use Rattle.simulator.specs.Inner.{Fit, moved_change}
 use Rattle.simulator.proofs.Sending.{entered-into, entered-none}
 
 -- two changes with equal parts are equal
@@ -28,19 +28,19 @@ change-by c d a b e f = λ i. record { clocks = a i; views = b i; tally = e i; s
 
 module _ (r : Run) (t : List ℕ) (p : ℕ) where
   abbrev pub moved : Entry → Moved
-  moved e = moving r.plan p (clockOf r p) (view_of r p) e
+  moved e = moving r.plan p (clock_of r p) (view_of r p) e
 
   -- a reaction that is a move of p changes what the move changes
-  pub moved-taking : (e : Entry) (x : Reaction) → x.processor ≡ (moved e).processor → messagesOf p x.sends ≡ (moved e).sent
-      → movedChange r t p x ≡ taking r t p e
-  unfolding taking entering toCorrect
+  pub moved-taking : (e : Entry) (x : Reaction) → x.processor ≡ (moved e).processor → messages_of p x.sends ≡ (moved e).sent
+      → moved_change r t p x ≡ taking r t p e
+  unfolding taking entering to_correct
   moved-taking stay x c m = change-by _ _
       (ap (λ (y : Processor). set r.clocks p y.clock) c ∙ set-get_or r.clocks p 0)
       (ap (λ (y : Processor). set r.views p y.view) c ∙ set-get_or r.views p 0)
       (entered-none t p x.sends m)
       (nothing-sent m)
     where
-      nothing-sent : messagesOf p x.sends ≡ [] → (movedChange r t p x).sent ≡ []
+      nothing-sent : messages_of p x.sends ≡ [] → (moved_change r t p x).sent ≡ []
       nothing-sent q = rw q refl
   moved-taking (into w) x c m = change-by _ _
       (ap (λ (y : Processor). set r.clocks p y.clock) c)
@@ -56,44 +56,44 @@ module _ (r : Run) (t : List ℕ) (p : ℕ) where
 -- ---- check 17
 
 module _ (r : Run) (fit : Fit r) where
-  not_yet : (q : ℕ) → T (isCorrect r q) → T (atEnd r.plan (clockOf r q)) → ⊥
+  not_yet : (q : ℕ) → T (is_correct r q) → T (at_end r.plan (clock_of r q)) → ⊥
   not_yet q c x =
-      let o = fails (clockOutside r.plan (clockOf r q) (view_of r q)) (fit.clocks q (T_true (isCorrect r q) c)) in
-      (neither (atEnd r.plan (clockOf r q)) _ (neither (atEnd r.plan (clockOf r q) || ltb (clockOf r q) _) _ o).0).0 x
+      let o = fails (clock_outside r.plan (clock_of r q) (view_of r q)) (fit.clocks q (T_true (is_correct r q) c)) in
+      (neither (at_end r.plan (clock_of r q)) _ (neither (at_end r.plan (clock_of r q) || ltb (clock_of r q) _) _ o).0).0 x
 
   -- clocks that stay do not reach the end
-  pub stays-below : (c : Change) → c.clocks ≡ r.clocks → reachesEnd r c ≡ false
-  unfolding reachesEnd
-  stays-below c e = some-none (λ q. isCorrect r q && atEnd r.plan (get_or c.clocks q 0)) r.plan.n
-      (λ q l x. not_yet q (T-left (isCorrect r q) _ x) (subst (λ (y : List ℕ). T (atEnd r.plan (get_or y q 0))) e (T-right (isCorrect r q) _ x)))
+  pub stays-below : (c : Change) → c.clocks ≡ r.clocks → reaches_end r c ≡ false
+  unfolding reaches_end
+  stays-below c e = some-none (λ q. is_correct r q && at_end r.plan (get_or c.clocks q 0)) r.plan.n
+      (λ q l x. not_yet q (T-left (is_correct r q) _ x) (subst (λ (y : List ℕ). T (at_end r.plan (get_or y q 0))) e (T-right (is_correct r q) _ x)))
 
   -- where one clock moves, it is the one that may
-  pub one-reaches : (c : Change) (p clock : ℕ) → isCorrect r p ≡ true → p < length r.clocks → c.clocks ≡ set r.clocks p clock
-      → reachesEnd r c ≡ atEnd r.plan clock
-  unfolding reachesEnd
-  one-reaches c p clock ok low e = T-iff (some reaches r.plan.n) (atEnd r.plan clock) there back
+  pub one-reaches : (c : Change) (p clock : ℕ) → is_correct r p ≡ true → p < length r.clocks → c.clocks ≡ set r.clocks p clock
+      → reaches_end r c ≡ at_end r.plan clock
+  unfolding reaches_end
+  one-reaches c p clock ok low e = T-iff (some reaches r.plan.n) (at_end r.plan clock) there back
     where
       reaches : ℕ → Bool
-      reaches q = isCorrect r q && atEnd r.plan (get_or c.clocks q 0)
+      reaches q = is_correct r q && at_end r.plan (get_or c.clocks q 0)
 
       here : get_or c.clocks p 0 ≡ clock
       here = ap (λ (y : List ℕ). get_or y p 0) e ∙ get_or-set_same r.clocks p clock 0 low
 
-      there : T (some reaches r.plan.n) → T (atEnd r.plan clock)
+      there : T (some reaches r.plan.n) → T (at_end r.plan clock)
       there x =
           let g = some-gives reaches r.plan.n x in
-          let i : T (isCorrect r g.0) = T-left (isCorrect r g.0) _ g.2 in
-          let j : T (atEnd r.plan (get_or c.clocks g.0 0)) = T-right (isCorrect r g.0) _ g.2 in
-          ⊎_elim (λ (q : g.0 ≡ p). subst (λ (y : ℕ). T (atEnd r.plan y)) (ap (λ (y : ℕ). get_or c.clocks y 0) q ∙ here) j)
-          (λ q. absurd (not_yet g.0 i (subst (λ (y : ℕ). T (atEnd r.plan y))
+          let i : T (is_correct r g.0) = T-left (is_correct r g.0) _ g.2 in
+          let j : T (at_end r.plan (get_or c.clocks g.0 0)) = T-right (is_correct r g.0) _ g.2 in
+          ⊎_elim (λ (q : g.0 ≡ p). subst (λ (y : ℕ). T (at_end r.plan y)) (ap (λ (y : ℕ). get_or c.clocks y 0) q ∙ here) j)
+          (λ q. absurd (not_yet g.0 i (subst (λ (y : ℕ). T (at_end r.plan y))
           (ap (λ (y : List ℕ). get_or y g.0 0) e ∙ get_or-set_other r.clocks p g.0 clock 0 q) j)))
           (eq? g.0 p)
 
-      back : T (atEnd r.plan clock) → T (some reaches r.plan.n)
-      back x = some-by reaches r.plan.n p (correct-below r.plan r.faulty p (rw ok tt))
-          (T_and (isCorrect r p) _ (rw ok tt) (rw here x))
+      back : T (at_end r.plan clock) → T (some reaches r.plan.n)
+      back x = some-by reaches r.plan.n p (correct_below r.plan r.faulty p (rw ok tt))
+          (T_and (is_correct r p) _ (rw ok tt) (rw here x))
 
   -- a move of p
-  pub taking-reaches : (t : List ℕ) (p : ℕ) (e : Entry) → isCorrect r p ≡ true → p < length r.clocks
-      → reachesEnd r (taking r t p e) ≡ atEnd r.plan (moving r.plan p (clockOf r p) (view_of r p) e).processor.clock
+  pub taking-reaches : (t : List ℕ) (p : ℕ) (e : Entry) → is_correct r p ≡ true → p < length r.clocks
+      → reaches_end r (taking r t p e) ≡ at_end r.plan (moving r.plan p (clock_of r p) (view_of r p) e).processor.clock
   taking-reaches t p e ok low = one-reaches (taking r t p e) p _ ok low (taking-clocks r t p e)

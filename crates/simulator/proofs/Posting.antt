@@ -13,7 +13,7 @@ use Rattle.buffers.specs.WordLaws.{posted-none, posted-length, posted-turn}
 use Rattle.buffers.specs.Network.{appended, appended-fits}
 use Rattle.types.specs.declared.Plan.{Plan}
 use Rattle.types.specs.declared.Form.TheVariants.{Packed}
-use Rattle.model.specs.Moves.{toCorrect, certificate, toEach}
+use Rattle.model.specs.Moves.{to_correct, certificate, to_each}
 use Rattle.simulator.specs.Inner.{Posts, AllPackable}
 use Rattle.simulator.proofs.Sending.{goes, correct-yes, correct-no, each_more, each-room}
 
@@ -44,34 +44,34 @@ also-fits a b h k time ws ws' x room =
 -- ---- one message
 
 module _ (plan : Plan) (faulty : ℕ) (m : Message) (h time : ℕ) (ws : List ℕ) where
-  pub sends-yes : (ws' : List ℕ) → goes plan faulty m ≡ true → h + length (toCorrect plan faulty (m ∷ [])) ≤ capacity Packed ws
-      → AllPackable (toCorrect plan faulty (m ∷ [])) → ws' ≡ appended Packed ws h time m → Posts (toCorrect plan faulty (m ∷ [])) h time ws (h + 1) ws'
+  pub sends-yes : (ws' : List ℕ) → goes plan faulty m ≡ true → h + length (to_correct plan faulty (m ∷ [])) ≤ capacity Packed ws
+      → AllPackable (to_correct plan faulty (m ∷ [])) → ws' ≡ appended Packed ws h time m → Posts (to_correct plan faulty (m ∷ [])) h time ws (h + 1) ws'
   sends-yes ws' e room packs a =
-      let y : toCorrect plan faulty (m ∷ []) ≡ m ∷ [] = correct-yes plan faulty m e in
+      let y : to_correct plan faulty (m ∷ []) ≡ m ∷ [] = correct-yes plan faulty m e in
       let l : h < capacity Packed ws = omega (arith, ap length y, room) in
-      posts-as (m ∷ []) (toCorrect plan faulty (m ∷ [])) h (h + 1) time ws ws' (sym y)
+      posts-as (m ∷ []) (to_correct plan faulty (m ∷ [])) h (h + 1) time ws ws' (sym y)
       (record { number = refl; words = a ∙ appended-fits Packed ws h time m l (subst AllPackable y packs).0 })
 
-  pub sends-no : goes plan faulty m ≡ false → Posts (toCorrect plan faulty (m ∷ [])) h time ws h ws
-  sends-no e = posts-as [] (toCorrect plan faulty (m ∷ [])) h h time ws ws (sym (correct-no plan faulty m e)) (posts-none h time ws)
+  pub sends-no : goes plan faulty m ≡ false → Posts (to_correct plan faulty (m ∷ [])) h time ws h ws
+  sends-no e = posts-as [] (to_correct plan faulty (m ∷ [])) h h time ws ws (sym (correct-no plan faulty m e)) (posts-none h time ws)
 
 -- ---- a certificate for each processor below k, and for one more
 
-module _ (plan : Plan) (faulty : ℕ) (stage : Bool) (w n h time : ℕ) (ws : List ℕ) (room : h + length (toCorrect plan faulty (toEach stage w n)) ≤ capacity Packed ws)
-    (k held : ℕ) (ws' : List ℕ) (x : Posts (toCorrect plan faulty (toEach stage w k)) h time ws held ws') (low : k < n) where
-  below-room : h + length (toCorrect plan faulty (toEach stage w k)) ≤ capacity Packed ws
+module _ (plan : Plan) (faulty : ℕ) (stage : Bool) (w n h time : ℕ) (ws : List ℕ) (room : h + length (to_correct plan faulty (to_each stage w n)) ≤ capacity Packed ws)
+    (k held : ℕ) (ws' : List ℕ) (x : Posts (to_correct plan faulty (to_each stage w k)) h time ws held ws') (low : k < n) where
+  below-room : h + length (to_correct plan faulty (to_each stage w k)) ≤ capacity Packed ws
   below-room = omega (arith, each-room plan faulty stage w k n low, room)
 
-  pub each_fits : held + length (toCorrect plan faulty (certificate stage w k ∷ [])) ≤ capacity Packed ws'
+  pub each_fits : held + length (to_correct plan faulty (certificate stage w k ∷ [])) ≤ capacity Packed ws'
   each_fits = omega (
     arith,
     x.number,
-    posts-capacity (toCorrect plan faulty (toEach stage w k)) h held time ws ws' x below-room,
+    posts-capacity (to_correct plan faulty (to_each stage w k)) h held time ws ws' x below-room,
     each-room plan faulty stage w k n low,
     room,
   )
 
-  pub each_turn : (held' : ℕ) (ws'' : List ℕ) → Posts (toCorrect plan faulty (certificate stage w k ∷ [])) held time ws' held' ws''
-      → Posts (toCorrect plan faulty (toEach stage w (k + 1))) h time ws held' ws''
+  pub each_turn : (held' : ℕ) (ws'' : List ℕ) → Posts (to_correct plan faulty (certificate stage w k ∷ [])) held time ws' held' ws''
+      → Posts (to_correct plan faulty (to_each stage w (k + 1))) h time ws held' ws''
   each_turn held' ws'' y = posts-as _ _ h held' time ws ws'' (sym (each_more plan faulty stage w k))
-      (posts-also (toCorrect plan faulty (toEach stage w k)) (toCorrect plan faulty (certificate stage w k ∷ [])) h held held' time ws ws' ws'' x y below-room)
+      (posts-also (to_correct plan faulty (to_each stage w k)) (to_correct plan faulty (certificate stage w k ∷ [])) h held held' time ws ws' ws'' x y below-room)

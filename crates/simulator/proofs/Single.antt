@@ -10,20 +10,20 @@ use lib.ListN.{get_or}
 use borrow.Author.Tests.{eq-eqb, ne_eqb, lt-ltb, le-ltb}
 use Rattle.base.specs.Tests.{le?}
 use Rattle.types.specs.declared.Event.{Event}
-use Rattle.model.specs.State.{State, After, checkOf, ticksOf, accepted}
+use Rattle.model.specs.State.{State, After, check_of, ticks_of, accepted}
 use Rattle.model.specs.Events.{applied}
-use Rattle.liveness.specs.Promises.{answerFrom}
+use Rattle.liveness.specs.Promises.{answer_from}
 use Rattle.liveness.proofs.Promises.{answers-told}
 use Rattle.words.specs.declared.Numbers.{Numbers}
-use Rattle.words.specs.Events.{eventNumbers, numbersPut}
-use Rattle.words.specs.Batches.{Worded, wordsApplied}
+use Rattle.words.specs.Events.{event_numbers, numbers_put}
+use Rattle.words.specs.Batches.{Worded, words_applied}
 use Rattle.words.proofs.Single.{one-applied}
-use Rattle.simulator.specs.Contracts.{AppliesAll}
+use Rattle.simulator.specs.Clauses.{AppliesAll}
 
-pub told-done : (check ticks held : ℕ) → check ≡ 0 → true ≡ accepted (answerFrom check ticks held)
+pub told-done : (check ticks held : ℕ) → check ≡ 0 → true ≡ accepted (answer_from check ticks held)
 told-done check ticks held e = let y : eqb check 0 ≡ true = eq-eqb check 0 e in rw y refl
 
-pub told-ticks : (check ticks held : ℕ) → check ≢ 0 → ltb 0 ticks ≡ accepted (answerFrom check ticks held)
+pub told-ticks : (check ticks held : ℕ) → check ≢ 0 → ltb 0 ticks ≡ accepted (answer_from check ticks held)
 told-ticks check ticks held d =
     let n : eqb check 0 ≡ false = ne_eqb check 0 d in
     ⊎_elim
@@ -32,13 +32,13 @@ told-ticks check ticks held d =
     (le? 1 ticks)
 
 -- the event e was put among four words, which became its answer
-module _ (e : Event) (s s' : State) (k : Numbers) (put left : List ℕ) (is : k ≡ eventNumbers e) (there : put ≡ numbersPut (0 ∷ 0 ∷ 0 ∷ 0 ∷ []) 0 k)
+module _ (e : Event) (s s' : State) (k : Numbers) (put left : List ℕ) (is : k ≡ event_numbers e) (there : put ≡ numbers_put (0 ∷ 0 ∷ 0 ∷ 0 ∷ []) 0 k)
     (done : AppliesAll put s s' left) where
   one : ◌≡◌ {A = Worded} (record { state = s'; words = left }) (record {
     state = (applied e s).state;
-    words = (eventNumbers e).form ∷ checkOf (applied e s).answer ∷ ticksOf (applied e s).answer ∷ (applied e s).state.run.held ∷ [];
+    words = (event_numbers e).form ∷ check_of (applied e s).answer ∷ ticks_of (applied e s).answer ∷ (applied e s).state.run.held ∷ [];
   })
-  one = done ∙ ap (λ (ws : List ℕ). wordsApplied ws s) (there ∙ ap (numbersPut (0 ∷ 0 ∷ 0 ∷ 0 ∷ []) 0) is) ∙ one-applied e s
+  one = done ∙ ap (λ (ws : List ℕ). words_applied ws s) (there ∙ ap (numbers_put (0 ∷ 0 ∷ 0 ∷ 0 ∷ []) 0) is) ∙ one-applied e s
 
   -- what it left, and answered
   abbrev pub single : After
@@ -47,7 +47,7 @@ module _ (e : Event) (s s' : State) (k : Numbers) (put left : List ℕ) (is : k 
   pub single-is : single ≡ applied e s
   single-is = ap (λ (w : Worded). record { state = w.state; answer = (applied e s).answer }) one
 
-  pub single-accepted : (r : Bool) → ((held : ℕ) → r ≡ accepted (answerFrom (get_or left 1 0) (get_or left 2 0) held)) → r ≡ accepted single.answer
+  pub single-accepted : (r : Bool) → ((held : ℕ) → r ≡ accepted (answer_from (get_or left 1 0) (get_or left 2 0) held)) → r ≡ accepted single.answer
   single-accepted r t =
       let h : ℕ = (applied e s).state.run.held in
-      t h ∙ ap (λ (w : Worded). accepted (answerFrom (get_or w.words 1 0) (get_or w.words 2 0) h)) one ∙ ap accepted (answers-told e s)
+      t h ∙ ap (λ (w : Worded). accepted (answer_from (get_or w.words 1 0) (get_or w.words 2 0) h)) one ∙ ap accepted (answers-told e s)

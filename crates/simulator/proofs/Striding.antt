@@ -10,37 +10,37 @@ use Rattle.types.specs.declared.Run.{Run}
 use Rattle.types.specs.declared.Processor.{Processor}
 use Rattle.types.specs.declared.Input.TheVariants.{Tick}
 use Rattle.types.specs.declared.Sends.TheVariants.{Nothing}
-use Rattle.types.specs.Quantities.{endTime}
-use Rattle.types.specs.PlanFunctions.{nextInitialWord, clockTimeWord}
-use Rattle.model.specs.State.{State, with_run, clockOf, view_of, isCorrect, roomIn}
+use Rattle.types.specs.Quantities.{end_time}
+use Rattle.types.specs.PlanFunctions.{next_initial_word, clock_time_word}
+use Rattle.model.specs.State.{State, with_run, clock_of, view_of, is_correct, room_in}
 use Rattle.model.specs.Moves.{stay}
-use Rattle.model.specs.Checks.{planOutside, clockOutside, atEnd, unsound}
-use Rattle.model.specs.Processors.{Moved, moving, processorUnsound, movingBy}
-use Rattle.model.specs.Events.{tickOnce, Ticks, continued, ticks}
-use Rattle.liveness.specs.Promises.{countedFrom}
+use Rattle.model.specs.Checks.{plan_outside, clock_outside, at_end, unsound}
+use Rattle.model.specs.Processors.{Moved, moving, processor_unsound, moving_by}
+use Rattle.model.specs.Events.{tick_once, Ticks, continued, ticks}
+use Rattle.liveness.specs.Promises.{counted_from}
 use Rattle.liveness.proofs.Promises.{ticks-add}
-use Rattle.pacemaker.specs.Limits.{Within, timeMost}
+use Rattle.pacemaker.specs.Limits.{Within, time_most}
 use Rattle.pacemaker.proofs.LimitLaws.{within, sound}
 use Rattle.pacemaker.proofs.TickLaws.{no-arrival}
-use Rattle.leaps.specs.Leaps.{leaptWord, later, Quiet, Steady, Waits, Rests, Fits, rest}
+use Rattle.leaps.specs.Leaps.{leapt_word, later, Quiet, Steady, Waits, Rests, Fits, rest}
 use Rattle.leaps.proofs.Clocks.{leap-exact}
 use Rattle.leaps.proofs.Resting.{next-time, next_small, rest-rests}
 use Rattle.leaps.proofs.Leaping.{clock-later, steady-later, quiet-ticks-add}
-use Rattle.simulator.specs.Inner.{Reacts, Fit, Whole, Went, TickedTo, ranTo}
+use Rattle.simulator.specs.Inner.{Reacts, Fit, Whole, Went, TickedTo, ran_to}
 use Rattle.simulator.specs.Strides.{Strides, Ready, Advances}
-use Rattle.simulator.proofs.Fitness.{fit_of, time-of, some-correct, clock-below, end-most}
+use Rattle.simulator.proofs.Fitness.{fit_of, time_told, some-correct, clock-below, end-most}
 use Rattle.simulator.proofs.Reactions.{reaction}
 use Rattle.simulator.proofs.Once.{once-overdue}
 
 -- ---- several ticks
 
-pub strides-none : (s : State) → Fit s.run → s.run.held ≤ roomIn s → Strides s s 0
+pub strides-none : (s : State) → Fit s.run → s.run.held ≤ room_in s → Strides s s 0
 unfolding ticks
 strides-none s fit room = record { ran = refl; fit = fit; room = room; time = omega arith; clock = λ p c. (c, omega arith) }
 
 pub strides-also : (s s' s'' : State) (a b : ℕ) → Strides s s' a → Strides s' s'' b → Strides s s'' (a + b)
 strides-also s s' s'' a b x y = record {
-  ran = (ticks-add a b s).0 (ap (λ (t : Ticks). t.check) x.ran) ∙ ap (λ (t : Ticks). countedFrom a (ticks b t.state)) x.ran ∙ ap (countedFrom a) y.ran;
+  ran = (ticks-add a b s).0 (ap (λ (t : Ticks). t.check) x.ran) ∙ ap (λ (t : Ticks). counted_from a (ticks b t.state)) x.ran ∙ ap (counted_from a) y.ran;
   fit = y.fit;
   room = y.room;
   time = omega (arith, x.time, y.time);
@@ -52,7 +52,7 @@ unfolding ticks
 strides-once s s' t =
     let w : Went s s' = t.went refl in
     record {
-      ran = ap (λ (c : ℕ). continued s c (ticks 0 (tickOnce s).state)) (sym t.number) ∙ ap (λ (y : State). ranTo y 1 0) (sym t.state);
+      ran = ap (λ (c : ℕ). continued s c (ticks 0 (tick_once s).state)) (sym t.number) ∙ ap (λ (y : State). ran_to y 1 0) (sym t.state);
       fit = w.fit;
       room = w.room;
       time = w.time;
@@ -60,11 +60,11 @@ strides-once s s' t =
     }
 
 -- the rest of a run of ticks, behind some of them
-pub strides-rest : (m count : ℕ) (s₀ s : State) → count ≤ m → Strides s₀ s count → ticks m s₀ ≡ countedFrom count (ticks (m - count) s)
+pub strides-rest : (m count : ℕ) (s₀ s : State) → count ≤ m → Strides s₀ s count → ticks m s₀ ≡ counted_from count (ticks (m - count) s)
 strides-rest m count s₀ s l x =
     let e : m ≡ count + (m - count) = omega arith in
     ap (λ (k : ℕ). ticks k s₀) e ∙ (ticks-add count (m - count) s₀).0 (ap (λ (t : Ticks). t.check) x.ran)
-    ∙ ap (λ (t : Ticks). countedFrom count (ticks (m - count) t.state)) x.ran
+    ∙ ap (λ (t : Ticks). counted_from count (ticks (m - count) t.state)) x.ran
 
 -- between ticks there is room for more: a correct clock that has gained so many is below the end
 pub strides-ready : (s₀ s : State) (count : ℕ) → unsound s₀ ≡ false → Strides s₀ s count → Ready s
@@ -78,9 +78,9 @@ strides-ready s₀ s count sound x =
         arith,
         x.time,
         c.1,
-        time-of s₀ sound,
+        time_told s₀ sound,
         end-most s₀.run.plan (within s₀.run.plan (fit_of s₀ sound).plan),
-        clock-below s.run.plan (clockOf s.run q.0) (view_of s.run q.0) (x.fit.clocks q.0 c.0),
+        clock-below s.run.plan (clock_of s.run q.0) (view_of s.run q.0) (x.fit.clocks q.0 c.0),
         end-most s.run.plan (within s.run.plan x.fit.plan),
       );
     }
@@ -88,17 +88,17 @@ strides-ready s₀ s count sound x =
 -- ---- a quiet tick
 
 -- what the pacemaker's step would say of one before the next initial view's time
-pub quiet-reacts : (plan : Plan) (c : Processor) → processorUnsound plan c ≡ false → (next time : ℕ) → next ≡ nextInitialWord plan c.view → time ≡ clockTimeWord plan next
-    → c.clock + 1 < time → Reacts plan c (movingBy plan c Tick) (reaction (record { number = c.number; clock = c.clock + 1; view = c.view }) Nothing false)
+pub quiet-reacts : (plan : Plan) (c : Processor) → processor_unsound plan c ≡ false → (next time : ℕ) → next ≡ next_initial_word plan c.view → time ≡ clock_time_word plan next
+    → c.clock + 1 < time → Reacts plan c (moving_by plan c Tick) (reaction (record { number = c.number; clock = c.clock + 1; view = c.view }) Nothing false)
 quiet-reacts plan c e next time is-next is-time l =
     let x = sound plan c e in
-    let inside : clockOutside plan c.clock c.view ≡ false = (or_parts (planOutside plan) (clockOutside plan c.clock c.view) e).1 in
+    let inside : clock_outside plan c.clock c.view ≡ false = (or_parts (plan_outside plan) (clock_outside plan c.clock c.view) e).1 in
     let t = next-time plan x.within c.clock c.view inside next time is-next is-time in
-    let m : movingBy plan c Tick ≡ moving plan c.number (c.clock + 1) c.view stay =
+    let m : moving_by plan c Tick ≡ moving plan c.number (c.clock + 1) c.view stay =
     ap (moving plan c.number (c.clock + 1) c.view) (no-arrival plan c.clock c.view x.reached (omega arith)) in
-    let g : c.clock + 1 < endTime plan = omega (arith, next_small plan x.within c.clock c.view inside) in
+    let g : c.clock + 1 < end_time plan = omega (arith, next_small plan x.within c.clock c.view inside) in
     record {
-      ends = sym (ap (λ (y : Moved). atEnd plan y.processor.clock) m ∙ lt-leb _ _ g);
+      ends = sym (ap (λ (y : Moved). at_end plan y.processor.clock) m ∙ lt-leb _ _ g);
       processor = λ _. sym (ap (λ (y : Moved). y.processor) m);
       sent = λ _. sym (ap (λ (y : Moved). y.sent) m);
     }
@@ -146,11 +146,11 @@ module _ (s : State) (ready : Ready s) (most : ℕ) where
     rests : Rests s.run wait quiet
     rests = subst (Rests s.run wait) (sym is-rest) (rest-rests s.run (steady-of s.run ready.fit whole) wait)
 
-    below_end : (p : ℕ) → isCorrect s.run p ≡ true → clockOf s.run p + quiet < timeMost
+    below_end : (p : ℕ) → is_correct s.run p ≡ true → clock_of s.run p + quiet < time_most
     below_end p c = omega (
       arith,
       rests.quiet p c,
-      next_small s.run.plan plan-fits (clockOf s.run p) (view_of s.run p) (ready.fit.clocks p c),
+      next_small s.run.plan plan-fits (clock_of s.run p) (view_of s.run p) (ready.fit.clocks p c),
       end-most s.run.plan plan-fits,
     )
 
@@ -158,13 +158,13 @@ module _ (s : State) (ready : Ready s) (most : ℕ) where
     leap-fits =
         let q = some-correct s.run ready.fit in
         record {
-          processors = plan-fits.n-most;
+          processors = plan-fits.n_at_most;
           time = omega (arith, ready.time, below_end q.0 q.1);
           clocks = λ p c. omega (arith, below_end p c);
         }
 
-    pub advance-leap : 0 < quiet → (r : Run) → r ≡ leaptWord s.run quiet → Advances s most (with_run r s) quiet 0
-    advance-leap l r is = record {
+    pub advance_leap : 0 < quiet → (r : Run) → r ≡ leapt_word s.run quiet → Advances s most (with_run r s) quiet 0
+    advance_leap l r is = record {
       went = λ z. subst (λ (y : Run). Strides s (with_run y s) quiet) (sym (is ∙ leap-exact s.run quiet leap-fits))
           (leap-strides s ready whole quiet (record { waits = λ j b. w.quiet j (omega (arith, rests.few)); rests = rests.quiet }));
       number = λ z. (l, omega (arith, rests.few, w.few));

@@ -10,13 +10,13 @@ use Rattle.base.specs.Tests.{fails}
 use Rattle.types.specs.declared.Run.{Run}
 use Rattle.types.specs.declared.Traffic.{Traffic}
 use Rattle.types.specs.declared.Form.TheVariants.{Packed}
-use Rattle.types.specs.Traffic.{trafficSent}
-use Rattle.model.specs.State.{State, state_of, run_of, withHeld, withTime, withClocks, withViews, withTraffic, clockOf, view_of, capacity}
-use Rattle.model.specs.Moves.{Change, changed, Entry, clocksOn, advanced, arrival, arrivals, made}
-use Rattle.model.specs.Processors.{messagesOf}
+use Rattle.types.specs.Traffic.{traffic_sent}
+use Rattle.model.specs.State.{State, state_of, run_of, with_held, with_time, with_clocks, with_views, with_traffic, clock_of, view_of, capacity}
+use Rattle.model.specs.Moves.{Change, changed, Entry, clocks_on, advanced, arrival, arrivals, made}
+use Rattle.model.specs.Processors.{messages_of}
 use Rattle.simulator.specs.declared.Reaction.{Reaction}
 use Rattle.liveness.proofs.Clocks.{arrived}
-use Rattle.simulator.specs.Inner.{Posts, AllPackable, Fit, Whole, ends_at, pairs, sentBy, enteredBy, Arrives, seat, arrivedBelow}
+use Rattle.simulator.specs.Inner.{Posts, AllPackable, Fit, Whole, ends_at, pairs, sent_by, entered_by, Arrives, seat, arrived_below}
 use Rattle.simulator.proofs.Fitness.{planned-of}
 use Rattle.simulator.proofs.Packing.{sends-pack, inside-fit}
 use Rattle.simulator.proofs.Counting.{Paired, paired-counted, paired-entries, initially-arrives}
@@ -33,9 +33,9 @@ module _ (s : State) where
   entry = arrival (advanced s).run
 
   -- a processor whose turn has not come stands as before the tick
-  pub seat-kept : (k : ℕ) (next : Run) → next ≡ withViews (arrivedBelow s k).views (withClocks (clocksOn s.run k) s.run) → seat next k ≡ seat s.run k
+  pub seat-kept : (k : ℕ) (next : Run) → next ≡ with_views (arrived_below s k).views (with_clocks (clocks_on s.run k) s.run) → seat next k ≡ seat s.run k
   seat-kept k next e = ap₂ (λ (c v : ℕ). record { number = k; clock = c; view = v })
-      (ap (λ (y : Run). clockOf y k) e ∙ clocks-ahead s.run k k (omega arith))
+      (ap (λ (y : Run). clock_of y k) e ∙ clocks-ahead s.run k k (omega arith))
       (ap (λ (y : Run). view_of y k) e ∙ entries-views entry (advanced s).run s.tally k k (omega arith))
 
   -- one processor more, in either pass
@@ -44,45 +44,45 @@ module _ (s : State) where
     abbrev is-processor : x.processor ≡ (turn entry (advanced s).run s.tally k).processor
     is-processor = same-processor s long k low x arrives goes_on
 
-    abbrev is-sent : messagesOf k x.sends ≡ (turn entry (advanced s).run s.tally k).sent
+    abbrev is-sent : messages_of k x.sends ≡ (turn entry (advanced s).run s.tally k).sent
     is-sent = same_sent s long k low x arrives goes_on
 
-    pub sent-length : length (arrivedBelow s (k + 1)).sent ≡ length (arrivedBelow s k).sent + length (sentBy s.run.plan s.run.faulty k x.sends)
+    pub sent-length : length (arrived_below s (k + 1)).sent ≡ length (arrived_below s k).sent + length (sent_by s.run.plan s.run.faulty k x.sends)
     sent-length = entered.sent-length entry (advanced s).run s.tally k x is-processor is-sent
 
-    pub next-turn : (next : Run) → next ≡ withViews (arrivedBelow s k).views (withClocks (clocksOn s.run k) s.run)
-        → withViews (set next.views k x.processor.view) (withClocks (set next.clocks k x.processor.clock) next)
-        ≡ withViews (arrivedBelow s (k + 1)).views (withClocks (clocksOn s.run (k + 1)) s.run)
+    pub next-turn : (next : Run) → next ≡ with_views (arrived_below s k).views (with_clocks (clocks_on s.run k) s.run)
+        → with_views (set next.views k x.processor.view) (with_clocks (set next.clocks k x.processor.clock) next)
+        ≡ with_views (arrived_below s (k + 1)).views (with_clocks (clocks_on s.run (k + 1)) s.run)
     next-turn next e =
-        ap (λ (y : Run). withViews (set y.views k x.processor.view) (withClocks (set y.clocks k x.processor.clock) y)) e
-        ∙ ap₂ (λ (v c : List ℕ). withViews v (withClocks c s.run))
+        ap (λ (y : Run). with_views (set y.views k x.processor.view) (with_clocks (set y.clocks k x.processor.clock) y)) e
+        ∙ ap₂ (λ (v c : List ℕ). with_views v (with_clocks c s.run))
         (sym (entered.views-more entry (advanced s).run s.tally k x is-processor is-sent)) (sym (clocks-more s long k low x arrives goes_on))
 
-    pub tally-turn : (t t' : List ℕ) → t ≡ (arrivedBelow s k).tally → t' ≡ enteredBy t k x.sends → t' ≡ (arrivedBelow s (k + 1)).tally
+    pub tally-turn : (t t' : List ℕ) → t ≡ (arrived_below s k).tally → t' ≡ entered_by t k x.sends → t' ≡ (arrived_below s (k + 1)).tally
     tally-turn = entered.tally-turn entry (advanced s).run s.tally k x is-processor is-sent
 
     -- its messages have packed words, in a fit run of which no clock comes to the end
     pub arrival-packs : Fit s.run → Whole s.run → some (ends_at s.run) s.run.plan.n ≡ false
-        → AllPackable (sentBy s.run.plan s.run.faulty k x.sends)
+        → AllPackable (sent_by s.run.plan s.run.faulty k x.sends)
     arrival-packs fit whole on =
         let ok = planned-of s.run.plan s.run.faulty fit.plan fit.faulty in
         let a = arrived s ok whole.clocks whole.views (inside-fit s.run fit) (fails _ (tick-reaches s long ∙ on)) (k + 1) in
         entered.entry-packs entry (advanced s).run s.tally k x is-processor is-sent
-        (sends-pack (advanced s).run s.tally (arrivedBelow s (k + 1)) ok a.sends)
+        (sends-pack (advanced s).run s.tally (arrived_below s (k + 1)) ok a.sends)
 
-    module _ (before : List ℕ) (room : s.run.held + length (arrivedBelow s s.run.plan.n).sent ≤ capacity Packed before) (time held : ℕ) (ws : List ℕ)
-        (posts : Posts (arrivedBelow s k).sent s.run.held time before held ws) where
-      pub arrival-fits : held + length (sentBy s.run.plan s.run.faulty k x.sends) ≤ capacity Packed ws
+    module _ (before : List ℕ) (room : s.run.held + length (arrived_below s s.run.plan.n).sent ≤ capacity Packed before) (time held : ℕ) (ws : List ℕ)
+        (posts : Posts (arrived_below s k).sent s.run.held time before held ws) where
+      pub arrival-fits : held + length (sent_by s.run.plan s.run.faulty k x.sends) ≤ capacity Packed ws
       arrival-fits = entered.entry-fits entry (advanced s).run s.tally k x is-processor is-sent s.run.plan.n s.run.held time held
           before ws low room posts
 
-      pub posts-turn : (held' : ℕ) (ws' : List ℕ) → Posts (sentBy s.run.plan s.run.faulty k x.sends) held time ws held' ws'
-          → Posts (arrivedBelow s (k + 1)).sent s.run.held time before held' ws'
+      pub posts-turn : (held' : ℕ) (ws' : List ℕ) → Posts (sent_by s.run.plan s.run.faulty k x.sends) held time ws held' ws'
+          → Posts (arrived_below s (k + 1)).sent s.run.held time before held' ws'
       posts-turn = entered.posts-turn entry (advanced s).run s.tally k x is-processor is-sent s.run.plan.n s.run.held time held
           before ws low room posts
 
   -- who enters in a tick enters an initial view
-  tick-paired : (k : ℕ) → Paired (arrivedBelow s k).sent
+  tick-paired : (k : ℕ) → Paired (arrived_below s k).sent
   tick-paired k = paired-entries entry (advanced s).run s.tally k (initially-arrives (advanced s).run)
 
 -- what the second pass leaves of a run and the buffers lent with it is the tick
@@ -91,17 +91,17 @@ module _ (r : Run) (t₀ ws₀ : List ℕ) where
   lent = state_of r t₀ ws₀
 
   abbrev all : Change
-  all = arrivedBelow lent r.plan.n
+  all = arrived_below lent r.plan.n
 
   pub tick-made : r.plan.n ≤ length r.clocks → (next : Run) (held : ℕ) (traffic : Traffic) (t ws : List ℕ)
-      → next ≡ withViews all.views (withClocks (clocksOn r r.plan.n) r) → t ≡ all.tally → Posts all.sent r.held (r.time + 1) ws₀ held ws
-      → traffic ≡ trafficSent r.traffic (pairs ((held - r.held) / 2))
-      → state_of (withTraffic traffic (withHeld held (withTime (r.time + 1) next))) t ws ≡ made (advanced lent) (arrivals (advanced lent))
+      → next ≡ with_views all.views (with_clocks (clocks_on r r.plan.n) r) → t ≡ all.tally → Posts all.sent r.held (r.time + 1) ws₀ held ws
+      → traffic ≡ traffic_sent r.traffic (pairs ((held - r.held) / 2))
+      → state_of (with_traffic traffic (with_held held (with_time (r.time + 1) next))) t ws ≡ made (advanced lent) (arrivals (advanced lent))
   unfolding made arrivals
   tick-made long next held traffic t ws e f g h = state-by
-      (ap (λ (y : Run). withTraffic traffic (withHeld held (withTime (r.time + 1) y))) e
+      (ap (λ (y : Run). with_traffic traffic (with_held held (with_time (r.time + 1) y))) e
       ∙ ap₂ (λ (k : ℕ) (c : List ℕ). run_of r.plan r.faulty (r.time + 1) r.settled r.gst k c all.views traffic)
       g.number (sym (arrived-clocks lent long r.plan.n (omega arith)))
-      ∙ ap (λ (y : Traffic). withTraffic y (withHeld (r.held + length all.sent) (changed (advanced lent).run all)))
+      ∙ ap (λ (y : Traffic). with_traffic y (with_held (r.held + length all.sent) (changed (advanced lent).run all)))
       (h ∙ paired-counted all.sent (held - r.held) (tick-paired lent r.plan.n) (omega (arith, g.number)) r.traffic))
       f g.words

@@ -12,16 +12,16 @@ use Rattle.types.specs.declared.Input.TheVariants.{Tick}
 use Rattle.types.specs.declared.Sends.{Sends}
 use Rattle.types.specs.declared.Sends.TheVariants.{Nothing, Vote as VoteFor, ViewAndVote}
 use Rattle.types.specs.declared.Form.TheVariants.{Packed}
-use Rattle.types.specs.Quantities.{nMost, correct}
+use Rattle.types.specs.Quantities.{n_most, correct}
 use Rattle.base.specs.Members.{Every}
 use Rattle.base.specs.Scan.{some}
-use Rattle.types.specs.Traffic.{trafficDelivered}
-use Rattle.types.specs.Messages.{processorIn, viewStage, voteStage, lacksForm}
-use Rattle.model.specs.State.{State, After, state_of, run_from, with_run, withNetwork, withHeld, withTraffic, clockOf, view_of, isCorrect, enteredWord, added, posted, capacity, roomIn, checkOf, refused, done}
-use Rattle.model.specs.Moves.{Change, toCorrect, moved_to, formedMessages, heardChange, stay, entries, handling, advanced, arrival, arrivals, made}
-use Rattle.model.specs.Checks.{judged, planOutside, faultyOutside, unsound, clockOutside, atEnd, reachesEnd}
-use Rattle.model.specs.Events.{outcomeChecks, namedChecks, waitSince, tickOnce, Ticks, tickRun, applied}
-use Rattle.model.specs.Processors.{Moved, messagesOf, moving, movingBy}
+use Rattle.types.specs.Traffic.{traffic_delivered}
+use Rattle.types.specs.Messages.{processor_in, view_stage, vote_stage, lacks_form}
+use Rattle.model.specs.State.{State, After, state_of, run_from, with_run, with_network, with_held, with_traffic, clock_of, view_of, is_correct, entered_word, added, posted, capacity, room_in, check_of, refused, done}
+use Rattle.model.specs.Moves.{Change, to_correct, moved_to, formed_messages, heard_change, stay, entries, handling, advanced, arrival, arrivals, made}
+use Rattle.model.specs.Checks.{judged, plan_outside, faulty_outside, unsound, clock_outside, at_end, reaches_end}
+use Rattle.model.specs.Events.{outcome_checks, named_checks, wait_since, tick_once, Ticks, tick_run, applied}
+use Rattle.model.specs.Processors.{Moved, messages_of, moving, moving_by}
 use Rattle.simulator.specs.declared.Reaction.{Reaction}
 use Rattle.simulator.specs.declared.Task.{Task}
 use Rattle.simulator.specs.declared.Task.TheVariants.{Refuse, Finish, Handle, Run as RunTicks}
@@ -35,14 +35,14 @@ pub record Posts (ms : List Message) (held time : ℕ) (ws : List ℕ) (held' : 
   pub words : ws' ≡ posted Packed ws held time ms
 
 -- what goes into the network of what p sends in one move
-abbrev pub sentBy : Plan → ℕ → ℕ → Sends → List Message
-sentBy plan faulty p x = toCorrect plan faulty (messagesOf p x)
+abbrev pub sent_by : Plan → ℕ → ℕ → Sends → List Message
+sent_by plan faulty p x = to_correct plan faulty (messages_of p x)
 
 -- the tally with the entry that they show
-abbrev pub enteredBy : List ℕ → ℕ → Sends → List ℕ
-enteredBy t p Nothing = t
-enteredBy t p (VoteFor w) = added t w enteredWord p
-enteredBy t p (ViewAndVote w) = added t w enteredWord p
+abbrev pub entered_by : List ℕ → ℕ → Sends → List ℕ
+entered_by t p Nothing = t
+entered_by t p (VoteFor w) = added t w entered_word p
+entered_by t p (ViewAndVote w) = added t w entered_word p
 
 -- that each message has a packed word
 abbrev pub AllPackable : List Message → Type 0
@@ -51,11 +51,11 @@ AllPackable ms = Every (λ (m : Message). packable m ≡ true) ms
 -- that the network has room for it, and words
 abbrev pub CanEnter : Plan → ℕ → ℕ → Sends → ℕ → List ℕ → Type 0
 CanEnter plan faulty p x held ws =
-    (0 < plan.n) × (p < 64) × (held + length (sentBy plan faulty p x) ≤ capacity Packed ws) × AllPackable (sentBy plan faulty p x)
+    (0 < plan.n) × (p < 64) × (held + length (sent_by plan faulty p x) ≤ capacity Packed ws) × AllPackable (sent_by plan faulty p x)
 
 -- that both are done: how many messages are held then, the network's words and the tally
 abbrev pub Enters : Plan → ℕ → ℕ → Sends → ℕ → ℕ → List ℕ → List ℕ → ℕ → List ℕ → List ℕ → Type 0
-Enters plan faulty p x held time t ws held' t' ws' = Posts (sentBy plan faulty p x) held time ws held' ws' × (t' ≡ enteredBy t p x)
+Enters plan faulty p x held time t ws held' t' ws' = Posts (sent_by plan faulty p x) held time ws held' ws' × (t' ≡ entered_by t p x)
 
 -- so many view messages, and as many votes
 abbrev pub pairs : ℕ → List Message
@@ -66,36 +66,36 @@ pairs (suc k) = View 0 0 ∷ Vote 0 0 ∷ pairs k
 
 -- that it is what an input makes of a processor: rules 1 to 3, and check 17
 pub record Reacts (plan : Plan) (c : Processor) (m : Moved) (x : Reaction) : Type 0 where
-  pub ends : x.ends ≡ atEnd plan m.processor.clock
+  pub ends : x.ends ≡ at_end plan m.processor.clock
   pub processor : x.ends ≡ false → x.processor ≡ m.processor
-  pub sent : x.ends ≡ false → messagesOf c.number x.sends ≡ m.sent
+  pub sent : x.ends ≡ false → messages_of c.number x.sends ≡ m.sent
 
 -- a tick's move of a processor that may be faulty, which then stays as it is
-abbrev pub arrivalMove : Plan → ℕ → Processor → Moved
-arrivalMove plan faulty c = cond (correct plan faulty c.number) (movingBy plan c Tick) (moving plan c.number c.clock c.view stay)
+abbrev pub arrival_move : Plan → ℕ → Processor → Moved
+arrival_move plan faulty c = cond (correct plan faulty c.number) (moving_by plan c Tick) (moving plan c.number c.clock c.view stay)
 
 pub record Arrives (plan : Plan) (faulty : ℕ) (c : Processor) (x : Reaction) : Type 0 where
-  pub ends : x.ends ≡ (correct plan faulty c.number && atEnd plan (c.clock + 1))
-  pub processor : x.ends ≡ false → x.processor ≡ (arrivalMove plan faulty c).processor
-  pub sent : x.ends ≡ false → messagesOf c.number x.sends ≡ (arrivalMove plan faulty c).sent
+  pub ends : x.ends ≡ (correct plan faulty c.number && at_end plan (c.clock + 1))
+  pub processor : x.ends ≡ false → x.processor ≡ (arrival_move plan faulty c).processor
+  pub sent : x.ends ≡ false → messages_of c.number x.sends ≡ (arrival_move plan faulty c).sent
 
 -- the change of a processor that moves
-abbrev pub movedChange : Run → List ℕ → ℕ → Reaction → Change
-movedChange r t p x = moved_to r (enteredBy t p x.sends) p x.processor.clock x.processor.view (messagesOf p x.sends)
+abbrev pub moved_change : Run → List ℕ → ℕ → Reaction → Change
+moved_change r t p x = moved_to r (entered_by t p x.sends) p x.processor.clock x.processor.view (messages_of p x.sends)
 
 -- what it changes, the message being m
-abbrev pub changeBy : Run → List ℕ → Message → Reaction → Change
-changeBy r t (View w p) x = heardChange viewStage r t w p x.formed
-changeBy r t (Vote w p) x = heardChange voteStage r t w p x.formed
-changeBy r t (Vc w p) x = movedChange r t p x
-changeBy r t (Qc w p) x = movedChange r t p x
+abbrev pub change_by : Run → List ℕ → Message → Reaction → Change
+change_by r t (View w p) x = heard_change view_stage r t w p x.formed
+change_by r t (Vote w p) x = heard_change vote_stage r t w p x.formed
+change_by r t (Vc w p) x = moved_change r t p x
+change_by r t (Qc w p) x = moved_change r t p x
 
 -- ---- what a run has that check 9 passed, as far as moves need it
 
 pub record Fit (r : Run) : Type 0 where
-  pub plan : planOutside r.plan ≡ false
-  pub faulty : faultyOutside r.plan r.faulty ≡ false
-  pub clocks : (p : ℕ) → isCorrect r p ≡ true → clockOutside r.plan (clockOf r p) (view_of r p) ≡ false
+  pub plan : plan_outside r.plan ≡ false
+  pub faulty : faulty_outside r.plan r.faulty ≡ false
+  pub clocks : (p : ℕ) → is_correct r p ≡ true → clock_outside r.plan (clock_of r p) (view_of r p) ≡ false
 
 -- the tables have an entry for each processor
 pub record Whole (r : Run) : Type 0 where
@@ -106,19 +106,19 @@ pub record Whole (r : Run) : Type 0 where
 
 -- the processor as it stands in the run
 abbrev pub seat : Run → ℕ → Processor
-seat r k = record { number = k; clock = clockOf r k; view = view_of r k }
+seat r k = record { number = k; clock = clock_of r k; view = view_of r k }
 
 -- what the entries of the processors below k leave
-abbrev pub arrivedBelow : State → ℕ → Change
-arrivedBelow s k = entries (arrival (advanced s).run) (advanced s).run s.tally k
+abbrev pub arrived_below : State → ℕ → Change
+arrived_below s k = entries (arrival (advanced s).run) (advanced s).run s.tally k
 
 -- check 17 for one processor
 abbrev pub ends_at : Run → ℕ → Bool
-ends_at r q = isCorrect r q && atEnd r.plan (clockOf r q + 1)
+ends_at r q = is_correct r q && at_end r.plan (clock_of r q + 1)
 
 -- a tick sends at most two messages for each processor
-abbrev pub sentMost : ℕ
-sentMost = 2 * nMost
+abbrev pub sent_most : ℕ
+sent_most = 2 * n_most
 
 -- a run that check 9 passed, of which a tick brings no clock to the end
 pub record GoesOn (r : Run) : Type 0 where
@@ -131,7 +131,7 @@ pub record CanTick (r : Run) (t ws : List ℕ) : Type 0 where
   pub fit : Fit r
   pub whole : Whole r
   pub goes_on : some (ends_at r) r.plan.n ≡ false
-  pub room : r.held + length (arrivedBelow (state_of r t ws) r.plan.n).sent ≤ capacity Packed ws
+  pub room : r.held + length (arrived_below (state_of r t ws) r.plan.n).sent ≤ capacity Packed ws
   pub time : r.time + 1 < 2 ^ 64
 
 -- that the tick was done: time and clocks, then the entries
@@ -141,73 +141,73 @@ TickMade s s' = s' ≡ made (advanced s) (arrivals (advanced s))
 -- what a tick that was done has left; a clock that enters may gain more than the tick
 pub record Went (s s' : State) : Type 0 where
   pub fit : Fit s'.run
-  pub room : s'.run.held ≤ roomIn s'
+  pub room : s'.run.held ≤ room_in s'
   pub time : s'.run.time ≡ s.run.time + 1
-  pub clock : (p : ℕ) → isCorrect s.run p ≡ true → (isCorrect s'.run p ≡ true) × (clockOf s.run p + 1 ≤ clockOf s'.run p)
+  pub clock : (p : ℕ) → is_correct s.run p ≡ true → (is_correct s'.run p ≡ true) × (clock_of s.run p + 1 ≤ clock_of s'.run p)
 
 -- that a function did the tick of s, or met the check that refuses it
 pub record TickedTo (s s' : State) (check : ℕ) : Type 0 where
-  pub state : s' ≡ (tickOnce s).state
-  pub number : check ≡ checkOf (tickOnce s).answer
+  pub state : s' ≡ (tick_once s).state
+  pub number : check ≡ check_of (tick_once s).answer
   pub went : check ≡ 0 → Went s s'
 
 -- so many ticks, ended by this check
-abbrev pub ranTo : State → ℕ → ℕ → Ticks
-ranTo s count check = record { state = s; count = count; check = check }
+abbrev pub ran_to : State → ℕ → ℕ → Ticks
+ran_to s count check = record { state = s; count = count; check = check }
 
 -- ---- the events
 
 -- the first of checks 10 and 11 that refuses what is named, or 0
-abbrev pub namedCheck : Plan → Message → ℕ
-namedCheck plan m = judged (λ r. r) (namedChecks plan m) 0
+abbrev pub named_check : Plan → Message → ℕ
+named_check plan m = judged (λ r. r) (named_checks plan m) 0
 
 -- a certificate reaches a correct processor
 abbrev pub ReachesCorrect : Run → Message → Type 0
 ReachesCorrect r (View w p) = Unit {0}
 ReachesCorrect r (Vote w p) = Unit {0}
-ReachesCorrect r (Vc w p) = isCorrect r p ≡ true
-ReachesCorrect r (Qc w p) = isCorrect r p ≡ true
+ReachesCorrect r (Vc w p) = is_correct r p ≡ true
+ReachesCorrect r (Qc w p) = is_correct r p ≡ true
 
 -- that a reaction is what the message makes of whom it reaches
 pub record Decides (r : Run) (t : List ℕ) (m : Message) (x : Reaction) : Type 0 where
-  pub ends : x.ends ≡ reachesEnd r (handling r t m)
-  pub change : x.ends ≡ false → changeBy r t m x ≡ handling r t m
-  pub packs : x.ends ≡ false → AllPackable (sentBy r.plan r.faulty (processorIn m) x.sends)
+  pub ends : x.ends ≡ reaches_end r (handling r t m)
+  pub change : x.ends ≡ false → change_by r t m x ≡ handling r t m
+  pub packs : x.ends ≡ false → AllPackable (sent_by r.plan r.faulty (processor_in m) x.sends)
 
 -- the messages of a reaction
-abbrev pub sentFor : Plan → ℕ → Message → Reaction → List Message
-sentFor plan faulty (View w p) x = formedMessages plan faulty viewStage w x.formed
-sentFor plan faulty (Vote w p) x = formedMessages plan faulty voteStage w x.formed
-sentFor plan faulty (Vc w p) x = sentBy plan faulty p x.sends
-sentFor plan faulty (Qc w p) x = sentBy plan faulty p x.sends
+abbrev pub sent_for : Plan → ℕ → Message → Reaction → List Message
+sent_for plan faulty (View w p) x = formed_messages plan faulty view_stage w x.formed
+sent_for plan faulty (Vote w p) x = formed_messages plan faulty vote_stage w x.formed
+sent_for plan faulty (Vc w p) x = sent_by plan faulty p x.sends
+sent_for plan faulty (Qc w p) x = sent_by plan faulty p x.sends
 
 -- a change of s', what an event leaves of s before it changes anything, judged by checks 17 and 18 and made
 abbrev pub finished : State → State → Change → After
-finished s s' c = judged (refused s) (outcomeChecks s' c) (done (made s' c))
+finished s s' c = judged (refused s) (outcome_checks s' c) (done (made s' c))
 
 -- how many are held without the message at place i, where one of the h that are held is there
-abbrev pub heldWithout : ℕ → ℕ → ℕ
-heldWithout h i = cond (ltb i h) (h - 1) h
+abbrev pub held_without : ℕ → ℕ → ℕ
+held_without h i = cond (ltb i h) (h - 1) h
 
-abbrev pub headWithout : Head → ℕ → Head
-headWithout x i = record {
+abbrev pub head_without : Head → ℕ → Head
+head_without x i = record {
   plan = x.plan;
   faulty = x.faulty;
   time = x.time;
   settled = x.settled;
   gst = x.gst;
-  held = heldWithout x.held i;
+  held = held_without x.held i;
   traffic = x.traffic;
 }
 
 -- the sums then: m, which was there, is delivered
-abbrev pub trafficWithout : Traffic → Message → ℕ → ℕ → ℕ → Traffic
-trafficWithout x m wait h i = cond (ltb i h) (trafficDelivered x m wait) x
+abbrev pub traffic_without : Traffic → Message → ℕ → ℕ → ℕ → Traffic
+traffic_without x m wait h i = cond (ltb i h) (traffic_delivered x m wait) x
 
 abbrev pub leaving : State → Message → ℕ → State
 leaving s m i =
-    let x = trafficWithout s.run.traffic m (waitSince s.run.time s.form s.network i) s.run.held i in
-    with_run (withTraffic x (withHeld (heldWithout s.run.held i) s.run)) (withNetwork (taken s.form s.network s.run.held i) s)
+    let x = traffic_without s.run.traffic m (wait_since s.run.time s.form s.network i) s.run.held i in
+    with_run (with_traffic x (with_held (held_without s.run.held i) s.run)) (with_network (taken s.form s.network s.run.held i) s)
 
 -- m, held at place i or not held, is handled
 abbrev pub handled : State → Message → ℕ → After
@@ -216,16 +216,16 @@ handled s m i = finished s (leaving s m i) (handling (leaving s m i).run s.tally
 -- what it needs: a run that check 9 passed, names within their limits, and, of a certificate, a correct receiver
 pub record CanHandle (s : State) (m : Message) : Type 0 where
   pub sound : unsound s ≡ false
-  pub named : namedCheck s.run.plan m ≡ 0
+  pub named : named_check s.run.plan m ≡ 0
   pub reaches : ReachesCorrect s.run m
 
 -- that checks 1 and 9 do not refuse the event
 abbrev pub Admitted : Event → State → Type 0
-Admitted e s = (lacksForm e ≡ false) × (unsound s ≡ false)
+Admitted e s = (lacks_form e ≡ false) × (unsound s ≡ false)
 
 -- that doing the task is applying the event
 abbrev pub Tasks : Event → State → Task → Type 0
 Tasks e s (Refuse k) = refused s k ≡ applied e s
 Tasks e s (Finish x) = done (with_run (run_from x s.run.clocks s.run.views) s) ≡ applied e s
 Tasks e s (Handle m i) = CanHandle s m × (handled s m i ≡ applied e s)
-Tasks e s (RunTicks m) = (0 < m) × (unsound s ≡ false) × (tickRun m s ≡ applied e s)
+Tasks e s (RunTicks m) = (0 < m) × (unsound s ≡ false) × (tick_run m s ≡ applied e s)

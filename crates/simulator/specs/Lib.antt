@@ -2,5 +2,5 @@
 pub mod Inner
 pub mod Strides
 pub mod Opening
-pub mod Contracts
+pub mod Clauses
 pub mod Demands

@@ -2,13 +2,13 @@
 // lent beside its head.
 ghost use Rattle.std.specs.Prelude.{◌≡◌, false, cond, ℕ, ◌+◌, ◌-◌, ◌^◌, ◌<◌, ◌≤◌, ltb, List, length, get_or};
 ghost use Rattle.types.specs.Quantities.{lead};
-ghost use Rattle.types.specs.Messages.{viewIn, processorIn, stageOf};
-ghost use Rattle.model.specs.State.{state_of, run_from, leftBehind, capacity};
-ghost use Rattle.model.specs.Moves.{ripe, made, formedMessages, heardChange};
-ghost use Rattle.model.specs.Checks.{planOutside, faultyOutside};
-ghost use Rattle.model.specs.Events.{waitSince};
-ghost use Rattle.buffers.specs.Network.{viewsPackable};
-ghost use Rattle.simulator.specs.Inner.{AllPackable, sentBy, Fit, Decides, ReachesCorrect, seat, namedCheck, CanEnter, movedChange, changeBy, sentFor, headWithout, trafficWithout, CanHandle, handled};
+ghost use Rattle.types.specs.Messages.{view_in, processor_in, stage_of};
+ghost use Rattle.model.specs.State.{state_of, run_from, left_behind, capacity};
+ghost use Rattle.model.specs.Moves.{ripe, made, formed_messages, heard_change};
+ghost use Rattle.model.specs.Checks.{plan_outside, faulty_outside};
+ghost use Rattle.model.specs.Events.{wait_since};
+ghost use Rattle.buffers.specs.Network.{views_packable};
+ghost use Rattle.simulator.specs.Inner.{AllPackable, sent_by, Fit, Decides, ReachesCorrect, seat, named_check, CanEnter, moved_change, change_by, sent_for, head_without, traffic_without, CanHandle, handled};
 
 use crate::{Reaction, moves, ticks};
 use types::{Answer, AppliedHead, Form, Head, Input, Message, Plan, Processor, Sends, Traffic};
@@ -90,7 +90,7 @@ fn decide(
     views: &[u64; 64],
     tally: &[u64],
 ) -> Reaction
-    requires { Fit (run_from head clocks.now views.now) × (namedCheck head.plan message ≡ 0) × ReachesCorrect (run_from head clocks.now views.now) message }
+    requires { Fit (run_from head clocks.now views.now) × (named_check head.plan message ≡ 0) × ReachesCorrect (run_from head clocks.now views.now) message }
     ensures { Decides (run_from head clocks.now views.now) tally.now message result }
 {
     match message {
@@ -103,8 +103,8 @@ fn decide(
 
 // How many messages that sends.
 fn count_sent(plan: Plan, faulty: u64, message: Message, x: Reaction) -> usize
-    requires { (planOutside plan ≡ false) × (faultyOutside plan faulty ≡ false) }
-    ensures { (result ≡ length (sentFor plan faulty message x)) × (result ≤ 64) }
+    requires { (plan_outside plan ≡ false) × (faulty_outside plan faulty ≡ false) }
+    ensures { (result ≡ length (sent_for plan faulty message x)) × (result ≤ 64) }
 {
     let sends = x.sends;
     match message {
@@ -123,12 +123,12 @@ fn listen(
     tally: &mut [u64],
     network: &mut [u64],
 ) -> Head
-    requires { (0 < head.plan.n) × (processorIn message < 64)
-        × (head.held + length (formedMessages head.plan head.faulty (stageOf message) (viewIn message) formed) ≤ capacity Form.Packed network.old)
-        × (head.plan.n ≤ 64) × (viewIn message < viewsPackable) }
+    requires { (0 < head.plan.n) × (processor_in message < 64)
+        × (head.held + length (formed_messages head.plan head.faulty (stage_of message) (view_in message) formed) ≤ capacity Form.Packed network.old)
+        × (head.plan.n ≤ 64) × (view_in message < views_packable) }
     ensures { (c v : List ℕ) → state_of (run_from result c v) tally.new network.new
         ≡ made (state_of (run_from head c v) tally.old network.old)
-        (heardChange (stageOf message) (run_from head c v) tally.old (viewIn message) (processorIn message) formed) }
+        (heard_change (stage_of message) (run_from head c v) tally.old (view_in message) (processor_in message) formed) }
 {
     let stage = message.stage();
     let w = message.view();
@@ -163,7 +163,7 @@ fn move_on(
 ) -> Head
     requires { CanEnter head.plan head.faulty p x.sends head.held network.old }
     ensures { state_of (run_from result clocks.new views.new) tally.new network.new
-        ≡ made (state_of (run_from head clocks.old views.old) tally.old network.old) (movedChange (run_from head clocks.old views.old) tally.old p x) }
+        ≡ made (state_of (run_from head clocks.old views.old) tally.old network.old) (moved_change (run_from head clocks.old views.old) tally.old p x) }
 {
     let i = p as usize;
     let sends = x.sends;
@@ -198,10 +198,10 @@ fn perform(
     tally: &mut [u64],
     network: &mut [u64],
 ) -> Head
-    requires { (0 < head.plan.n) × (processorIn message < 64) × (head.held + length (sentFor head.plan head.faulty message x) ≤ capacity Form.Packed network.old)
-        × (head.plan.n ≤ 64) × (viewIn message < viewsPackable) × AllPackable (sentBy head.plan head.faulty (processorIn message) x.sends) }
+    requires { (0 < head.plan.n) × (processor_in message < 64) × (head.held + length (sent_for head.plan head.faulty message x) ≤ capacity Form.Packed network.old)
+        × (head.plan.n ≤ 64) × (view_in message < views_packable) × AllPackable (sent_by head.plan head.faulty (processor_in message) x.sends) }
     ensures { state_of (run_from result clocks.new views.new) tally.new network.new
-        ≡ made (state_of (run_from head clocks.old views.old) tally.old network.old) (changeBy (run_from head clocks.old views.old) tally.old message x) }
+        ≡ made (state_of (run_from head clocks.old views.old) tally.old network.old) (change_by (run_from head clocks.old views.old) tally.old message x) }
 {
     if message.is_signature() {
         return listen(head, message, x.formed, tally, network);
@@ -211,8 +211,8 @@ fn perform(
 
 // What a message would come to by what was decided: 17, 18, or 0 for neither.
 fn outcome_check(head: Head, message: Message, x: Reaction, room: usize) -> u64
-    requires { (planOutside head.plan ≡ false) × (faultyOutside head.plan head.faulty ≡ false) × (head.held ≤ room) × (room < 2 ^ 63) }
-    ensures { result ≡ cond x.ends 17 (cond (ltb room (head.held + length (sentFor head.plan head.faulty message x))) 18 0) }
+    requires { (plan_outside head.plan ≡ false) × (faulty_outside head.plan head.faulty ≡ false) × (head.held ≤ room) × (room < 2 ^ 63) }
+    ensures { result ≡ cond x.ends 17 (cond (ltb room (head.held + length (sent_for head.plan head.faulty message x))) 18 0) }
 {
     if x.ends {
         return 17;
@@ -235,7 +235,7 @@ fn wait_since(sent: u64, time: u64) -> u64
 
 // The head without the message at a place, if one is held there.
 fn head_without(head: Head, place: usize) -> Head
-    ensures { result ≡ headWithout head place }
+    ensures { result ≡ head_without head place }
 {
     if head.held <= place {
         return head;
@@ -247,7 +247,7 @@ fn head_without(head: Head, place: usize) -> Head
 
 // The sums with the message, which is delivered if it is held at the place named.
 fn note_delivery(head: Head, message: Message, place: usize, network: &[u64]) -> Traffic
-    ensures { result ≡ trafficWithout head.traffic message (waitSince head.time Form.Packed network.now place) head.held place }
+    ensures { result ≡ traffic_without head.traffic message (wait_since head.time Form.Packed network.now place) head.held place }
 {
     if head.held <= place {
         return head.traffic;
@@ -271,7 +271,7 @@ pub(crate) fn handle(
     network: &mut [u64],
 ) -> AppliedHead
     requires { CanHandle (state_of (run_from head clocks.old views.old) tally.old network.old) message }
-    ensures { leftBehind result clocks.new views.new tally.new network.new
+    ensures { left_behind result clocks.new views.new tally.new network.new
         ≡ handled (state_of (run_from head clocks.old views.old) tally.old network.old) message place }
 {
     let mut next = head_without(head, place);

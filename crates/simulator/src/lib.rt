@@ -7,11 +7,11 @@ mod tasks;
 mod ticks;
 
 ghost use Rattle.std.specs.Prelude.{◌≡◌, false, ℕ};
-ghost use Rattle.model.specs.State.{state_of, run_from, handedBack, leftBehind, accepted};
-ghost use Rattle.model.specs.Checks.{unsoundForGood};
-ghost use Rattle.liveness.specs.Promises.{Tabled, answerFrom};
+ghost use Rattle.model.specs.State.{state_of, run_from, handed_back, left_behind, accepted};
+ghost use Rattle.model.specs.Checks.{unsound_for_good};
+ghost use Rattle.liveness.specs.Promises.{Tabled, answer_from};
 ghost use Rattle.loads.specs.Loads.{point_of};
-ghost use Rattle.simulator.specs.Contracts.{Opens, Applies, AppliesAll, WritesLoad};
+ghost use Rattle.simulator.specs.Clauses.{Opens, Applies, AppliesAll, WritesLoad};
 
 use types::{
     Answer, Applied, AppliedHead, Event, Form, Head, Message, Processor, Run, Sends, Setup,
@@ -59,7 +59,7 @@ pub fn open_lent(
     network: &mut [u64],
 ) -> AppliedHead
     ensures { Opens setup (state_of (run_from head clocks.old views.old) tally.old network.old)
-        (leftBehind result clocks.new views.new tally.new network.new) }
+        (left_behind result clocks.new views.new tally.new network.new) }
 {
     let check = checks::setup_check(setup, tally.len(), network.len());
     if check == 0 {
@@ -89,9 +89,9 @@ fn apply_judged(
     tally: &mut [u64],
     network: &mut [u64],
 ) -> AppliedHead
-    requires { broken ≡ unsoundForGood (state_of (run_from head clocks.old views.old) tally.old network.old) }
+    requires { broken ≡ unsound_for_good (state_of (run_from head clocks.old views.old) tally.old network.old) }
     ensures { Applies event (state_of (run_from head clocks.old views.old) tally.old network.old)
-        (leftBehind result clocks.new views.new tally.new network.new) }
+        (left_behind result clocks.new views.new tally.new network.new) }
 {
     let task = tasks::judge(head, broken, event, tally, network);
     match task {
@@ -106,7 +106,7 @@ fn apply_judged(
 
 // A setup is opened: the run, in place of the one handed in, and the lent buffers.
 pub fn open(run: Run, setup: Setup, tally: &mut [u64], network: &mut [u64]) -> Applied
-    ensures { Opens setup (state_of run tally.old network.old) (handedBack result tally.new network.new) }
+    ensures { Opens setup (state_of run tally.old network.old) (handed_back result tally.new network.new) }
 {
     let mut clocks = run.clocks;
     let mut views = run.views;
@@ -128,7 +128,7 @@ pub fn open(run: Run, setup: Setup, tally: &mut [u64], network: &mut [u64]) -> A
 
 // An event is applied to the run and the lent buffers, whatever they hold.
 pub fn apply(run: Run, event: Event, tally: &mut [u64], network: &mut [u64]) -> Applied
-    ensures { Applies event (state_of run tally.old network.old) (handedBack result tally.new network.new) }
+    ensures { Applies event (state_of run tally.old network.old) (handed_back result tally.new network.new) }
 {
     let mut clocks = run.clocks;
     let mut views = run.views;
@@ -154,7 +154,7 @@ fn apply_words(
     network: &mut [u64],
     events: &mut [u64],
 ) -> Head
-    requires { (broken ≡ unsoundForGood (state_of (run_from head clocks.old views.old) tally.old network.old)) × (broken ≡ false → Tabled (run_from head clocks.old views.old)) }
+    requires { (broken ≡ unsound_for_good (state_of (run_from head clocks.old views.old) tally.old network.old)) × (broken ≡ false → Tabled (run_from head clocks.old views.old)) }
     ensures { AppliesAll events.old (state_of (run_from head clocks.old views.old) tally.old network.old)
         (state_of (run_from result clocks.new views.new) tally.new network.new) events.new }
 {
@@ -192,7 +192,7 @@ pub fn apply_events(
 
 // Whether an event was accepted, by its answer in words.
 fn is_accepted(check: u64, ticks: u64) -> bool
-    ensures { (held : ℕ) → result ≡ accepted (answerFrom check ticks held) }
+    ensures { (held : ℕ) → result ≡ accepted (answer_from check ticks held) }
 {
     if check == 0 {
         return true;

@@ -4,11 +4,11 @@ ghost use Rattle.std.specs.Prelude.{◌≡◌, [], ◌∷◌, true, cond, ℕ, �
 ghost use Rattle.base.specs.Sets.{size};
 ghost use Rattle.types.specs.Quantities.{lead, correct};
 ghost use Rattle.types.specs.Messages.{addressee};
-ghost use Rattle.types.specs.Traffic.{trafficSent};
+ghost use Rattle.types.specs.Traffic.{traffic_sent};
 ghost use Rattle.model.specs.State.{capacity};
-ghost use Rattle.buffers.specs.Network.{viewsPackable};
-ghost use Rattle.model.specs.Moves.{toCorrect, needed, ripe, certificate, toEach, heardTally, formedMessages};
-ghost use Rattle.simulator.specs.Inner.{Posts, AllPackable, sentBy, CanEnter, Enters, pairs};
+ghost use Rattle.buffers.specs.Network.{views_packable};
+ghost use Rattle.model.specs.Moves.{to_correct, needed, ripe, certificate, to_each, heard_tally, formed_messages};
+ghost use Rattle.simulator.specs.Inner.{Posts, AllPackable, sent_by, CanEnter, Enters, pairs};
 
 use types::{Form, Message, Plan, Sends, Traffic};
 
@@ -21,8 +21,8 @@ pub(crate) fn send(
     message: Message,
     time: u64,
 ) -> usize
-    requires { (0 < plan.n) × (held + length (toCorrect plan faulty (message ∷ [])) ≤ capacity Form.Packed network.old) × AllPackable (toCorrect plan faulty (message ∷ [])) }
-    ensures { Posts (toCorrect plan faulty (message ∷ [])) held time network.old result network.new }
+    requires { (0 < plan.n) × (held + length (to_correct plan faulty (message ∷ [])) ≤ capacity Form.Packed network.old) × AllPackable (to_correct plan faulty (message ∷ [])) }
+    ensures { Posts (to_correct plan faulty (message ∷ [])) held time network.old result network.new }
 {
     if plan.correct(faulty, message.addressee(plan)) {
         buffers::append(Form::Packed, network, held, message, time);
@@ -51,8 +51,8 @@ fn broadcast(
     w: u64,
     time: u64,
 ) -> usize
-    requires { (0 < plan.n) × (held + length (toCorrect plan faulty (toEach stage w plan.n)) ≤ capacity Form.Packed network.old) × (plan.n ≤ 64) × (w < viewsPackable) }
-    ensures { Posts (toCorrect plan faulty (toEach stage w plan.n)) held time network.old result network.new }
+    requires { (0 < plan.n) × (held + length (to_correct plan faulty (to_each stage w plan.n)) ≤ capacity Form.Packed network.old) × (plan.n ≤ 64) × (w < views_packable) }
+    ensures { Posts (to_correct plan faulty (to_each stage w plan.n)) held time network.old result network.new }
 {
     let mut h = held;
     let mut q = 0;
@@ -173,7 +173,7 @@ fn share(goes: bool, k: usize) -> usize
 // How many messages go into the network of what processor p sends in one move.
 pub(crate) fn count_entry(plan: Plan, faulty: u64, p: u64, sends: Sends) -> usize
     requires { 0 < plan.n }
-    ensures { result ≡ length (sentBy plan faulty p sends) }
+    ensures { result ≡ length (sent_by plan faulty p sends) }
 {
     match sends {
         Sends::Nothing => 0,
@@ -223,8 +223,8 @@ pub(crate) fn hear(
     formed: bool,
     time: u64,
 ) -> usize
-    requires { (0 < plan.n) × (p < 64) × (held + length (formedMessages plan faulty stage w formed) ≤ capacity Form.Packed network.old) × (plan.n ≤ 64) × (w < viewsPackable) }
-    ensures { Posts (formedMessages plan faulty stage w formed) held time network.old result network.new × (tally.new ≡ heardTally tally.old stage w p formed) }
+    requires { (0 < plan.n) × (p < 64) × (held + length (formed_messages plan faulty stage w formed) ≤ capacity Form.Packed network.old) × (plan.n ≤ 64) × (w < views_packable) }
+    ensures { Posts (formed_messages plan faulty stage w formed) held time network.old result network.new × (tally.new ≡ heard_tally tally.old stage w p formed) }
 {
     buffers::hear(tally, stage, w, p);
     if formed {
@@ -236,14 +236,14 @@ pub(crate) fn hear(
 
 // The sums with a certificate of which so many copies were posted.
 pub(crate) fn note_formed(traffic: Traffic, stage: bool, w: u64, posted: usize) -> Traffic
-    ensures { result ≡ trafficSent traffic (replicate posted (certificate stage w 0)) }
+    ensures { result ≡ traffic_sent traffic (replicate posted (certificate stage w 0)) }
 {
     sums::send(traffic, certificate_of(stage, w, 0), posted as u64)
 }
 
 // The sums with entries into initial views that posted so many messages: as many view messages as votes.
 pub(crate) fn note_pairs(traffic: Traffic, posted: usize) -> Traffic
-    ensures { result ≡ trafficSent traffic (pairs (posted / 2)) }
+    ensures { result ≡ traffic_sent traffic (pairs (posted / 2)) }
 {
     let k = posted as u64 / 2;
     sums::send(
@@ -255,7 +255,7 @@ pub(crate) fn note_pairs(traffic: Traffic, posted: usize) -> Traffic
 
 // The sums with what processor p sends in one move, of which so many messages were posted.
 pub(crate) fn note_entry(traffic: Traffic, p: u64, sends: Sends, posted: usize) -> Traffic
-    ensures { (plan : Plan) (faulty : ℕ) → posted ≡ length (sentBy plan faulty p sends) → result ≡ trafficSent traffic (sentBy plan faulty p sends) }
+    ensures { (plan : Plan) (faulty : ℕ) → posted ≡ length (sent_by plan faulty p sends) → result ≡ traffic_sent traffic (sent_by plan faulty p sends) }
 {
     match sends {
         Sends::Nothing => traffic,

@@ -2,10 +2,10 @@
 ghost use Rattle.std.specs.Prelude.{◌≡◌, cond, ◌*◌, ◌≤◌, ◌<◌, length};
 ghost use Rattle.types.specs.Quantities.{correct};
 ghost use Rattle.model.specs.State.{state_of, capacity};
-ghost use Rattle.model.specs.Opening.{blankRun, opened};
-ghost use Rattle.checks.specs.Setups.{setupCheck};
+ghost use Rattle.model.specs.Opening.{blank_run, opened};
+ghost use Rattle.checks.specs.Setups.{setup_check};
 ghost use Rattle.simulator.specs.Inner.{Posts};
-ghost use Rattle.simulator.specs.Opening.{firstSends, enteredFirst};
+ghost use Rattle.simulator.specs.Opening.{first_sends, entered_first};
 
 use crate::moves;
 use types::{Form, Plan, Run, Sends, Setup, Traffic};
@@ -25,7 +25,7 @@ fn start_clock(plan: Plan, faulty: u64, q: u64, clock: u64) -> u64
 
 // The run before the first entry.
 fn blank(setup: Setup) -> Run
-    ensures { result ≡ blankRun setup }
+    ensures { result ≡ blank_run setup }
 {
     let mut clocks = [0; 64];
     let mut q = 0;
@@ -50,7 +50,7 @@ fn blank(setup: Setup) -> Run
 
 // What processor q sends at the opening: a correct one enters view 0.
 fn first_sends(plan: Plan, faulty: u64, q: u64) -> Sends
-    ensures { result ≡ firstSends plan faulty q }
+    ensures { result ≡ first_sends plan faulty q }
 {
     if plan.correct(faulty, q) {
         return Sends::ViewAndVote(0);
@@ -61,7 +61,7 @@ fn first_sends(plan: Plan, faulty: u64, q: u64) -> Sends
 // Every correct processor enters view 0, by rising number. Answers how many messages are held then.
 fn enter_all(setup: Setup, tally: &mut [u64], network: &mut [u64]) -> usize
     requires { (0 < setup.plan.n) × (setup.plan.n ≤ 64) × (2 * setup.plan.n ≤ capacity Form.Packed network.old) }
-    ensures { Posts (enteredFirst setup tally.old setup.plan.n).sent 0 0 network.old result network.new × (tally.new ≡ (enteredFirst setup tally.old setup.plan.n).tally) }
+    ensures { Posts (entered_first setup tally.old setup.plan.n).sent 0 0 network.old result network.new × (tally.new ≡ (entered_first setup tally.old setup.plan.n).tally) }
 {
     let n = setup.plan.n;
     let mut held = 0;
@@ -76,8 +76,8 @@ fn enter_all(setup: Setup, tally: &mut [u64], network: &mut [u64]) -> usize
 
 // The setup, which checks 2 to 8 passed, is opened.
 pub(crate) fn start(setup: Setup, tally: &mut [u64], network: &mut [u64]) -> Run
-    requires { setupCheck Form.Packed setup (length tally.old) (length network.old) ≡ 0 }
-    ensures { state_of result tally.new network.new ≡ opened setup (state_of (blankRun setup) tally.old network.old) }
+    requires { setup_check Form.Packed setup (length tally.old) (length network.old) ≡ 0 }
+    ensures { state_of result tally.new network.new ≡ opened setup (state_of (blank_run setup) tally.old network.old) }
 {
     let rows = setup.plan.views as usize;
     buffers::zero_words(tally, buffers::ROW_WORDS * rows);

@@ -1,15 +1,15 @@
 // What an event's input comes to, on a run whose check 9 is known: a refusal, or what is to be done. Nothing is written here.
 ghost use Rattle.std.specs.Prelude.{◌≡◌, false, ◌||◌, ℕ, ◌<◌, List};
 ghost use Rattle.model.specs.State.{state_of, run_from};
-ghost use Rattle.model.specs.Checks.{planOutside, atEnd, unsoundForGood, exists};
-ghost use Rattle.simulator.specs.Inner.{namedCheck, Admitted, Tasks};
+ghost use Rattle.model.specs.Checks.{plan_outside, at_end, unsound_for_good, exists};
+ghost use Rattle.simulator.specs.Inner.{named_check, Admitted, Tasks};
 
 use crate::{Task, moves};
 use types::{Event, Head, Message, Plan};
 
 // Checks 10 and 11.
 fn check_named(plan: Plan, message: Message) -> u64
-    ensures { result ≡ namedCheck plan message }
+    ensures { result ≡ named_check plan message }
 {
     if plan.n <= message.processor() {
         return 10;
@@ -106,8 +106,8 @@ fn judge_settling(head: Head) -> Task
 
 // Check 9, `broken` being what it says but for the time.
 fn is_nine(broken: bool, head: Head) -> bool
-    requires { broken ≡ false → planOutside head.plan ≡ false }
-    ensures { result ≡ (broken || atEnd head.plan head.time) }
+    requires { broken ≡ false → plan_outside head.plan ≡ false }
+    ensures { result ≡ (broken || at_end head.plan head.time) }
 {
     if broken {
         return true;
@@ -117,8 +117,8 @@ fn is_nine(broken: bool, head: Head) -> bool
 
 // An event, `broken` being what check 9 says but for the time.
 pub(crate) fn judge(head: Head, broken: bool, event: Event, tally: &[u64], network: &[u64]) -> Task
-    requires { broken ≡ false → planOutside head.plan ≡ false }
-    ensures { (c v : List ℕ) → broken ≡ unsoundForGood (state_of (run_from head c v) tally.now network.now)
+    requires { broken ≡ false → plan_outside head.plan ≡ false }
+    ensures { (c v : List ℕ) → broken ≡ unsound_for_good (state_of (run_from head c v) tally.now network.now)
         → Tasks event (state_of (run_from head c v) tally.now network.now) result }
 {
     if event.lacks_form() {

@@ -2,12 +2,12 @@
 ghost use Rattle.std.specs.Prelude.{◌≡◌, true, false, List, ◌+◌, ◌^◌, ◌<◌, ◌≤◌, ℕ, leb, length};
 ghost use Rattle.base.specs.Scan.{some};
 ghost use Rattle.types.specs.Quantities.{correct};
-ghost use Rattle.model.specs.State.{state_of, run_from, leftBehind, capacity};
-ghost use Rattle.model.specs.Checks.{planOutside, overdue, unsound};
-ghost use Rattle.model.specs.Events.{ticksAnswer, tickRun};
-ghost use Rattle.model.specs.Processors.{processorUnsound, movingBy};
+ghost use Rattle.model.specs.State.{state_of, run_from, left_behind, capacity};
+ghost use Rattle.model.specs.Checks.{plan_outside, overdue, unsound};
+ghost use Rattle.model.specs.Events.{ticks_answer, tick_run};
+ghost use Rattle.model.specs.Processors.{processor_unsound, moving_by};
 ghost use Rattle.pacemaker.specs.Steps.{Named};
-ghost use Rattle.simulator.specs.Inner.{Reacts, Arrives, Fit, Whole, GoesOn, arrivedBelow, ends_at, sentMost, CanTick, TickMade, TickedTo, ranTo};
+ghost use Rattle.simulator.specs.Inner.{Reacts, Arrives, Fit, Whole, GoesOn, arrived_below, ends_at, sent_most, CanTick, TickMade, TickedTo, ran_to};
 ghost use Rattle.simulator.specs.Strides.{Ready, Advances};
 
 use crate::{Reaction, moves};
@@ -18,8 +18,8 @@ const SENT_MOST: usize = 128;
 
 // What an input makes of a processor, by the pacemaker's own step.
 pub(crate) fn react(plan: Plan, processor: Processor, input: Input) -> Reaction
-    requires { (processorUnsound plan processor ≡ false) × (processor.number < plan.n) × Named plan input }
-    ensures { Reacts plan processor (movingBy plan processor input) result }
+    requires { (processor_unsound plan processor ≡ false) × (processor.number < plan.n) × Named plan input }
+    ensures { Reacts plan processor (moving_by plan processor input) result }
 {
     let o = pacemaker::step(plan, processor, input);
     let next = o.processor;
@@ -42,8 +42,8 @@ pub(crate) fn react(plan: Plan, processor: Processor, input: Input) -> Reaction
 
 // What a tick makes of a correct processor. Most only go on: the pacemaker's step is asked where the clock comes to an initial view's clock time.
 fn react_to_tick(plan: Plan, processor: Processor) -> Reaction
-    requires { (processorUnsound plan processor ≡ false) × (processor.number < plan.n) }
-    ensures { Reacts plan processor (movingBy plan processor Input.Tick) result }
+    requires { (processor_unsound plan processor ≡ false) × (processor.number < plan.n) }
+    ensures { Reacts plan processor (moving_by plan processor Input.Tick) result }
 {
     let clock = processor.clock + 1;
     if clock < plan.clock_time(plan.next_initial(processor.view)) {
@@ -63,7 +63,7 @@ fn react_to_tick(plan: Plan, processor: Processor) -> Reaction
 
 // What a tick makes of a processor: a faulty one stays as it is.
 fn arrive(plan: Plan, faulty: u64, processor: Processor) -> Reaction
-    requires { (processor.number < plan.n) × (correct plan faulty processor.number ≡ true → processorUnsound plan processor ≡ false) }
+    requires { (processor.number < plan.n) × (correct plan faulty processor.number ≡ true → processor_unsound plan processor ≡ false) }
     ensures { Arrives plan faulty processor result }
 {
     if plan.correct(faulty, processor.number) {
@@ -79,7 +79,7 @@ fn arrive(plan: Plan, faulty: u64, processor: Processor) -> Reaction
 
 // Whether a tick brings a correct clock to the end.
 fn some_ends(head: Head, clocks: &[u64; 64]) -> bool
-    requires { planOutside head.plan ≡ false }
+    requires { plan_outside head.plan ≡ false }
     ensures { (v : List ℕ) → result ≡ some (ends_at (run_from head clocks.now v)) head.plan.n }
 {
     let n = head.plan.n;
@@ -101,7 +101,7 @@ fn some_ends(head: Head, clocks: &[u64; 64]) -> bool
 fn foretell(head: Head, clocks: &[u64; 64], views: &[u64; 64]) -> usize
     requires { GoesOn (run_from head clocks.now views.now) }
     ensures { ((t ws : List ℕ) → result
-        ≡ length (arrivedBelow (state_of (run_from head clocks.now views.now) t ws) head.plan.n).sent) × (result ≤ sentMost) }
+        ≡ length (arrived_below (state_of (run_from head clocks.now views.now) t ws) head.plan.n).sent) × (result ≤ sent_most) }
 {
     let n = head.plan.n;
     let mut sent = 0;
@@ -126,9 +126,9 @@ fn foretell(head: Head, clocks: &[u64; 64], views: &[u64; 64]) -> usize
 
 // Whether there is room for what such a tick sends. Its messages are counted only where the most that a tick sends would not fit.
 fn has_room(head: Head, clocks: &[u64; 64], views: &[u64; 64], room: usize) -> bool
-    requires { GoesOn (run_from head clocks.now views.now) × (head.held + sentMost < 2 ^ 64) }
+    requires { GoesOn (run_from head clocks.now views.now) × (head.held + sent_most < 2 ^ 64) }
     ensures { (t ws : List ℕ) → result
-        ≡ leb (head.held + length (arrivedBelow (state_of (run_from head clocks.now views.now) t ws) head.plan.n).sent) room }
+        ≡ leb (head.held + length (arrived_below (state_of (run_from head clocks.now views.now) t ws) head.plan.n).sent) room }
 {
     if head.held + SENT_MOST <= room {
         return true;
@@ -259,7 +259,7 @@ fn advance(
 // The answer to ticks that a check ended: none done is a refusal.
 fn stop(head: Head, count: u64, check: u64) -> AppliedHead
     requires { 0 < check }
-    ensures { (result.head ≡ head) × ((c v t ws : List ℕ) → result.answer ≡ ticksAnswer (ranTo (state_of (run_from head c v) t ws) count check)) }
+    ensures { (result.head ≡ head) × ((c v t ws : List ℕ) → result.answer ≡ ticks_answer (ran_to (state_of (run_from head c v) t ws) count check)) }
 {
     let held = head.held;
     if count == 0 {
@@ -284,8 +284,8 @@ pub(crate) fn run_ticks(
     network: &mut [u64],
 ) -> AppliedHead
     requires { (0 < m) × (unsound (state_of (run_from head clocks.old views.old) tally.old network.old) ≡ false) }
-    ensures { leftBehind result clocks.new views.new tally.new network.new
-        ≡ tickRun m (state_of (run_from head clocks.old views.old) tally.old network.old) }
+    ensures { left_behind result clocks.new views.new tally.new network.new
+        ≡ tick_run m (state_of (run_from head clocks.old views.old) tally.old network.old) }
 {
     let mut at = head;
     let mut count = 0;

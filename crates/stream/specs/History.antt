@@ -4,11 +4,11 @@ use Rattle.types.specs.declared.Event.{Event}
 use Rattle.types.specs.declared.Setup.{Setup}
 use Rattle.model.specs.State.{State, accepted}
 use Rattle.model.specs.Opening.{opening}
-use Rattle.model.specs.Traffic.{historyTotals}
+use Rattle.model.specs.Traffic.{history_totals}
 use Rattle.lines.specs.declared.Read.{Read}
 use Rattle.lines.specs.declared.Read.TheVariants as Read
-use Rattle.lines.specs.Printout.{totalsText}
-use Rattle.lines.specs.Splitting.{Cut, inputLines, cutRead}
+use Rattle.lines.specs.Printout.{totals_text}
+use Rattle.lines.specs.Splitting.{Cut, input_lines, cut_read}
 use Rattle.reader.specs.Lines.{reading}
 use Rattle.printout.specs.Printout.{Standing, at_start, reply}
 
@@ -17,34 +17,34 @@ use Rattle.printout.specs.Printout.{Standing, at_start, reply}
 -- the setup of the last accepted opening, the state before it, and the events of the lines behind it; or no opening was accepted
 pub data History : Type 0 where
   never : History
-  openedWith : Setup → State → List Event → History
+  opened_with : Setup → State → List Event → History
 
 -- the event of a line is one of the run that is open, accepted or refused: "a refused one having changed nothing"
-abbrev pub eventHistory : Event → History → History
-eventHistory e never = never
-eventHistory e (openedWith u before es) = openedWith u before (es ++ (e ∷ []))
+abbrev pub event_history : Event → History → History
+event_history e never = never
+event_history e (opened_with u before es) = opened_with u before (es ++ (e ∷ []))
 
 -- "A later accepted opening begins a new run in place of the old; a refused one leaves the old run going."
-abbrev pub openingHistory : Setup → Standing → History → History
-openingHistory u x h = cond (accepted (opening u x.state).answer) (openedWith u x.state []) h
+abbrev pub opening_history : Setup → Standing → History → History
+opening_history u x h = cond (accepted (opening u x.state).answer) (opened_with u x.state []) h
 
 -- a line that is none of the forms changes nothing
-abbrev pub readHistory : Read → Setup → Standing → History → History
-readHistory (Read.Event e) u x h = eventHistory e h
-readHistory Read.Opening u x h = openingHistory u x h
-readHistory Read.NoForm u x h = h
+abbrev pub read_history : Read → Setup → Standing → History → History
+read_history (Read.Event e) u x h = event_history e h
+read_history Read.Opening u x h = opening_history u x h
+read_history Read.NoForm u x h = h
 
 -- lines in turn, x being the state before the first of them, and h the history behind it
-abbrev pub historyFrom : History → Standing → List Cut → History
-historyFrom h x [] = h
-historyFrom h x (c ∷ cs) = let r = cutRead reading c in historyFrom (readHistory r.read r.setup x h) (reply r x).standing cs
+abbrev pub history_from : History → Standing → List Cut → History
+history_from h x [] = h
+history_from h x (c ∷ cs) = let r = cut_read reading c in history_from (read_history r.read r.setup x h) (reply r x).standing cs
 
 -- those of a whole input
-unfoldable pub lastRun : List ℕ → History
-lastRun s = historyFrom never at_start (inputLines s)
+unfoldable pub last_run : List ℕ → History
+last_run s = history_from never at_start (input_lines s)
 
 -- ---- its report
 
-abbrev pub historyText : History → List ℕ
-historyText never = []
-historyText (openedWith u before es) = totalsText (historyTotals u before es)
+abbrev pub history_text : History → List ℕ
+history_text never = []
+history_text (opened_with u before es) = totals_text (history_totals u before es)

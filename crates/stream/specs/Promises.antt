@@ -5,27 +5,27 @@ use Rattle.types.specs.declared.Setup.{Setup}
 use Rattle.model.specs.State.{State, accepted}
 use Rattle.model.specs.Opening.{opening}
 use Rattle.model.specs.Lists.{after}
-use Rattle.model.specs.Traffic.{heldCounts, historyTotals}
-use Rattle.liveness.specs.Traffic.{bothCounts}
-use Rattle.lines.specs.Printout.{trafficText}
-use Rattle.lines.specs.Splitting.{inputLines}
-use Rattle.printout.specs.Printout.{Standing, standingOf, standingAfter, at_start}
-use Rattle.printout.specs.Traffic.{reportText, trafficPrintout}
+use Rattle.model.specs.Traffic.{held_counts, history_totals}
+use Rattle.liveness.specs.Traffic.{both_counts}
+use Rattle.lines.specs.Printout.{traffic_text}
+use Rattle.lines.specs.Splitting.{input_lines}
+use Rattle.printout.specs.Printout.{Standing, standing_of, standing_after, at_start}
+use Rattle.printout.specs.Traffic.{report_text, traffic_printout}
 use Rattle.stream.specs.declared.Progress.{Progress}
 use Rattle.stream.specs.Threads.{Reaches}
-use Rattle.stream.specs.History.{History, never, openedWith, lastRun, historyText}
+use Rattle.stream.specs.History.{History, never, opened_with, last_run, history_text}
 
 -- what some input led to is reported of as the whole input is
 abbrev pub ReportsReached : Type 0
 ReportsReached =
     (tally network window : List ℕ) (r : Progress) (h : Reaches tally network window r)
-    → reportText (standingOf r.session tally network) ≡ trafficPrintout (h.input ++ take r.bytes window)
+    → report_text (standing_of r.session tally network) ≡ traffic_printout (h.input ++ take r.bytes window)
 
 -- no report is refused: of the run that is open at the end of an input, if one is, the traffic is told
 abbrev pub ReportsTold : Type 0
 ReportsTold =
-    (input : List ℕ) → let x = standingAfter at_start (inputLines input) in
-    trafficPrintout input ≡ cond x.opened (trafficText x.state.run.traffic (heldCounts x.state)) []
+    (input : List ℕ) → let x = standing_after at_start (input_lines input) in
+    traffic_printout input ≡ cond x.opened (traffic_text x.state.run.traffic (held_counts x.state)) []
 
 -- ---- "The sums are those of the schedule's history: sent is delivered plus held, kind by kind"
 
@@ -38,18 +38,18 @@ pub record RunAfter (u : Setup) (before : State) (es : List Event) (x : Standing
 -- that a history leads to the state x; without an accepted opening no run is open
 abbrev pub HistoryLeads : History → Standing → Type 0
 HistoryLeads never x = x.opened ≡ false
-HistoryLeads (openedWith u before es) x = RunAfter u before es x
+HistoryLeads (opened_with u before es) x = RunAfter u before es x
 
 -- that its report adds up
 abbrev pub HistoryAdds : History → Type 0
 HistoryAdds never = Unit {0}
-HistoryAdds (openedWith u before es) = let y = historyTotals u before es in y.traffic.sent ≡ bothCounts y.traffic.delivered y.held
+HistoryAdds (opened_with u before es) = let y = history_totals u before es in y.traffic.sent ≡ both_counts y.traffic.delivered y.held
 
 -- for every input: the events behind its last accepted opening led to where it ends, and what is printed is the report of their history
 pub record ToldOf (h : History) (x : Standing) (printed : List ℕ) : Type 0 where
   pub leads : HistoryLeads h x
-  pub text : printed ≡ historyText h
+  pub text : printed ≡ history_text h
   pub adds : HistoryAdds h
 
 abbrev pub ReportsHistory : Type 0
-ReportsHistory = (input : List ℕ) → ToldOf (lastRun input) (standingAfter at_start (inputLines input)) (trafficPrintout input)
+ReportsHistory = (input : List ℕ) → ToldOf (last_run input) (standing_after at_start (input_lines input)) (traffic_printout input)

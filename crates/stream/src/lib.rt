@@ -1,11 +1,11 @@
 // The simulate program and the traffic program between two open files. What is read and what is printed are the driver's; here bytes are moved, and a
 // report is printed.
 ghost use Rattle.std.specs.Prelude.{◌≡◌, cond, ◌+◌, ◌-◌, ◌≤◌, length, take, drop, replicate};
-ghost use Rattle.lines.specs.Contracts.{Prints};
-ghost use Rattle.lines.specs.Printout.{printedMost, totalsMost};
+ghost use Rattle.lines.specs.Clauses.{Prints};
+ghost use Rattle.lines.specs.Printout.{printed_most, totals_most};
 ghost use Rattle.std.proofs.Math.Seq.{paste};
-ghost use Rattle.printout.specs.Printout.{standingOf, tallyLent, networkLent};
-ghost use Rattle.printout.specs.Traffic.{reportText};
+ghost use Rattle.printout.specs.Printout.{standing_of, tally_lent, network_lent};
+ghost use Rattle.printout.specs.Traffic.{report_text};
 ghost use Rattle.stream.specs.Threads.{Threads, Reaches};
 
 use lines::Written;
@@ -54,7 +54,7 @@ fn answer_all(
     to: i32,
     reporting: bool,
 ) -> Progress
-    ensures { Threads (standingOf session tally.old network.old) late bytes.now out.old
+    ensures { Threads (standing_of session tally.old network.old) late bytes.now out.old
         tally.new network.new result }
 {
     let mut state = session;
@@ -102,7 +102,7 @@ fn answer_input(
     out: &mut [u8],
     reporting: bool,
 ) -> Progress
-    requires { (tally.old ≡ replicate tallyLent 0) × (network.old ≡ replicate networkLent 0) × (printedMost ≤ length out.old) }
+    requires { (tally.old ≡ replicate tally_lent 0) × (network.old ≡ replicate network_lent 0) × (printed_most ≤ length out.old) }
     ensures { Reaches tally.new network.new window.new result }
 {
     let mut session = Session::unopened();
@@ -159,7 +159,7 @@ fn close_input(session: Session, late: bool, rest: &[u8], out: &mut [u8], to: i3
 
 // The report of the run that is open; nothing where none is.
 fn print_report(session: Session, tally: &[u64], network: &[u64], out: &mut [u8]) -> Written
-    ensures { Prints totalsMost (reportText (standingOf session tally.now network.now)) out.old result out.new }
+    ensures { Prints totals_most (report_text (standing_of session tally.now network.now)) out.old result out.new }
 {
     if session.opened {
         let run = session.run;

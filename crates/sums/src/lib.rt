@@ -1,8 +1,8 @@
 // The sums of a run's traffic: messages that are sent and delivered are added to them. They wrap at 2^64. And what is told of them.
 ghost use Rattle.std.specs.Prelude.{◌≡◌, ◌<◌, ◌≤◌, false, replicate, ◌==◌, nat_eq};
 ghost use Rattle.base.specs.Count.{count};
-ghost use Rattle.types.specs.Traffic.{countsMore, trafficSent, trafficDelivered};
-ghost use Rattle.types.specs.Messages.{kindLeast, kindMost};
+ghost use Rattle.types.specs.Traffic.{counts_more, traffic_sent, traffic_delivered};
+ghost use Rattle.types.specs.Messages.{kind_least, kind_most};
 ghost use Rattle.model.specs.State.{state_of, run_from, held_at, capacity};
 ghost use Rattle.model.specs.Traffic.{totals};
 
@@ -25,7 +25,7 @@ const NO_CHECK: u64 = 0;
 
 // So many more of one kind.
 fn count(counts: Counts, message: Message, k: u64) -> Counts
-    ensures { result ≡ countsMore counts (replicate k message) }
+    ensures { result ≡ counts_more counts (replicate k message) }
 {
     match message {
         Message::View(_, _) => Counts {
@@ -57,7 +57,7 @@ fn count(counts: Counts, message: Message, k: u64) -> Counts
 
 // So many messages of one kind are sent.
 pub fn send(traffic: Traffic, message: Message, k: u64) -> Traffic
-    ensures { result ≡ trafficSent traffic (replicate k message) }
+    ensures { result ≡ traffic_sent traffic (replicate k message) }
 {
     let delivered = traffic.delivered;
     Traffic {
@@ -69,7 +69,7 @@ pub fn send(traffic: Traffic, message: Message, k: u64) -> Traffic
 
 // A message is delivered after it was in flight for so long.
 pub fn deliver(traffic: Traffic, message: Message, wait: u64) -> Traffic
-    ensures { result ≡ trafficDelivered traffic message wait }
+    ensures { result ≡ traffic_delivered traffic message wait }
 {
     let sent = traffic.sent;
     Traffic {
@@ -81,7 +81,7 @@ pub fn deliver(traffic: Traffic, message: Message, wait: u64) -> Traffic
 
 // Whether message i is of that kind.
 fn is_kind(network: &[u64], i: usize, kind: u64) -> bool
-    requires { (i < capacity Form.Packed network.now) × (kindLeast ≤ kind) × (kind ≤ kindMost) }
+    requires { (i < capacity Form.Packed network.now) × (kind_least ≤ kind) × (kind ≤ kind_most) }
     ensures { result ≡ ((held_at Form.Packed network.now i).kind == kind) }
 {
     let stored = buffers::decode(Form::Packed, network, i);
@@ -93,7 +93,7 @@ fn is_kind(network: &[u64], i: usize, kind: u64) -> bool
 
 // How many held messages are of that kind.
 fn count_kind(network: &[u64], held: usize, kind: u64) -> u64
-    requires { (held ≤ capacity Form.Packed network.now) × (kindLeast ≤ kind) × (kind ≤ kindMost) }
+    requires { (held ≤ capacity Form.Packed network.now) × (kind_least ≤ kind) × (kind ≤ kind_most) }
     ensures { result ≡ count held (λ i. nat_eq (held_at Form.Packed network.now i).kind kind) }
 {
     let mut k = 0;

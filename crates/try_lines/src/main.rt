@@ -1,6 +1,6 @@
 // Prints what each line of its input is read as, and whether that is written as the same bytes.
 ghost use Rattle.std.specs.Prelude.{◌≡◌, true, ◌<◌, ◌≤◌, length, take};
-ghost use Rattle.lines.specs.Contracts.{line};
+ghost use Rattle.lines.specs.Clauses.{line};
 
 use libc::{STDIN_FILENO, STDOUT_FILENO};
 use lines::{Next, Read, Written};

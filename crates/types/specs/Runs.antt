@@ -5,14 +5,14 @@ use Rattle.types.specs.declared.Head.{Head}
 use Rattle.types.specs.declared.Plan.{Plan}
 use Rattle.types.specs.declared.Run.{Run}
 use Rattle.types.specs.declared.Setup.{Setup}
-use Rattle.types.specs.Quantities.{perLeader, perLeaderUsual}
+use Rattle.types.specs.Quantities.{per_leader, per_leader_usual}
 
 -- whether the network has settled, as a number and back: a head has a number for it, since a flag among numbers is slow to copy
-abbrev pub settledAs : Bool → ℕ
-settledAs settled = cond settled 1 0
+abbrev pub settled_as : Bool → ℕ
+settled_as settled = cond settled 1 0
 
-abbrev pub isSettled : ℕ → Bool
-isSettled k = eqb k 1
+abbrev pub is_settled : ℕ → Bool
+is_settled k = eqb k 1
 
 -- the run whose tables are lent beside its head
 abbrev pub run_from : Head → List ℕ → List ℕ → Run
@@ -20,7 +20,7 @@ run_from h clocks views = record {
   plan = h.plan;
   faulty = h.faulty;
   time = h.time;
-  settled = isSettled h.settled;
+  settled = is_settled h.settled;
   gst = h.gst;
   held = h.held;
   clocks = clocks;
@@ -29,9 +29,9 @@ run_from h clocks views = record {
 }
 
 abbrev pub head_of : Run → Head
-head_of r = record { plan = r.plan; faulty = r.faulty; time = r.time; settled = settledAs r.settled; gst = r.gst; held = r.held; traffic = r.traffic }
+head_of r = record { plan = r.plan; faulty = r.faulty; time = r.time; settled = settled_as r.settled; gst = r.gst; held = r.held; traffic = r.traffic }
 
-pub settled_back : (b : Bool) → isSettled (settledAs b) ≡ b
+pub settled_back : (b : Bool) → is_settled (settled_as b) ≡ b
 settled_back true = refl
 settled_back false = refl
 
@@ -49,23 +49,23 @@ head-back r = ap (λ (b : Bool). record {
   traffic = r.traffic;
 }) (settled_back r.settled)
 
-abbrev pub setupWith : Plan → ℕ → List ℕ → Setup
-setupWith plan faulty clocks = record { plan = plan; faulty = faulty; clocks = clocks }
+abbrev pub setup_with : Plan → ℕ → List ℕ → Setup
+setup_with plan faulty clocks = record { plan = plan; faulty = faulty; clocks = clocks }
 
 -- "any opening line without it is read as k=3": the numbers of a plan without k
-abbrev pub usualNumbers : Plan → List ℕ
-usualNumbers p = p.n ∷ p.delta ∷ p.gamma ∷ p.views ∷ []
+abbrev pub usual_numbers : Plan → List ℕ
+usual_numbers p = p.n ∷ p.delta ∷ p.gamma ∷ p.views ∷ []
 
 -- "k, the views per leader, .. written in the opening form after V": all of them
-abbrev pub planNumbers : Plan → List ℕ
-planNumbers p = usualNumbers p ++ (perLeader p ∷ [])
+abbrev pub plan_numbers : Plan → List ℕ
+plan_numbers p = usual_numbers p ++ (per_leader p ∷ [])
 
 -- the plan with this k whose other numbers are the first four of a list; the one of the first five; and the one of four without k
-abbrev pub planBy : ℕ → List ℕ → Plan
-planBy k ns = record { n = get_or ns 0 0; delta = get_or ns 1 0; gamma = get_or ns 2 0; views = get_or ns 3 0; k = k }
+abbrev pub plan_by : ℕ → List ℕ → Plan
+plan_by k ns = record { n = get_or ns 0 0; delta = get_or ns 1 0; gamma = get_or ns 2 0; views = get_or ns 3 0; k = k }
 
-abbrev pub planIn : List ℕ → Plan
-planIn ns = planBy (get_or ns 4 0) ns
+abbrev pub plan_in : List ℕ → Plan
+plan_in ns = plan_by (get_or ns 4 0) ns
 
-abbrev pub usualPlanIn : List ℕ → Plan
-usualPlanIn ns = planBy perLeaderUsual ns
+abbrev pub usual_plan_in : List ℕ → Plan
+usual_plan_in ns = plan_by per_leader_usual ns

@@ -5,22 +5,22 @@ use Rattle.std.proofs.Math.Nat.{mod-add-mod}
 use Rattle.types.specs.declared.Message.{Message}
 use Rattle.types.specs.declared.Counts.{Counts}
 use Rattle.types.specs.declared.Message.TheVariants.{View, Vote, Vc, Qc}
-use Rattle.types.specs.Traffic.{countsOf, noCounts, wrapped, countOne, countsMore}
+use Rattle.types.specs.Traffic.{counts_of, no_counts, wrapped, count_one, counts_more}
 
 -- one of each kind and a further quorum certificate; the sum of votes was 2^63 - 1, that of view certificates the largest
-pub counts-row : countsMore (countsOf 5 9223372036854775807 18446744073709551615 8) (View 0 1 ∷ Vote 0 1 ∷ Vc 0 1 ∷ Qc 0 1 ∷ Qc 0 2 ∷ []) ≡ countsOf 6 9223372036854775808 0 10
-unfolding countsMore
+pub counts-row : counts_more (counts_of 5 9223372036854775807 18446744073709551615 8) (View 0 1 ∷ Vote 0 1 ∷ Vc 0 1 ∷ Qc 0 1 ∷ Qc 0 2 ∷ []) ≡ counts_of 6 9223372036854775808 0 10
+unfolding counts_more
 counts-row = refl
 
 -- each of the four wraps: all were the largest
-pub wraps-row : countsMore (countsOf 18446744073709551615 18446744073709551615 18446744073709551615 18446744073709551615) (View 0 1 ∷ Vote 0 1 ∷ Vc 0 1 ∷ Qc 0 1 ∷ []) ≡ noCounts
-unfolding countsMore
+pub wraps-row : counts_more (counts_of 18446744073709551615 18446744073709551615 18446744073709551615 18446744073709551615) (View 0 1 ∷ Vote 0 1 ∷ Vc 0 1 ∷ Qc 0 1 ∷ []) ≡ no_counts
+unfolding counts_more
 wraps-row = refl
 
-pub counts-more-append : (x : Counts) (a b : List Message) → countsMore x (a ++ b) ≡ countsMore (countsMore x a) b
-unfolding countsMore
+pub counts-more-append : (x : Counts) (a b : List Message) → counts_more x (a ++ b) ≡ counts_more (counts_more x a) b
+unfolding counts_more
 counts-more-append x [] b = refl
-counts-more-append x (m ∷ a) b = counts-more-append (countOne x m) a b
+counts-more-append x (m ∷ a) b = counts-more-append (count_one x m) a b
 
 -- ---- one sum
 

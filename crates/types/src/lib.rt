@@ -1,10 +1,10 @@
 // The types of the product, declared once, and their own functions.
 ghost use Rattle.std.specs.Prelude.{◌≡◌, true};
-ghost use Rattle.types.specs.Quantities.{tolerated, perLeader, turnsOver, turnStart, initial, correct, width};
-ghost use Rattle.types.specs.Messages.{kind_of, viewIn, processorIn, stageOf, isSignature, lacksForm};
-ghost use Rattle.types.specs.Traffic.{noCounts, noTraffic};
-ghost use Rattle.types.specs.Runs.{settledAs, run_from, head_of};
-ghost use Rattle.types.specs.PlanFunctions.{leadWord, nextInitialWord, clockTimeWord, addresseeWord, arrivalTime, Small};
+ghost use Rattle.types.specs.Quantities.{tolerated, per_leader, turns_over, turn_start, initial, correct, width};
+ghost use Rattle.types.specs.Messages.{kind_of, view_in, processor_in, stage_of, is_signature, lacks_form};
+ghost use Rattle.types.specs.Traffic.{no_counts, no_traffic};
+ghost use Rattle.types.specs.Runs.{settled_as, run_from, head_of};
+ghost use Rattle.types.specs.PlanFunctions.{lead_word, next_initial_word, clock_time_word, addressee_word, arrival_time, Small};
 
 // The protocol's parameters (document 01: the plan): processors, delay, slot, view limit, views per leader.
 #[derive(Drop)]
@@ -46,14 +46,14 @@ impl Plan {
 
     // The turns that are over at view w.
     fn turns_over(self, w: u64) -> u64
-        ensures { result ≡ turnsOver self w }
+        ensures { result ≡ turns_over self w }
     {
         base::quotients::quotient(w, self.k)
     }
 
     // The leader of view w.
     pub fn lead(self, w: u64) -> u64
-        ensures { result ≡ leadWord self w }
+        ensures { result ≡ lead_word self w }
     {
         if self.n == 0 {
             return Plan::NO_LEADER;
@@ -63,7 +63,7 @@ impl Plan {
 
     // Whether w is a multiple of the views per leader.
     pub fn turn_start(self, w: u64) -> bool
-        ensures { result ≡ turnStart self w }
+        ensures { result ≡ turn_start self w }
     {
         self.turns_over(w) * self.k == w
     }
@@ -77,7 +77,7 @@ impl Plan {
 
     // The clock time of view w. The division is left to numbers that no sound plan has.
     pub fn clock_time(self, w: u64) -> u64
-        ensures { result ≡ clockTimeWord self w }
+        ensures { result ≡ clock_time_word self w }
     {
         if w < Plan::HALF {
             if self.gamma < Plan::HALF {
@@ -95,7 +95,7 @@ impl Plan {
 
     // The first initial view above w.
     pub fn next_initial(self, w: u64) -> u64
-        ensures { result ≡ nextInitialWord self w }
+        ensures { result ≡ next_initial_word self w }
     {
         let start = self.turns_over(w) * self.k;
         if Plan::LARGEST - self.k < start {
@@ -122,7 +122,7 @@ impl Plan {
 
     // The clock time of the first initial view above w. The long way is left to numbers that no sound plan has.
     pub fn arrival(self, w: u64) -> u64
-        ensures { result ≡ arrivalTime self w }
+        ensures { result ≡ arrival_time self w }
     {
         if self.is_small(w) {
             return (self.turns_over(w) * self.k + self.k) * self.gamma;
@@ -132,14 +132,14 @@ impl Plan {
 
     // The clock time that no correct clock reaches.
     pub fn end_time(self) -> u64
-        ensures { result ≡ clockTimeWord self self.views }
+        ensures { result ≡ clock_time_word self self.views }
     {
         self.clock_time(self.views)
     }
 
     // The clock time that no correct start clock reaches.
     pub fn start_limit(self) -> u64
-        ensures { result ≡ clockTimeWord self (perLeader self) }
+        ensures { result ≡ clock_time_word self (per_leader self) }
     {
         self.clock_time(self.k)
     }
@@ -195,7 +195,7 @@ impl Message {
 
     // The view that it names.
     pub fn view(self) -> u64
-        ensures { result ≡ viewIn self }
+        ensures { result ≡ view_in self }
     {
         match self {
             Message::View(w, _) => w,
@@ -207,7 +207,7 @@ impl Message {
 
     // The processor that it names.
     pub fn processor(self) -> u64
-        ensures { result ≡ processorIn self }
+        ensures { result ≡ processor_in self }
     {
         match self {
             Message::View(_, p) => p,
@@ -219,7 +219,7 @@ impl Message {
 
     // Whom it is for: the leader of its view, or the processor that it names.
     pub fn addressee(self, plan: Plan) -> u64
-        ensures { result ≡ addresseeWord plan self }
+        ensures { result ≡ addressee_word plan self }
     {
         match self {
             Message::View(w, _) => plan.lead(w),
@@ -231,7 +231,7 @@ impl Message {
 
     // Whether it is of the second stage: a vote or a quorum certificate.
     pub fn stage(self) -> bool
-        ensures { result ≡ stageOf self }
+        ensures { result ≡ stage_of self }
     {
         match self {
             Message::View(_, _) => false,
@@ -243,7 +243,7 @@ impl Message {
 
     // Whether it is a view message or a vote.
     pub fn is_signature(self) -> bool
-        ensures { result ≡ isSignature self }
+        ensures { result ≡ is_signature self }
     {
         self.kind() <= Message::LAST_SIGNATURE_KIND
     }
@@ -287,7 +287,7 @@ pub enum Event {
 impl Event {
     // Check 1 of an event handed in: it has 0 ticks, or a kind that its form lacks.
     pub fn lacks_form(self) -> bool
-        ensures { result ≡ lacksForm self }
+        ensures { result ≡ lacks_form self }
     {
         match self {
             Event::Deliver(_) => false,
@@ -319,7 +319,7 @@ pub struct Counts {
 impl Counts {
     // No message of any kind.
     pub fn none() -> Counts
-        ensures { result ≡ noCounts }
+        ensures { result ≡ no_counts }
     {
         Counts {
             views: 0,
@@ -341,7 +341,7 @@ pub struct Traffic {
 impl Traffic {
     // Nothing was sent yet.
     pub fn none() -> Traffic
-        ensures { result ≡ noTraffic }
+        ensures { result ≡ no_traffic }
     {
         Traffic {
             sent: Counts::none(),
@@ -388,7 +388,7 @@ pub struct Head {
 
 // The number that says whether the network has settled.
 pub fn settled_as(settled: bool) -> u64
-    ensures { result ≡ settledAs settled }
+    ensures { result ≡ settled_as settled }
 {
     if settled {
         return 1;

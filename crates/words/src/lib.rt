@@ -1,8 +1,8 @@
 // Events and their answers in words, four each: how a list of events is lent, and what is left in its place.
 ghost use Rattle.std.specs.Prelude.{◌≡◌};
-ghost use Rattle.model.specs.State.{checkOf, ticksOf};
-ghost use Rattle.buffers.specs.Kinds.{storedAs};
-ghost use Rattle.words.specs.Events.{carried, carriedAs, eventOf, eventAt, fourNumbers, messageNumbers, eventNumbers, numbersPut, answerPut};
+ghost use Rattle.model.specs.State.{check_of, ticks_of};
+ghost use Rattle.buffers.specs.Kinds.{stored_as};
+ghost use Rattle.words.specs.Events.{carried, carried_as, event_of, event_at, four_numbers, message_numbers, event_numbers, numbers_put, answer_put};
 
 use buffers::Stored;
 use types::{Answer, Event, Message};
@@ -33,7 +33,7 @@ fn carry(form: u64, message: Message) -> Event
 
 // The same with the message in numbers.
 fn carry_numbers(form: u64, kind: u64, view: u64, processor: u64) -> Event
-    ensures { result ≡ carriedAs form (storedAs kind view processor) }
+    ensures { result ≡ carried_as form (stored_as kind view processor) }
 {
     let Stored::Holds(message) = buffers::stored_as(kind, view, processor) else {
         return Event::Tick(0);
@@ -43,7 +43,7 @@ fn carry_numbers(form: u64, kind: u64, view: u64, processor: u64) -> Event
 
 // The event that four numbers are; 0 ticks where they are none.
 pub fn event_of(form: u64, kind: u64, view: u64, processor: u64) -> Event
-    ensures { result ≡ eventOf form kind view processor }
+    ensures { result ≡ event_of form kind view processor }
 {
     match form {
         4 => Event::Settle,
@@ -54,7 +54,7 @@ pub fn event_of(form: u64, kind: u64, view: u64, processor: u64) -> Event
 
 // Event i of the words; 0 ticks where there are not so many.
 pub fn event_at(words: &[u64], i: usize) -> Event
-    ensures { result ≡ eventAt words.now i }
+    ensures { result ≡ event_at words.now i }
 {
     if words.len() / EVENT_WORDS <= i {
         return Event::Tick(0);
@@ -65,7 +65,7 @@ pub fn event_at(words: &[u64], i: usize) -> Event
 
 // The numbers of a form that carries a message.
 fn carried_numbers(form: u64, message: Message) -> Numbers
-    ensures { result ≡ messageNumbers form message }
+    ensures { result ≡ message_numbers form message }
 {
     Numbers {
         form: form,
@@ -77,7 +77,7 @@ fn carried_numbers(form: u64, message: Message) -> Numbers
 
 // A form alone, or with a number of ticks.
 pub fn bare(form: u64, ticks: u64) -> Numbers
-    ensures { result ≡ fourNumbers form 0 ticks 0 }
+    ensures { result ≡ four_numbers form 0 ticks 0 }
 {
     Numbers {
         form: form,
@@ -89,7 +89,7 @@ pub fn bare(form: u64, ticks: u64) -> Numbers
 
 // The numbers of an event.
 pub fn numbers_of(event: Event) -> Numbers
-    ensures { result ≡ eventNumbers event }
+    ensures { result ≡ event_numbers event }
 {
     match event {
         Event::Deliver(m) => carried_numbers(1, m),
@@ -102,7 +102,7 @@ pub fn numbers_of(event: Event) -> Numbers
 
 // The numbers stand as event i of the words, where there are so many.
 pub fn put_numbers(words: &mut [u64], i: usize, numbers: Numbers)
-    ensures { words.new ≡ numbersPut words.old i numbers }
+    ensures { words.new ≡ numbers_put words.old i numbers }
 {
     let room = words.len() / EVENT_WORDS;
     if room <= i {
@@ -117,7 +117,7 @@ pub fn put_numbers(words: &mut [u64], i: usize, numbers: Numbers)
 
 // The check of an answer, or 0.
 fn check_of(answer: Answer) -> u64
-    ensures { result ≡ checkOf answer }
+    ensures { result ≡ check_of answer }
 {
     match answer {
         Answer::Done(_, _) => 0,
@@ -128,7 +128,7 @@ fn check_of(answer: Answer) -> u64
 
 // Its ticks.
 fn ticks_of(answer: Answer) -> u64
-    ensures { result ≡ ticksOf answer }
+    ensures { result ≡ ticks_of answer }
 {
     match answer {
         Answer::Done(ticks, _) => ticks,
@@ -139,7 +139,7 @@ fn ticks_of(answer: Answer) -> u64
 
 // Event i becomes its answer, where there are so many: its form stays, then the check, the ticks done and the messages held.
 pub fn put_answer(words: &mut [u64], i: usize, answer: Answer, held: usize)
-    ensures { words.new ≡ answerPut words.old i answer held }
+    ensures { words.new ≡ answer_put words.old i answer held }
 {
     let room = words.len() / EVENT_WORDS;
     if room <= i {

@@ -1,3 +1,3 @@
 -- What the contracts cite, and what is promised of loads.
-pub mod Contracts
+pub mod Clauses
 pub mod Promises

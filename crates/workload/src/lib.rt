@@ -1,10 +1,10 @@
 // Loads out of a seed number: a run is opened and moved by events that the seed chooses, and the lines of a schedule are written that does the same.
 ghost use Rattle.std.specs.Prelude.{◌≡◌, cond, length};
-ghost use Rattle.model.specs.State.{state_of, checkOf};
-ghost use Rattle.model.specs.Checks.{unsoundForGood};
+ghost use Rattle.model.specs.State.{state_of, check_of};
+ghost use Rattle.model.specs.Checks.{unsound_for_good};
 ghost use Rattle.model.specs.Opening.{opening};
-ghost use Rattle.loads.specs.Loads.{point_of, furtherLoad, wholeLoad};
-ghost use Rattle.workload.specs.Contracts.{Generates, startWith};
+ghost use Rattle.loads.specs.Loads.{point_of, further_load, whole_load};
+ghost use Rattle.workload.specs.Clauses.{Generates, start_with};
 
 use lines::Written;
 use types::{Run, Setup};
@@ -32,8 +32,8 @@ pub fn generate_more(
     network: &mut [u64],
     out: &mut [u8],
 ) -> Generated
-    ensures { Generates (cond (unsoundForGood (state_of run tally.old network.old)) 9 0)
-        (furtherLoad steps settle (point_of (state_of run tally.old network.old) seed step) (length out.old)) out.old
+    ensures { Generates (cond (unsound_for_good (state_of run tally.old network.old)) 9 0)
+        (further_load steps settle (point_of (state_of run tally.old network.old) seed step) (length out.old)) out.old
         tally.new network.new result out.new }
 {
     let mut clocks = run.clocks;
@@ -63,7 +63,7 @@ pub fn generate_more(
 
 // Where a load is that has no line.
 fn at_start(run: Run, seed: u64, full: bool, check: u64) -> Generated
-    ensures { result ≡ startWith run seed full check }
+    ensures { result ≡ start_with run seed full check }
 {
     Generated {
         run: run,
@@ -86,8 +86,8 @@ pub fn generate(
     network: &mut [u64],
     out: &mut [u8],
 ) -> Generated
-    ensures { Generates (checkOf (opening setup (state_of run tally.old network.old)).answer)
-        (wholeLoad setup (state_of run tally.old network.old) steps settle seed (length out.old)) out.old
+    ensures { Generates (check_of (opening setup (state_of run tally.old network.old)).answer)
+        (whole_load setup (state_of run tally.old network.old) steps settle seed (length out.old)) out.old
         tally.new network.new result out.new }
 {
     let check = checks::setup_check(setup, tally.len(), network.len());

@@ -2,7 +2,7 @@
 use Rattle.std.proofs.Common.{◌≡◌, ℕ, zero, suc, ◌+◌, ◌-◌, ◌/◌, ◌%◌, ◌^◌, ◌<◌, ◌≤◌, ltb, List, [], ◌∷◌, ◌++◌, length, get_or, take, drop, set, sym, refl, ap, ◌∙◌, subst, add-zero, zero-lt-suc, div-lt_iff_lt-mul, pow-suc, arith, ltb→lt, length-append, length-drop, length-set, drop-cons, get_or-take, take-take, take_at}
 use lib.Seq.{take-length, drop-length, get_or_at}
 use Rattle.base.specs.Tests.{by_cond}
-use Rattle.lines.specs.Decimal.{digit, digitsIn, decimal, fieldLimit}
+use Rattle.lines.specs.Decimal.{digit, digits_in, decimal, field_limit}
 use Rattle.lines.proofs.Decimals.{length-small, length-large, length_most}
 use Rattle.writer.specs.Stamps.{stamp, Room, Stamped}
 use Rattle.writer.proofs.Stamping.{stamp-none, stamp-before}
@@ -11,9 +11,9 @@ use Rattle.writer.proofs.Stamping.{stamp-none, stamp-before}
 
 -- of n's digits so many are counted and those of v left, of which the first is counted too
 abbrev pub Counted : ℕ → ℕ → ℕ → Type 0
-Counted n digits v = (digits + length (decimal v) ≡ 1 + length (decimal n)) × (v < fieldLimit)
+Counted n digits v = (digits + length (decimal v) ≡ 1 + length (decimal n)) × (v < field_limit)
 
-pub counted_none : (n : ℕ) → n < fieldLimit → Counted n 1 n
+pub counted_none : (n : ℕ) → n < field_limit → Counted n 1 n
 counted_none n h = (refl, h)
 
 pub counted-more : (n digits v : ℕ) → Counted n digits v → 10 ≤ v → Counted n (digits + 1) (v / 10)
@@ -36,20 +36,20 @@ padded-length (suc i) v = omega (arith, length-append (padded i (v / 10)) (digit
 padded-one : (n : ℕ) → n < 10 → digit n ∷ [] ≡ padded 1 n
 padded-one n h = let e : n % 10 ≡ n = omega arith in rw e
 
-padded-digits : (k n : ℕ) → n < 10 ^ suc k → digitsIn k n ≡ padded (length (digitsIn k n)) n
+padded-digits : (k n : ℕ) → n < 10 ^ suc k → digits_in k n ≡ padded (length (digits_in k n)) n
 padded-digits zero n h = padded-one n (omega (arith, h))
 padded-digits (suc k) n h =
-    by_cond (λ (l : List ℕ). l ≡ padded (length l) n) (ltb n 10) (digit n ∷ []) (digitsIn k (n / 10) ++ (digit (n % 10) ∷ []))
+    by_cond (λ (l : List ℕ). l ≡ padded (length l) n) (ltb n 10) (digit n ∷ []) (digits_in k (n / 10) ++ (digit (n % 10) ∷ []))
     (λ t. padded-one n (ltb→lt n 10 t))
     (λ t. ap (λ (l : List ℕ). l ++ (digit (n % 10) ∷ [])) (padded-digits k (n / 10) b) ∙ ap (λ (i : ℕ). padded i n) (sym e))
   where
     b : n / 10 < 10 ^ suc k
     b = (div-lt_iff_lt-mul (zero-lt-suc 9)).1 (rw (pow-suc 10 (suc k)) at h)
 
-    e : length (digitsIn k (n / 10) ++ (digit (n % 10) ∷ [])) ≡ suc (length (digitsIn k (n / 10)))
-    e = omega (arith, length-append (digitsIn k (n / 10)) (digit (n % 10) ∷ []))
+    e : length (digits_in k (n / 10) ++ (digit (n % 10) ∷ [])) ≡ suc (length (digits_in k (n / 10)))
+    e = omega (arith, length-append (digits_in k (n / 10)) (digit (n % 10) ∷ []))
 
-pub padded-decimal : (n : ℕ) → n < fieldLimit → decimal n ≡ padded (length (decimal n)) n
+pub padded-decimal : (n : ℕ) → n < field_limit → decimal n ≡ padded (length (decimal n)) n
 unfolding decimal
 padded-decimal n h = let b : n < 10 ^ 20 = omega arith in padded-digits 19 n b
 
@@ -60,7 +60,7 @@ abbrev pub Digited : List ℕ → ℕ → ℕ → List ℕ → ℕ → ℕ → T
 Digited d at n e left v =
     (left ≤ length (decimal n)) × (take left (decimal n) ≡ padded left v) × (e ≡ stamp d (at + left) (drop left (decimal n))) × (length e ≡ length d)
 
-pub digited-none : (d : List ℕ) (at n left : ℕ) → n < fieldLimit → left ≡ length (decimal n) → Digited d at n d left n
+pub digited-none : (d : List ℕ) (at n left : ℕ) → n < field_limit → left ≡ length (decimal n) → Digited d at n d left n
 digited-none d at n left h e =
     rw e (
       omega arith,

@@ -2,34 +2,34 @@
 use Rattle.std.proofs.Common.{◌≡◌, ℕ, suc, ◌+◌, List, [], ◌∷◌, length, refl, arith, length-append}
 use Rattle.types.specs.declared.Message.{Message}
 use Rattle.types.specs.declared.Event.TheVariants.{Deliver, Sign, Show, Settle, Tick}
-use Rattle.types.specs.Messages.{viewIn, processorIn}
+use Rattle.types.specs.Messages.{view_in, processor_in}
 use Rattle.lines.specs.Decimal.{decimal}
-use Rattle.lines.specs.Forms.{newline, kindWord, messageForm, eventForm}
-use Rattle.lines.specs.Contracts.{line}
+use Rattle.lines.specs.Forms.{newline, kind_word, message_form, event_form}
+use Rattle.lines.specs.Clauses.{line}
 
-pub message-bytes : (m : Message) (k v p a b : ℕ) → k ≡ length (kindWord m) → v ≡ viewIn m → a ≡ length (decimal v) → p ≡ processorIn m → b ≡ length (decimal p)
-    → k + a + b + 4 ≡ length (messageForm m)
-unfolding messageForm
+pub message-bytes : (m : Message) (k v p a b : ℕ) → k ≡ length (kind_word m) → v ≡ view_in m → a ≡ length (decimal v) → p ≡ processor_in m → b ≡ length (decimal p)
+    → k + a + b + 4 ≡ length (message_form m)
+unfolding message_form
 message-bytes m k v p a b hk hv ha hp hb = rw (hk, ha, hb, hv, hp) (simp length-append (omega arith))
 
-pub deliver-bytes : (m : Message) (k : ℕ) → k ≡ length (messageForm m) → 10 + k ≡ length (eventForm (Deliver m))
-unfolding eventForm
+pub deliver-bytes : (m : Message) (k : ℕ) → k ≡ length (message_form m) → 10 + k ≡ length (event_form (Deliver m))
+unfolding event_form
 deliver-bytes m k h = simp length-append (omega arith)
 
-pub sign-bytes : (m : Message) (k : ℕ) → k ≡ length (messageForm m) → 7 + k ≡ length (eventForm (Sign m))
-unfolding eventForm
+pub sign-bytes : (m : Message) (k : ℕ) → k ≡ length (message_form m) → 7 + k ≡ length (event_form (Sign m))
+unfolding event_form
 sign-bytes m k h = simp length-append (omega arith)
 
-pub show-bytes : (m : Message) (k : ℕ) → k ≡ length (messageForm m) → 7 + k ≡ length (eventForm (Show m))
-unfolding eventForm
+pub show-bytes : (m : Message) (k : ℕ) → k ≡ length (message_form m) → 7 + k ≡ length (event_form (Show m))
+unfolding event_form
 show-bytes m k h = simp length-append (omega arith)
 
-pub settle-bytes : 8 ≡ length (eventForm Settle)
-unfolding eventForm
+pub settle-bytes : 8 ≡ length (event_form Settle)
+unfolding event_form
 settle-bytes = refl
 
-pub tick-bytes : (n k : ℕ) → k ≡ length (decimal n) → 7 + k ≡ length (eventForm (Tick n))
-unfolding eventForm
+pub tick-bytes : (n k : ℕ) → k ≡ length (decimal n) → 7 + k ≡ length (event_form (Tick n))
+unfolding event_form
 tick-bytes n k h = simp length-append (omega arith)
 
 -- and with the newline

@@ -6,9 +6,9 @@ use Rattle.types.specs.declared.Totals.{Totals}
 use Rattle.lines.specs.declared.Written.{Written}
 use Rattle.lines.specs.declared.Written.TheVariants.{Bytes, Refused}
 use Rattle.lines.specs.Decimal.{decimal}
-use Rattle.lines.specs.Forms.{newline, joined, spaced, numbersForm}
-use Rattle.lines.specs.Printout.{answerForm, trafficText, totalsText, reportWordMost, reportNumbersMost, reportMost}
-use Rattle.lines.specs.Contracts.{line, Writes, Put, Prints}
+use Rattle.lines.specs.Forms.{newline, joined, spaced, numbers_form}
+use Rattle.lines.specs.Printout.{answer_form, traffic_text, totals_text, report_word_most, report_numbers_most, report_most}
+use Rattle.lines.specs.Clauses.{line, Writes, Put, Prints}
 use Rattle.lines.proofs.Decimals.{length_most}
 use Rattle.lines.proofs.Putting.{left_over, rest-lent, rest_back, room-written, put_written, never-refused, put-prints}
 use Rattle.writer.specs.Stamps.{stamp, Stamped}
@@ -22,25 +22,25 @@ spaced-most : (l : List ℕ) → length (joined (spaced l)) ≤ 21 * length l
 spaced-most [] = omega arith
 spaced-most (n ∷ l) = omega (arith, spaced-most l, length-append (decimal n) (joined (spaced l)), length_most n)
 
-pub line-most : (w l : List ℕ) → length w ≤ reportWordMost → length l ≤ reportNumbersMost → length (line (numbersForm w l)) ≤ reportMost
+pub line-most : (w l : List ℕ) → length w ≤ report_word_most → length l ≤ report_numbers_most → length (line (numbers_form w l)) ≤ report_most
 line-most w l hw hl =
-    omega (arith, length-append (numbersForm w l) (newline ∷ []), numbers-bytes w l (length (joined (spaced l))) refl, spaced-most l)
+    omega (arith, length-append (numbers_form w l) (newline ∷ []), numbers-bytes w l (length (joined (spaced l))) refl, spaced-most l)
 
 -- ---- a line behind others
 
-module _ (w l d f : List ℕ) (at : ℕ) (r : Written) (room : at + reportMost ≤ length d) (few : length w ≤ reportWordMost) (most : length l ≤ reportNumbersMost)
-    (x : Writes false (numbersForm w l) (mid_of at (length d - at) d) r f) where
-  fits : length (line (numbersForm w l)) ≤ length (mid_of at (length d - at) d)
+module _ (w l d f : List ℕ) (at : ℕ) (r : Written) (room : at + report_most ≤ length d) (few : length w ≤ report_word_most) (most : length l ≤ report_numbers_most)
+    (x : Writes false (numbers_form w l) (mid_of at (length d - at) d) r f) where
+  fits : length (line (numbers_form w l)) ≤ length (mid_of at (length d - at) d)
   fits = omega (arith, line-most w l few most, left_over at d)
 
-  pub line-written : (k : ℕ) → r ≡ Bytes k → Put (line (numbersForm w l)) (drop at d) k f
-  line-written k e = subst (λ (z : List ℕ). Put (line (numbersForm w l)) z k f) (rest-lent at d) (put_written (numbersForm w l) _ f r k x fits e)
+  pub line-written : (k : ℕ) → r ≡ Bytes k → Put (line (numbers_form w l)) (drop at d) k f
+  line-written k e = subst (λ (z : List ℕ). Put (line (numbers_form w l)) z k f) (rest-lent at d) (put_written (numbers_form w l) _ f r k x fits e)
 
   -- it is written there
-  pub line-stamped : (k : ℕ) → r ≡ Bytes k → Stamped d at (line (numbersForm w l)) (at + k) (put_mid at (length d - at) d f) × (at + k ≤ at + reportMost)
+  pub line-stamped : (k : ℕ) → r ≡ Bytes k → Stamped d at (line (numbers_form w l)) (at + k) (put_mid at (length d - at) d f) × (at + k ≤ at + report_most)
   unfolding stamp
   line-stamped k e =
-      let W : List ℕ = line (numbersForm w l) in
+      let W : List ℕ = line (numbers_form w l) in
       let p = line-written k e in
       let b : at + k ≡ at + length W = ap (λ (i : ℕ). at + i) p.bytes in
       let rest : drop k (drop at d) ≡ drop (at + length W) d = drop-drop k at d ∙ ap (λ (i : ℕ). drop i d) b in (
@@ -53,11 +53,11 @@ module _ (w l d f : List ℕ) (at : ℕ) (r : Written) (room : at + reportMost �
       )
 
   pub line_refused : {A : Type 0} (c : ℕ) → r ≡ Refused c → A
-  line_refused c e = absurd (never-refused (numbersForm w l) _ f r c x fits e)
+  line_refused c e = absurd (never-refused (numbers_form w l) _ f r c x fits e)
 
 -- the same line, of numbers that were asked for
-pub line_as : {d e : List ℕ} {at r : ℕ} (w : List ℕ) {l l' : List ℕ} → l ≡ l' → Stamped d at (line (numbersForm w l)) r e → Stamped d at (line (numbersForm w l')) r e
-line_as {d} {e} {at} {r} w q = subst (λ (l : List ℕ). Stamped d at (line (numbersForm w l)) r e) q
+pub line_as : {d e : List ℕ} {at r : ℕ} (w : List ℕ) {l l' : List ℕ} → l ≡ l' → Stamped d at (line (numbers_form w l)) r e → Stamped d at (line (numbers_form w l')) r e
+line_as {d} {e} {at} {r} w q = subst (λ (l : List ℕ). Stamped d at (line (numbers_form w l)) r e) q
 
 -- six of them
 pub six-stamped : {d e f g h i j : List ℕ} {p q r s t u : ℕ} {v w x y z last : List ℕ} → Stamped d 0 v p e → Stamped e p w q f → Stamped f q x r g
@@ -82,10 +82,10 @@ prints-line most form d r e h l w =
     (rw n u.0, rw n u.1)
 
 -- which of the two it is
-pub text-told : (x : Totals) → x.check ≡ 0 → totalsText x ≡ trafficText x.traffic x.held
-unfolding totalsText
+pub text-told : (x : Totals) → x.check ≡ 0 → totals_text x ≡ traffic_text x.traffic x.held
+unfolding totals_text
 text-told x e = rw (eq-eqb _ _ e)
 
-pub text-refused : (x : Totals) → x.check ≢ 0 → totalsText x ≡ line (answerForm (Answer.Refused x.check))
-unfolding totalsText
+pub text-refused : (x : Totals) → x.check ≢ 0 → totals_text x ≡ line (answer_form (Answer.Refused x.check))
+unfolding totals_text
 text-refused x e = rw (ne_eqb _ _ e)

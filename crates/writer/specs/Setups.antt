@@ -1,7 +1,7 @@
 -- An opening in parts, as the writer's functions take it.
 use Rattle.std.specs.Prelude.{ℕ, List, [], ◌∷◌, ◌++◌}
-use Rattle.lines.specs.Forms.{oneBlank, openBracket, joined, spaced}
+use Rattle.lines.specs.Forms.{one_blank, open_bracket, joined, spaced}
 
 -- what its form has before the numbers of its table
-abbrev pub frontForm : List ℕ → List ℕ → List ℕ → List ℕ
-frontForm w ns set = joined (openBracket ∷ w ∷ spaced ns ++ (set ∷ oneBlank ∷ openBracket ∷ []))
+abbrev pub front_form : List ℕ → List ℕ → List ℕ → List ℕ
+front_form w ns set = joined (open_bracket ∷ w ∷ spaced ns ++ (set ∷ one_blank ∷ open_bracket ∷ []))

@@ -1,10 +1,10 @@
 // The printed lines: a word and numbers behind it, in brackets.
 ghost use Rattle.std.specs.Prelude.{◌≤◌, false, length};
-ghost use Rattle.types.specs.Quantities.{nMost};
-ghost use Rattle.lines.specs.Forms.{numbersForm};
-ghost use Rattle.lines.specs.Printout.{answerForm};
-ghost use Rattle.lines.specs.Splitting.{lineMost};
-ghost use Rattle.lines.specs.Contracts.{Writes};
+ghost use Rattle.types.specs.Quantities.{n_most};
+ghost use Rattle.lines.specs.Forms.{numbers_form};
+ghost use Rattle.lines.specs.Printout.{answer_form};
+ghost use Rattle.lines.specs.Splitting.{line_most};
+ghost use Rattle.lines.specs.Clauses.{Writes};
 ghost use Rattle.writer.specs.Stamps.{Room, Stamped};
 
 use crate::{numbers, pieces};
@@ -13,8 +13,8 @@ use types::Answer;
 
 // The form, from the first byte on.
 fn put_form(out: &mut [u8], word: &[u8], numbers: &[u64]) -> usize
-    requires { Room out.old 0 (numbersForm word.now numbers.now) }
-    ensures { Stamped out.old 0 (numbersForm word.now numbers.now) result out.new }
+    requires { Room out.old 0 (numbers_form word.now numbers.now) }
+    ensures { Stamped out.old 0 (numbers_form word.now numbers.now) result out.new }
 {
     let inner = pieces::put_byte(out, 0, b'(');
     let first = pieces::put_word(out, inner, word);
@@ -24,8 +24,8 @@ fn put_form(out: &mut [u8], word: &[u8], numbers: &[u64]) -> usize
 
 // The line: beside the word and the numbers the form has two brackets.
 pub(crate) fn write_numbers(word: &[u8], numbers: &[u64], out: &mut [u8]) -> Written
-    requires { (length word.now ≤ lineMost) × (length numbers.now ≤ nMost) }
-    ensures { Writes false (numbersForm word.now numbers.now) out.old result out.new }
+    requires { (length word.now ≤ line_most) × (length numbers.now ≤ n_most) }
+    ensures { Writes false (numbers_form word.now numbers.now) out.old result out.new }
 {
     let form = word.len() + numbers::numbers_length(numbers) + 2;
     let bytes = form + 1;
@@ -39,7 +39,7 @@ pub(crate) fn write_numbers(word: &[u8], numbers: &[u64], out: &mut [u8]) -> Wri
 
 // The line of an opening or event that was done.
 pub(crate) fn write_done(ticks: u64, held: usize, out: &mut [u8]) -> Written
-    ensures { Writes false (answerForm (Answer.Done ticks held)) out.old result out.new }
+    ensures { Writes false (answer_form (Answer.Done ticks held)) out.old result out.new }
 {
     let numbers = [ticks, held as u64];
     write_numbers(b"done", &numbers, out)
@@ -47,7 +47,7 @@ pub(crate) fn write_done(ticks: u64, held: usize, out: &mut [u8]) -> Written
 
 // The line of ticks that a check ended.
 pub(crate) fn write_stopped(ticks: u64, held: usize, check: u64, out: &mut [u8]) -> Written
-    ensures { Writes false (answerForm (Answer.Stopped ticks held check)) out.old result out.new }
+    ensures { Writes false (answer_form (Answer.Stopped ticks held check)) out.old result out.new }
 {
     let numbers = [ticks, held as u64, check];
     write_numbers(b"stopped", &numbers, out)
@@ -55,7 +55,7 @@ pub(crate) fn write_stopped(ticks: u64, held: usize, check: u64, out: &mut [u8])
 
 // The line of a refusal.
 pub(crate) fn write_refused(check: u64, out: &mut [u8]) -> Written
-    ensures { Writes false (answerForm (Answer.Refused check)) out.old result out.new }
+    ensures { Writes false (answer_form (Answer.Refused check)) out.old result out.new }
 {
     let numbers = [check];
     write_numbers(b"refused", &numbers, out)

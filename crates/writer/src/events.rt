@@ -1,7 +1,7 @@
 // The forms of events: how many bytes they have, and their bytes written.
 ghost use Rattle.std.specs.Prelude.{◌≡◌, ◌≤◌, [], ◌∷◌, length};
-ghost use Rattle.lines.specs.Forms.{kindWord, messageForm, eventForm, closeBracket, joined};
-ghost use Rattle.lines.specs.Splitting.{lineMost};
+ghost use Rattle.lines.specs.Forms.{kind_word, message_form, event_form, close_bracket, joined};
+ghost use Rattle.lines.specs.Splitting.{line_most};
 ghost use Rattle.writer.specs.Stamps.{Room, Stamped};
 
 use crate::pieces;
@@ -9,7 +9,7 @@ use types::{Event, Message};
 
 // The bytes of a kind's word.
 fn kind_length(message: Message) -> usize
-    ensures { (result ≡ length (kindWord message)) × (result ≤ 4) }
+    ensures { (result ≡ length (kind_word message)) × (result ≤ 4) }
 {
     match message {
         Message::View(_, _) => 4,
@@ -21,7 +21,7 @@ fn kind_length(message: Message) -> usize
 
 // The bytes of a message's form: beside the word and the numbers two brackets and two blanks.
 pub(crate) fn message_length(message: Message) -> usize
-    ensures { (result ≡ length (messageForm message)) × (result ≤ 48) }
+    ensures { (result ≡ length (message_form message)) × (result ≤ 48) }
 {
     let view = pieces::width(message.view());
     let processor = pieces::width(message.processor());
@@ -30,7 +30,7 @@ pub(crate) fn message_length(message: Message) -> usize
 
 // The bytes of an event's form: beside the message or number its word, two brackets, and a blank where something follows the word.
 pub(crate) fn event_length(event: Event) -> usize
-    ensures { (result ≡ length (eventForm event)) × (result ≤ lineMost) }
+    ensures { (result ≡ length (event_form event)) × (result ≤ line_most) }
 {
     match event {
         Event::Deliver(m) => 10 + message_length(m),
@@ -43,8 +43,8 @@ pub(crate) fn event_length(event: Event) -> usize
 
 // A kind's word.
 fn put_kind(out: &mut [u8], at: usize, message: Message) -> usize
-    requires { Room out.old at (kindWord message) }
-    ensures { Stamped out.old at (kindWord message) result out.new }
+    requires { Room out.old at (kind_word message) }
+    ensures { Stamped out.old at (kind_word message) result out.new }
 {
     match message {
         Message::View(_, _) => pieces::put_word(out, at, b"view"),
@@ -56,8 +56,8 @@ fn put_kind(out: &mut [u8], at: usize, message: Message) -> usize
 
 // A message's form.
 fn put_message(out: &mut [u8], at: usize, message: Message) -> usize
-    requires { Room out.old at (messageForm message) }
-    ensures { Stamped out.old at (messageForm message) result out.new }
+    requires { Room out.old at (message_form message) }
+    ensures { Stamped out.old at (message_form message) result out.new }
 {
     let kind = pieces::put_byte(out, at, b'(');
     let view = put_kind(out, kind, message);
@@ -68,8 +68,8 @@ fn put_message(out: &mut [u8], at: usize, message: Message) -> usize
 
 // The form of an event that carries a message; `word` is all that stands before the message.
 fn put_carrying(out: &mut [u8], word: &[u8], message: Message) -> usize
-    requires { Room out.old 0 (joined (word.now ∷ messageForm message ∷ closeBracket ∷ [])) }
-    ensures { Stamped out.old 0 (joined (word.now ∷ messageForm message ∷ closeBracket ∷ [])) result out.new }
+    requires { Room out.old 0 (joined (word.now ∷ message_form message ∷ close_bracket ∷ [])) }
+    ensures { Stamped out.old 0 (joined (word.now ∷ message_form message ∷ close_bracket ∷ [])) result out.new }
 {
     let inner = pieces::put_word(out, 0, word);
     let end = put_message(out, inner, message);
@@ -78,8 +78,8 @@ fn put_carrying(out: &mut [u8], word: &[u8], message: Message) -> usize
 
 // The form of ticks.
 fn put_ticks(out: &mut [u8], ticks: u64) -> usize
-    requires { Room out.old 0 (eventForm (Event.Tick ticks)) }
-    ensures { Stamped out.old 0 (eventForm (Event.Tick ticks)) result out.new }
+    requires { Room out.old 0 (event_form (Event.Tick ticks)) }
+    ensures { Stamped out.old 0 (event_form (Event.Tick ticks)) result out.new }
 {
     let number = pieces::put_word(out, 0, b"(tick");
     let end = pieces::put_spaced(out, number, ticks);
@@ -88,8 +88,8 @@ fn put_ticks(out: &mut [u8], ticks: u64) -> usize
 
 // An event's form, from the first byte on.
 pub(crate) fn put_event(out: &mut [u8], event: Event) -> usize
-    requires { Room out.old 0 (eventForm event) }
-    ensures { Stamped out.old 0 (eventForm event) result out.new }
+    requires { Room out.old 0 (event_form event) }
+    ensures { Stamped out.old 0 (event_form event) result out.new }
 {
     match event {
         Event::Deliver(m) => put_carrying(out, b"(deliver ", m),

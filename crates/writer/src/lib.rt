@@ -7,11 +7,11 @@ mod setups;
 mod totals;
 
 ghost use Rattle.std.specs.Prelude.{◌≡◌, ◌<◌, ◌≤◌, false, length};
-ghost use Rattle.types.specs.Quantities.{nMost};
-ghost use Rattle.types.specs.Messages.{lacksForm};
-ghost use Rattle.lines.specs.Forms.{clocksForm, openingForm, setForm, eventForm, setupForm, lacksSetupForm};
-ghost use Rattle.lines.specs.Printout.{answerForm, processorForm, totalsText, totalsMost};
-ghost use Rattle.lines.specs.Contracts.{line, Writes, Prints};
+ghost use Rattle.types.specs.Quantities.{n_most};
+ghost use Rattle.types.specs.Messages.{lacks_form};
+ghost use Rattle.lines.specs.Forms.{clocks_form, opening_form, set_form, event_form, setup_form, lacks_setup_form};
+ghost use Rattle.lines.specs.Printout.{answer_form, processor_form, totals_text, totals_most};
+ghost use Rattle.lines.specs.Clauses.{line, Writes, Prints};
 
 use lines::Written;
 use types::{Answer, Event, Plan, Setup, Totals};
@@ -21,7 +21,7 @@ pub const TOTALS_MOST: usize = 468;
 
 // The line of an event.
 pub fn write_event(event: Event, out: &mut [u8]) -> Written
-    ensures { Writes (lacksForm event) (eventForm event) out.old result out.new }
+    ensures { Writes (lacks_form event) (event_form event) out.old result out.new }
 {
     if event.lacks_form() {
         return Written::Refused(1);
@@ -38,7 +38,7 @@ pub fn write_event(event: Event, out: &mut [u8]) -> Written
 // The bytes of an event's line, whether it has a form or not. `event_length` is not asked, so that it has one caller and is compiled into it: each
 // call of a function with two would copy the event.
 pub fn event_bytes(event: Event) -> usize
-    ensures { result ≡ length (line (eventForm event)) }
+    ensures { result ≡ length (line (event_form event)) }
 {
     match event {
         Event::Deliver(m) => 11 + events::message_length(m),
@@ -57,8 +57,8 @@ fn write_opening(
     clocks: &[u64],
     out: &mut [u8],
 ) -> Written
-    requires { (length word.now ≤ nMost) × (length numbers.now ≤ nMost) × (0 < length clocks.now) × (length clocks.now ≤ nMost) }
-    ensures { Writes false (openingForm word.now numbers.now (setForm faulty) (clocksForm clocks.now)) out.old result out.new }
+    requires { (length word.now ≤ n_most) × (length numbers.now ≤ n_most) × (0 < length clocks.now) × (length clocks.now ≤ n_most) }
+    ensures { Writes false (opening_form word.now numbers.now (set_form faulty) (clocks_form clocks.now)) out.old result out.new }
 {
     let bytes = setups::opening_length(word, numbers, faulty, clocks) + 1;
     if out.len() < bytes {
@@ -71,7 +71,7 @@ fn write_opening(
 
 // The line of a setup.
 pub fn write_setup(setup: Setup, out: &mut [u8]) -> Written
-    ensures { Writes (lacksSetupForm setup) (setupForm setup) out.old result out.new }
+    ensures { Writes (lacks_setup_form setup) (setup_form setup) out.old result out.new }
 {
     let plan = setup.plan;
     if plan.n == 0 {
@@ -88,7 +88,7 @@ pub fn write_setup(setup: Setup, out: &mut [u8]) -> Written
 
 // The line of an answer.
 pub fn write_answer(answer: Answer, out: &mut [u8]) -> Written
-    ensures { Writes false (answerForm answer) out.old result out.new }
+    ensures { Writes false (answer_form answer) out.old result out.new }
 {
     match answer {
         Answer::Done(ticks, held) => answers::write_done(ticks, held, out),
@@ -99,7 +99,7 @@ pub fn write_answer(answer: Answer, out: &mut [u8]) -> Written
 
 // The line at the end of a printout for one processor.
 pub fn write_processor(number: u64, view: u64, clock: u64, out: &mut [u8]) -> Written
-    ensures { Writes false (processorForm number view clock) out.old result out.new }
+    ensures { Writes false (processor_form number view clock) out.old result out.new }
 {
     let numbers = [number, view, clock];
     answers::write_numbers(b"cabinet", &numbers, out)
@@ -107,7 +107,7 @@ pub fn write_processor(number: u64, view: u64, clock: u64, out: &mut [u8]) -> Wr
 
 // The report of a run's traffic, or the line of the check that refuses it.
 pub fn write_totals(totals: Totals, out: &mut [u8]) -> Written
-    ensures { Prints totalsMost (totalsText totals) out.old result out.new }
+    ensures { Prints totals_most (totals_text totals) out.old result out.new }
 {
     if out.len() < TOTALS_MOST {
         return Written::Refused(1);

@@ -1,6 +1,6 @@
 // Numbers, each behind a blank: how many bytes they have, and their bytes written.
 ghost use Rattle.std.specs.Prelude.{◌≡◌, ◌*◌, ◌≤◌, length};
-ghost use Rattle.types.specs.Quantities.{nMost};
+ghost use Rattle.types.specs.Quantities.{n_most};
 ghost use Rattle.lines.specs.Forms.{joined, spaced};
 ghost use Rattle.writer.specs.Stamps.{Room, Stamped};
 
@@ -8,8 +8,8 @@ use crate::pieces;
 
 // The bytes of numbers with a blank before each.
 pub(crate) fn numbers_length(numbers: &[u64]) -> usize
-    requires { length numbers.now ≤ nMost }
-    ensures { (result ≡ length (joined (spaced numbers.now))) × (result ≤ 21 * nMost) }
+    requires { length numbers.now ≤ n_most }
+    ensures { (result ≡ length (joined (spaced numbers.now))) × (result ≤ 21 * n_most) }
 {
     let mut bytes = 0;
     let mut i = 0;

@@ -1,7 +1,7 @@
 // The pieces of a line, written into lent bytes that have room for them: a byte, a word, a number. Each answers the place behind what it wrote.
 ghost use Rattle.std.specs.Prelude.{◌≡◌, ◌≤◌, [], ◌∷◌, ◌++◌, length};
 ghost use Rattle.lines.specs.Decimal.{decimal};
-ghost use Rattle.lines.specs.Forms.{oneBlank};
+ghost use Rattle.lines.specs.Forms.{one_blank};
 ghost use Rattle.writer.specs.Stamps.{Room, Stamped};
 
 // One byte.
@@ -57,8 +57,8 @@ pub(crate) fn put_number(out: &mut [u8], at: usize, n: u64) -> usize
 
 // A blank and then a number.
 pub(crate) fn put_spaced(out: &mut [u8], at: usize, n: u64) -> usize
-    requires { Room out.old at (oneBlank ++ decimal n) }
-    ensures { Stamped out.old at (oneBlank ++ decimal n) result out.new }
+    requires { Room out.old at (one_blank ++ decimal n) }
+    ensures { Stamped out.old at (one_blank ++ decimal n) result out.new }
 {
     let digits = put_byte(out, at, b' ');
     put_number(out, digits, n)

@@ -1,8 +1,8 @@
 // The lines of a report, one behind the other, written into lent bytes that have room for them.
 ghost use Rattle.std.specs.Prelude.{◌≡◌, ◌+◌, ◌≤◌, [], ◌∷◌, length};
-ghost use Rattle.lines.specs.Forms.{numbersForm};
-ghost use Rattle.lines.specs.Printout.{all_of, trafficText, reportWordMost, reportNumbersMost, reportMost, totalsMost};
-ghost use Rattle.lines.specs.Contracts.{line};
+ghost use Rattle.lines.specs.Forms.{numbers_form};
+ghost use Rattle.lines.specs.Printout.{all_of, traffic_text, report_word_most, report_numbers_most, report_most, totals_most};
+ghost use Rattle.lines.specs.Clauses.{line};
 ghost use Rattle.writer.specs.Stamps.{Stamped};
 
 use crate::answers;
@@ -20,8 +20,8 @@ fn add_all(counts: Counts) -> u64
 
 // One line; it answers the place behind it.
 fn put_line(out: &mut [u8], at: usize, word: &[u8], numbers: &[u64]) -> usize
-    requires { (at + reportMost ≤ length out.old) × (length word.now ≤ reportWordMost) × (length numbers.now ≤ reportNumbersMost) }
-    ensures { Stamped out.old at (line (numbersForm word.now numbers.now)) result out.new × (result ≤ at + reportMost) }
+    requires { (at + report_most ≤ length out.old) × (length word.now ≤ report_word_most) × (length numbers.now ≤ report_numbers_most) }
+    ensures { Stamped out.old at (line (numbers_form word.now numbers.now)) result out.new × (result ≤ at + report_most) }
 {
     let written = answers::write_numbers(word, numbers, &mut out[at..]);
     match written {
@@ -32,8 +32,8 @@ fn put_line(out: &mut [u8], at: usize, word: &[u8], numbers: &[u64]) -> usize
 
 // The line of a kind.
 fn put_kind(out: &mut [u8], at: usize, word: &[u8], sent: u64, delivered: u64, held: u64) -> usize
-    requires { (at + reportMost ≤ length out.old) × (length word.now ≤ reportWordMost) }
-    ensures { Stamped out.old at (line (numbersForm word.now (sent ∷ delivered ∷ held ∷ []))) result out.new × (result ≤ at + reportMost) }
+    requires { (at + report_most ≤ length out.old) × (length word.now ≤ report_word_most) }
+    ensures { Stamped out.old at (line (numbers_form word.now (sent ∷ delivered ∷ held ∷ []))) result out.new × (result ≤ at + report_most) }
 {
     let numbers = [sent, delivered, held];
     put_line(out, at, word, &numbers)
@@ -41,8 +41,8 @@ fn put_kind(out: &mut [u8], at: usize, word: &[u8], sent: u64, delivered: u64, h
 
 // All lines, from the first byte on.
 pub(crate) fn put_traffic(out: &mut [u8], traffic: Traffic, held: Counts) -> usize
-    requires { totalsMost ≤ length out.old }
-    ensures { Stamped out.old 0 (trafficText traffic held) result out.new }
+    requires { totals_most ≤ length out.old }
+    ensures { Stamped out.old 0 (traffic_text traffic held) result out.new }
 {
     let sent = traffic.sent;
     let delivered = traffic.delivered;

@@ -1,5 +1,5 @@
 use Rattle.buffers.proofs.Firsts.{first-none, first_more, first-yes}
-use Rattle.buffers.specs.Network.{beginsWith}
+use Rattle.buffers.specs.Network.{begins_with}
 use Rattle.base.specs.Scan.{first}
 use Prim.Native.Nat.{◌≤◌, ◌-◌}
 use borrow.Author.Rules.{rules, zero≤}
@@ -12,7 +12,7 @@ use Rattle.buffers.proofs.scan.Reads as reads
 use Rattle.buffers.proofs.scan.Lts as lts
 
 abbrev invariant-loop : tie.invariant-loop
-invariant-loop network h x i₀ i = (i ≤ h) × (first (beginsWith network x) i ≡ i)
+invariant-loop network h x i₀ i = (i ≤ h) × (first (begins_with network x) i ≡ i)
 
 abbrev decreases-loop : tie.decreases-loop
 decreases-loop network h x i₀ i = h - i
@@ -30,7 +30,7 @@ shared-slice-read-if1 : tie.Need-shared-slice-read-if1 invariant-loop decreases-
 shared-slice-read-if1 c = search rules
 
 returns : tie.Need-returns invariant-loop decreases-loop
-returns c = sym (first-yes (beginsWith c.before.before.before.before.args.network.now c.before.before.before.before.args.x) c.before.before.before.before.args.h c.before.before.before.loop.i c.before.before.before.loop.invariant.1 (eq-eqb _ _ c.if1.true) c.before.before.loop-test.true)
+returns c = sym (first-yes (begins_with c.before.before.before.before.args.network.now c.before.before.before.before.args.x) c.before.before.before.before.args.h c.before.before.before.loop.i c.before.before.before.loop.invariant.1 (eq-eqb _ _ c.if1.true) c.before.before.loop-test.true)
 
 add-i : tie.Need-overflow-add-i invariant-loop decreases-loop
 add-i c = search rules
@@ -39,10 +39,10 @@ loop-less : tie.Need-loop-smaller invariant-loop decreases-loop
 loop-less c = search rules
 
 loop-again : tie.Need-loop-preserved invariant-loop decreases-loop
-loop-again c = (omega arith, first_more (beginsWith c.before.before.before.before.args.network.now c.before.before.before.before.args.x) c.before.before.before.loop.i c.before.before.before.loop.invariant.1 (ne_eqb _ _ c.if1.false))
+loop-again c = (omega arith, first_more (begins_with c.before.before.before.before.args.network.now c.before.before.before.before.args.x) c.before.before.before.loop.i c.before.before.before.loop.invariant.1 (ne_eqb _ _ c.if1.false))
 
 returns-2 : tie.Need-returns-2 invariant-loop decreases-loop
-returns-2 c = let e : c.before.loop.i ≡ c.before.before.args.h = omega arith in sym (ap (first (beginsWith c.before.before.args.network.now c.before.before.args.x)) (sym e) ∙ c.before.loop.invariant.1 ∙ e)
+returns-2 c = let e : c.before.loop.i ≡ c.before.before.args.h = omega arith in sym (ap (first (begins_with c.before.before.args.network.now c.before.before.args.x)) (sym e) ∙ c.before.loop.invariant.1 ∙ e)
 
 pub scan-spec : {M : Type 1} → statement M
 scan-spec =

@@ -1,4 +1,4 @@
-use Rattle.carrying.specs.Carries.{laidBehind}
+use Rattle.carrying.specs.Carries.{laid_behind}
 use Rattle.buffers.specs.Network.{appended}
 use Rattle.model.specs.State.{held_at}
 use Prim.Native.Nat.{ℕ}
@@ -22,7 +22,7 @@ enum_told : tie.Need-enum-told
 enum_told c = search rules
 
 returns : tie.Need-returns
-returns c = ap (laidBehind c.before.before.before.before.before.args.to c.before.before.before.before.before.args.target.now c.before.before.before.before.before.args.i (held_at c.before.before.before.before.before.args.from c.before.before.before.before.before.args.network.now c.before.before.before.before.before.args.i).sent) (sym c.enum_told.given.1 ∙ c.before.before.decode.ensures)
+returns c = ap (laid_behind c.before.before.before.before.before.args.to c.before.before.before.before.before.args.target.now c.before.before.before.before.before.args.i (held_at c.before.before.before.before.before.args.from c.before.before.before.before.before.args.network.now c.before.before.before.before.before.args.i).sent) (sym c.enum_told.given.1 ∙ c.before.before.decode.ensures)
 
 sent-requires : tie.Need-sent-requires
 sent-requires c κs = search rules
@@ -34,7 +34,7 @@ same_length : tie.Need-same-length
 same_length c = search rules
 
 returns-2 : tie.Need-returns-2
-returns-2 c = c.before.before.append.ensures ∙ ap (λ (t : ℕ). appended c.before.before.before.before.before.before.before.before.before.before.before.args.to c.before.before.before.before.before.before.before.before.before.before.before.args.target.now c.before.before.before.before.before.before.before.before.before.before.before.args.i t c.before.before.before.before.before.before.message.given.0.0) c.before.before.before.sent.ensures ∙ ap (laidBehind c.before.before.before.before.before.before.before.before.before.before.before.args.to c.before.before.before.before.before.before.before.before.before.before.before.args.target.now c.before.before.before.before.before.before.before.before.before.before.before.args.i (held_at c.before.before.before.before.before.before.before.before.before.before.before.args.from c.before.before.before.before.before.before.before.before.before.before.before.args.network.now c.before.before.before.before.before.before.before.before.before.before.before.args.i).sent) (sym c.before.before.before.before.before.before.message.given.1 ∙ c.before.before.before.before.before.before.before.before.decode.ensures)
+returns-2 c = c.before.before.append.ensures ∙ ap (λ (t : ℕ). appended c.before.before.before.before.before.before.before.before.before.before.before.args.to c.before.before.before.before.before.before.before.before.before.before.before.args.target.now c.before.before.before.before.before.before.before.before.before.before.before.args.i t c.before.before.before.before.before.before.message.given.0.0) c.before.before.before.sent.ensures ∙ ap (laid_behind c.before.before.before.before.before.before.before.before.before.before.before.args.to c.before.before.before.before.before.before.before.before.before.before.before.args.target.now c.before.before.before.before.before.before.before.before.before.before.before.args.i (held_at c.before.before.before.before.before.before.before.before.before.before.before.args.from c.before.before.before.before.before.before.before.before.before.before.before.args.network.now c.before.before.before.before.before.before.before.before.before.before.before.args.i).sent) (sym c.before.before.before.before.before.before.message.given.1 ∙ c.before.before.before.before.before.before.before.before.decode.ensures)
 
 pub carry-one-spec : {M : Type 1} → statement M
 carry-one-spec =

@@ -15,10 +15,10 @@ correct-requires : tie.Need-correct-requires
 correct-requires c κs = tt
 
 mul-count-support : tie.Need-overflow-mul-count-support
-mul-count-support c = omega (arith, c.before.before.before.requires.0.n-most, c.before.before.before.requires.1)
+mul-count-support c = omega (arith, c.before.before.before.requires.0.n_at_most, c.before.before.before.requires.1)
 
 element-copy-out-count-support : tie.Need-element-copy-out-count-support
-element-copy-out-count-support c = omega (arith, c.before.before.before.requires.0.n-most, c.before.before.before.requires.1)
+element-copy-out-count-support c = omega (arith, c.before.before.before.requires.0.n_at_most, c.before.before.before.requires.1)
 
 count-support-requires : tie.Need-count-support-requires
 count-support-requires c κs = c.before.before.before.before.requires.0
@@ -27,7 +27,7 @@ tolerated-requires : tie.Need-tolerated-requires
 tolerated-requires c κs = tt
 
 add-result : tie.Need-overflow-add-result
-add-result c = omega (arith, c.tolerated.ensures, c.before.before.before.before.before.before.before.requires.0.n-most)
+add-result c = omega (arith, c.tolerated.ensures, c.before.before.before.before.before.before.before.requires.0.n_at_most)
 
 returns : tie.Need-returns
 returns c = and-rest _ _ _ (sym c.before.before.before.before.before.correct.ensures ∙ c.before.before.before.before.if1.true) (ltb_as _ _ _ _ c.before.before.count-support.ensures (ap (λ (x : ℕ). x + 1) c.tolerated.ensures))

@@ -1,5 +1,5 @@
 use Rattle.pacemaker.proofs.LimitLaws.{time-word, turn-within}
-use Rattle.types.specs.Quantities.{perLeader}
+use Rattle.types.specs.Quantities.{per_leader}
 use Rattle.base.specs.Choice.{and-rest, and-not-first}
 use lib.Dec.{leb}
 use Prim.Native.Nat.{ℕ}
@@ -18,7 +18,7 @@ start-limit-requires : tie.Need-start-limit-requires
 start-limit-requires c κs = tt
 
 returns : tie.Need-returns
-returns c = and-rest _ _ _ (sym c.before.before.correct.ensures ∙ c.before.if1.true) (ap (λ (x : ℕ). leb x c.before.before.before.args.clock) (c.start-limit.ensures ∙ time-word c.before.before.before.args.plan c.before.before.before.requires (perLeader c.before.before.before.args.plan) (turn-within c.before.before.before.args.plan c.before.before.before.requires)))
+returns c = and-rest _ _ _ (sym c.before.before.correct.ensures ∙ c.before.if1.true) (ap (λ (x : ℕ). leb x c.before.before.before.args.clock) (c.start-limit.ensures ∙ time-word c.before.before.before.args.plan c.before.before.before.requires (per_leader c.before.before.before.args.plan) (turn-within c.before.before.before.args.plan c.before.before.before.requires)))
 
 returns-2 : tie.Need-returns-2
 returns-2 c = sym (and-not-first _ _ (sym c.before.correct.ensures ∙ c.if1.false))

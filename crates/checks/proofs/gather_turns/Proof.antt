@@ -5,8 +5,8 @@ use Prim.Native.Nat.{ℕ, ◌+◌, ◌*◌}
 use native.Mathlib.Omega.{arith}
 use lib.ListN.{drop}
 use borrow.Author.Rules.{rules}
-use Rattle.model.specs.Checks.{someNonZero}
-use Rattle.checks.specs.Scans.{turnWords}
+use Rattle.model.specs.Checks.{some_non_zero}
+use Rattle.checks.specs.Scans.{turn_words}
 use Rattle.checks.proofs.Tail.{found_turn, found-united}
 use Rattle.checks.proofs.gather_turns.Statement.{statement}
 use Rattle.checks.proofs.gather_turns.Tie as tie
@@ -15,7 +15,7 @@ use Rattle.checks.proofs.gather_turns.Lts as lts
 
 abbrev invariant-loop : tie.invariant-loop
 invariant-loop network from turns a₀ b₀ c₀ d₀ e₀ f₀ g₀ h₀ i₀ left₀ a b c d e f g h i left =
-    (i + turnWords * left ≡ from + turnWords * turns) × ((someNonZero (a ∷ b ∷ c ∷ d ∷ e ∷ f ∷ g ∷ h ∷ []) || someNonZero (drop i network)) ≡ someNonZero (drop from network))
+    (i + turn_words * left ≡ from + turn_words * turns) × ((some_non_zero (a ∷ b ∷ c ∷ d ∷ e ∷ f ∷ g ∷ h ∷ []) || some_non_zero (drop i network)) ≡ some_non_zero (drop from network))
 
 abbrev decreases-loop : tie.decreases-loop
 decreases-loop network from turns a₀ b₀ c₀ d₀ e₀ f₀ g₀ h₀ i₀ left₀ a b c d e f g h i left = left
@@ -109,8 +109,8 @@ loop-again c = (
 
 returns : tie.Need-returns invariant-loop decreases-loop
 returns c =
-    let e : c.before.before.args.from + turnWords * c.before.before.args.turns ≡ c.before.loop.i = omega (arith, c.before.loop.invariant.0, c.loop-test.false) in
-    ap₂ (λ (b : Bool) (j : ℕ). b || someNonZero (drop j c.before.before.args.network.now)) (found-united c.before.loop.a (c.before.loop.b ∷ c.before.loop.c ∷ c.before.loop.d ∷ c.before.loop.e ∷ c.before.loop.f ∷ c.before.loop.g ∷ c.before.loop.h ∷ [])) e ∙ c.before.loop.invariant.1
+    let e : c.before.before.args.from + turn_words * c.before.before.args.turns ≡ c.before.loop.i = omega (arith, c.before.loop.invariant.0, c.loop-test.false) in
+    ap₂ (λ (b : Bool) (j : ℕ). b || some_non_zero (drop j c.before.before.args.network.now)) (found-united c.before.loop.a (c.before.loop.b ∷ c.before.loop.c ∷ c.before.loop.d ∷ c.before.loop.e ∷ c.before.loop.f ∷ c.before.loop.g ∷ c.before.loop.h ∷ [])) e ∙ c.before.loop.invariant.1
 
 pub gather-turns-spec : {M : Type 1} → statement M
 gather-turns-spec =

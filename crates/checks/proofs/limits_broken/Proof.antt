@@ -1,5 +1,5 @@
 use Rattle.pacemaker.proofs.LimitLaws.{check-refuses, check-passes, within}
-use Rattle.model.specs.Checks.{planOutside, faultyOutside}
+use Rattle.model.specs.Checks.{plan_outside, faulty_outside}
 use Rattle.base.specs.Choice.{or-first, or-second, or-neither, or-rest}
 use native.Mathlib.Omega.{arith}
 use mathlib.Core.Path.{sym, ◌∙◌}
@@ -21,7 +21,7 @@ faulty-outside-requires : tie.Need-faulty-outside-requires
 faulty-outside-requires c κs = tt
 
 returns-2 : tie.Need-returns-2
-returns-2 c = sym (or-first _ _ (or-second (planOutside c.before.before.before.before.args.plan) (faultyOutside c.before.before.before.before.args.plan c.before.before.before.before.args.faulty) (sym c.before.faulty-outside.ensures ∙ c.if2.true)))
+returns-2 c = sym (or-first _ _ (or-second (plan_outside c.before.before.before.before.args.plan) (faulty_outside c.before.before.before.before.args.plan c.before.before.before.before.args.faulty) (sym c.before.faulty-outside.ensures ∙ c.if2.true)))
 
 lengths-outside-requires : tie.Need-lengths-outside-requires
 lengths-outside-requires c κs = within c.before.before.before.before.args.plan (check-passes c.before.before.before.before.args.plan (omega (arith, c.before.before.before.plan-check.ensures, c.before.before.if1.false)))

@@ -1,7 +1,7 @@
 use mathlib.Core.Path.{◌≡◌, refl, ◌∙◌}
 use Prim.Native.Nat.{◌-◌}
 use lib.ListN.{length}
-use Rattle.checks.specs.Scans.{nonZeroFrom}
+use Rattle.checks.specs.Scans.{non_zero_from}
 use Rattle.checks.proofs.Tail.{found-more, found_all}
 use native.Mathlib.Omega.{arith}
 use Rattle.checks.proofs.rest_not_zero.Statement.{statement}
@@ -10,7 +10,7 @@ use Rattle.checks.proofs.rest_not_zero.Reads as reads
 use Rattle.checks.proofs.rest_not_zero.Lts as lts
 
 abbrev invariant-loop : tie.invariant-loop
-invariant-loop network from before seen₀ i₀ seen i = nonZeroFrom seen i network ≡ nonZeroFrom before from network
+invariant-loop network from before seen₀ i₀ seen i = non_zero_from seen i network ≡ non_zero_from before from network
 
 abbrev decreases-loop : tie.decreases-loop
 decreases-loop network from before seen₀ i₀ seen i = length network - i

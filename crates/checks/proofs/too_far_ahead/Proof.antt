@@ -1,5 +1,5 @@
 use native.Mathlib.Omega.{arith}
-use Rattle.model.specs.Checks.{aloneAt, tooFarAhead}
+use Rattle.model.specs.Checks.{alone_at, too_far_ahead}
 use Rattle.base.specs.ScanLaws.{some-start, some-on, some-here, some_below}
 use Rattle.base.specs.Scan.{some}
 use Prim.Native.Nat.{◌-◌}
@@ -12,7 +12,7 @@ use Rattle.checks.proofs.too_far_ahead.Lts as lts
 use Rattle.checks.proofs.clock_alone.Reads as clock-alone-reads
 
 abbrev invariant-loop : tie.invariant-loop
-invariant-loop setup n q₀ q = some (aloneAt setup.plan setup.faulty setup.clocks) q ≡ false
+invariant-loop setup n q₀ q = some (alone_at setup.plan setup.faulty setup.clocks) q ≡ false
 
 abbrev decreases-loop : tie.decreases-loop
 decreases-loop setup n q₀ q = setup.plan.n - q
@@ -24,21 +24,21 @@ clock-alone-requires : tie.Need-clock-alone-requires invariant-loop decreases-lo
 clock-alone-requires c κs = (c.before.before.requires, c.loop-test.true)
 
 returns : tie.Need-returns invariant-loop decreases-loop
-unfolding tooFarAhead
-returns c = sym (some-here (aloneAt c.before.before.before.before.args.setup.plan c.before.before.before.before.args.setup.faulty c.before.before.before.before.args.setup.clocks) c.before.before.before.before.args.setup.plan.n c.before.before.before.loop.q c.before.before.loop-test.true (sym c.before.clock-alone.ensures ∙ c.if1.true))
+unfolding too_far_ahead
+returns c = sym (some-here (alone_at c.before.before.before.before.args.setup.plan c.before.before.before.before.args.setup.faulty c.before.before.before.before.args.setup.clocks) c.before.before.before.before.args.setup.plan.n c.before.before.before.loop.q c.before.before.loop-test.true (sym c.before.clock-alone.ensures ∙ c.if1.true))
 
 add-q : tie.Need-overflow-add-q invariant-loop decreases-loop
-add-q c = omega (arith, c.before.before.before.before.requires.n-most)
+add-q c = omega (arith, c.before.before.before.before.requires.n_at_most)
 
 loop-less : tie.Need-loop-smaller invariant-loop decreases-loop
 loop-less c = omega arith
 
 loop-again : tie.Need-loop-preserved invariant-loop decreases-loop
-loop-again c = some-on (aloneAt c.before.before.before.before.args.setup.plan c.before.before.before.before.args.setup.faulty c.before.before.before.before.args.setup.clocks) c.before.before.before.loop.q c.before.before.before.loop.invariant (sym c.before.clock-alone.ensures ∙ c.if1.false)
+loop-again c = some-on (alone_at c.before.before.before.before.args.setup.plan c.before.before.before.before.args.setup.faulty c.before.before.before.before.args.setup.clocks) c.before.before.before.loop.q c.before.before.before.loop.invariant (sym c.before.clock-alone.ensures ∙ c.if1.false)
 
 returns-2 : tie.Need-returns-2 invariant-loop decreases-loop
-unfolding tooFarAhead
-returns-2 c = sym (some_below (aloneAt c.before.before.args.setup.plan c.before.before.args.setup.faulty c.before.before.args.setup.clocks) c.before.before.args.setup.plan.n c.before.loop.q c.before.loop.invariant c.loop-test.false)
+unfolding too_far_ahead
+returns-2 c = sym (some_below (alone_at c.before.before.args.setup.plan c.before.before.args.setup.faulty c.before.before.args.setup.clocks) c.before.before.args.setup.plan.n c.before.loop.q c.before.loop.invariant c.loop-test.false)
 
 pub too-far-ahead-spec : {M : Type 1} → statement M
 too-far-ahead-spec =

@@ -1,5 +1,5 @@
 use Rattle.fever.proofs.Carrying.{outside-head, carry-short, carry-outside, carry-neither, carry-told}
-use Rattle.fever.specs.Contracts.{lent_of}
+use Rattle.fever.specs.Clauses.{lent_of}
 use borrow.Author.Rules.{rules}
 use Rattle.fever.proofs.carry_words.Statement.{statement}
 use Rattle.fever.proofs.carry_words.Tie as tie
@@ -47,7 +47,7 @@ same-length-3 : tie.Need-same-length-3
 same-length-3 c = search rules
 
 returns-4 : tie.Need-returns-4
-returns-4 c = carry-told c.before.before.before.before.before.before.before.before.before.before.before.before.before.before.before.before.args.from c.before.before.before.before.before.before.before.before.before.before.before.before.before.before.before.before.args.to (lent_of c.before.before.before.before.before.before.before.before.before.before.before.before.before.before.before.before.args.run.now c.before.before.before.before.before.before.before.before.before.before.before.before.before.before.before.before.args.tally.now c.before.before.before.before.before.before.before.before.before.before.before.before.before.before.before.before.args.network.now) c.before.before.before.before.before.before.before.before.before.before.before.before.before.before.before.before.args.target.now c.before.before.before.before.before.before.before.before.before.before.before.if1.false c.before.before.before.before.before.before.before.before.if2.false _ _ _ (record { head = c.before.before.before.before.before.before.before.before.before.before.head_in.ensures; clocks-in = c.before.before.before.before.before.before.before.table-in.ensures; views-in = c.before.before.before.before.before.before.table-in2.ensures }) _ _ c.before.before.carry.ensures
+returns-4 c = carry-told c.before.before.before.before.before.before.before.before.before.before.before.before.before.before.before.before.args.from c.before.before.before.before.before.before.before.before.before.before.before.before.before.before.before.before.args.to (lent_of c.before.before.before.before.before.before.before.before.before.before.before.before.before.before.before.before.args.run.now c.before.before.before.before.before.before.before.before.before.before.before.before.before.before.before.before.args.tally.now c.before.before.before.before.before.before.before.before.before.before.before.before.before.before.before.before.args.network.now) c.before.before.before.before.before.before.before.before.before.before.before.before.before.before.before.before.args.target.now c.before.before.before.before.before.before.before.before.before.before.before.if1.false c.before.before.before.before.before.before.before.before.if2.false _ _ _ (record { head = c.before.before.before.before.before.before.before.before.before.before.head_in.ensures; clocks_in = c.before.before.before.before.before.before.before.table-in.ensures; views_in = c.before.before.before.before.before.before.table-in2.ensures }) _ _ c.before.before.carry.ensures
 
 pub carry-words-spec : {M : Type 1} → statement M
 carry-words-spec =

@@ -47,7 +47,7 @@ same-length-4 c = search rules
 
 returns-3 : tie.Need-returns-3
 returns-3 c = all_done _ _ _ c.before.before.before.before.before.before.before.before.before.before.before.before.apply-events.result _ _ _ _ _ _ _ _ c.before.before.before.before.before.before.before.before.before.before.before.before.before.before.before.before.before.before.before.before.before.before.before.before.before.before.if1.false c.before.before.before.before.before.before.before.before.before.before.before.before.before.before.before.before.before.before.before.before.before.before.before.before.if2.false
-    (record { head = c.before.before.before.before.before.before.before.before.before.before.before.before.before.before.before.before.before.before.before.before.before.before.head_in.ensures; clocks-in = c.before.before.before.before.before.before.before.before.before.before.before.before.before.before.before.before.before.before.before.before.table-in.ensures; views-in = c.before.before.before.before.before.before.before.before.before.before.before.before.before.before.before.before.before.before.table-in2.ensures }) c.before.before.before.before.before.before.before.before.before.before.before.before.apply-events.ensures c.before.before.put-run.ensures
+    (record { head = c.before.before.before.before.before.before.before.before.before.before.before.before.before.before.before.before.before.before.before.before.before.before.head_in.ensures; clocks_in = c.before.before.before.before.before.before.before.before.before.before.before.before.before.before.before.before.before.before.before.before.table-in.ensures; views_in = c.before.before.before.before.before.before.before.before.before.before.before.before.before.before.before.before.before.before.table-in2.ensures }) c.before.before.before.before.before.before.before.before.before.before.before.before.apply-events.ensures c.before.before.put-run.ensures
 
 pub fever-apply-all-spec : {M : Type 1} → statement M
 fever-apply-all-spec =

@@ -45,7 +45,7 @@ same-length-3 c = search rules
 
 returns-3 : tie.Need-returns-3
 returns-3 c = opening-done _ _ _ _ _ _ _ _ c.before.before.before.before.before.before.before.before.before.before.open_lent.result _ _ _ _ c.before.before.before.before.before.before.before.before.before.before.before.before.before.before.before.before.before.before.before.before.before.before.before.if1.false c.before.before.before.before.before.before.before.before.before.before.before.before.before.before.before.before.before.before.before.before.before.before.if2.false c.before.before.before.before.before.before.before.before.before.before.before.before.before.before.before.before.before.before.before.before.before.setup-in.ensures
-    (record { head = c.before.before.before.before.before.before.before.before.before.before.before.before.before.before.before.before.before.before.before.head_in.ensures; clocks-in = c.before.before.before.before.before.before.before.before.before.before.before.before.before.before.before.before.before.table-in.ensures; views-in = c.before.before.before.before.before.before.before.before.before.before.before.before.before.before.before.table-in2.ensures })
+    (record { head = c.before.before.before.before.before.before.before.before.before.before.before.before.before.before.before.before.before.before.before.head_in.ensures; clocks_in = c.before.before.before.before.before.before.before.before.before.before.before.before.before.before.before.before.before.table-in.ensures; views_in = c.before.before.before.before.before.before.before.before.before.before.before.before.before.before.before.table-in2.ensures })
     c.before.before.before.before.before.before.before.before.before.before.open_lent.ensures (record { check = c.before.before.put-outcome.ensures.0; words = c.before.before.put-outcome.ensures.1 })
 
 pub fever-open-spec : {M : Type 1} → statement M

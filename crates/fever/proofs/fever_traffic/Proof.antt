@@ -1,5 +1,5 @@
 use Rattle.fever.proofs.Telling.{report-short-run, report-short, report-neither, report-told}
-use Rattle.fever.specs.Contracts.{lent_of}
+use Rattle.fever.specs.Clauses.{lent_of}
 use borrow.Author.Rules.{rules}
 use Rattle.fever.proofs.fever_traffic.Statement.{statement}
 use Rattle.fever.proofs.fever_traffic.Tie as tie
@@ -42,7 +42,7 @@ same_length c = search rules
 
 returns-4 : tie.Need-returns-4
 returns-4 c = report-told (lent_of c.before.before.before.before.before.before.before.before.before.before.before.before.before.before.before.before.before.before.args.run.now c.before.before.before.before.before.before.before.before.before.before.before.before.before.before.before.before.before.before.args.tally.now c.before.before.before.before.before.before.before.before.before.before.before.before.before.before.before.before.before.before.args.network.now) c.before.before.before.before.before.before.before.before.before.before.before.before.before.before.before.before.before.before.args.report.now c.before.before.before.before.before.before.before.before.before.before.before.before.before.if1.false c.before.before.before.before.before.before.before.before.before.before.before.before.if2.false c.before.before.before.before.before.before.before.before.before.before.if3.false _ _ _
-    (record { head = c.before.before.before.before.before.before.before.before.before.head_in.ensures; clocks-in = c.before.before.before.before.before.before.before.before.table-in.ensures; views-in = c.before.before.before.before.before.before.before.table-in2.ensures }) c.before.before.before.before.totals.result c.before.before.before.before.totals.ensures _ c.before.before.put-report.ensures
+    (record { head = c.before.before.before.before.before.before.before.before.before.head_in.ensures; clocks_in = c.before.before.before.before.before.before.before.before.table-in.ensures; views_in = c.before.before.before.before.before.before.before.table-in2.ensures }) c.before.before.before.before.totals.result c.before.before.before.before.totals.ensures _ c.before.before.put-report.ensures
 
 pub fever-traffic-spec : {M : Type 1} → statement M
 fever-traffic-spec =

@@ -1,5 +1,5 @@
 use Rattle.leaps.proofs.Resting.{rest_more, rest-none}
-use Rattle.leaps.specs.Leaps.{restBelow, seated}
+use Rattle.leaps.specs.Leaps.{rest_below, seated}
 use Rattle.model.specs.State.{run_from}
 use Rattle.std.proofs.Common.{◌≡◌, ◌+◌, ◌-◌, ◌≤◌, sym, refl, ap, ◌∙◌, arith, rules}
 use borrow.Author.Rules.{zero≤}
@@ -11,7 +11,7 @@ use Rattle.leaps.proofs.least.Reads as least-reads
 use Rattle.leaps.proofs.rest_for.Reads as rest-for-reads
 
 abbrev invariant-loop : tie.invariant-loop
-invariant-loop head clocks views most n quiet₀ q₀ quiet q = (q ≤ n) × (quiet ≡ restBelow (run_from head clocks views) most q)
+invariant-loop head clocks views most n quiet₀ q₀ quiet q = (q ≤ n) × (quiet ≡ rest_below (run_from head clocks views) most q)
 
 abbrev decreases-loop : tie.decreases-loop
 decreases-loop head clocks views most n quiet₀ q₀ quiet q = n - q
@@ -23,7 +23,7 @@ least-requires-2 : tie.Need-least-requires-2 invariant-loop decreases-loop
 least-requires-2 c κs = search rules
 
 loop-holds : tie.Need-loop-init invariant-loop decreases-loop
-unfolding restBelow
+unfolding rest_below
 loop-holds c = (zero≤, refl)
 
 mul-t15 : tie.Need-overflow-mul-t15 invariant-loop decreases-loop
@@ -54,7 +54,7 @@ loop-again : tie.Need-loop-preserved invariant-loop decreases-loop
 loop-again c = (omega arith, rest_more (run_from c.before.before.before.before.before.before.before.before.before.before.args.head c.before.before.before.before.before.before.before.before.before.before.args.clocks.now c.before.before.before.before.before.before.before.before.before.before.args.views.now) _ _ _ _ c.before.before.before.before.before.loop.invariant.1 c.before.rest-for.ensures)
 
 returns-2 : tie.Need-returns-2 invariant-loop decreases-loop
-returns-2 c = let e : c.before.loop.q ≡ seated (run_from c.before.before.before.before.before.before.args.head c.before.before.before.before.before.before.args.clocks.now c.before.before.before.before.before.before.args.views.now) = omega (arith, c.before.before.least2.ensures, c.before.before.before.least.ensures) in c.before.loop.invariant.1 ∙ ap (restBelow (run_from c.before.before.before.before.before.before.args.head c.before.before.before.before.before.before.args.clocks.now c.before.before.before.before.before.before.args.views.now) c.before.before.before.before.before.before.args.most) e
+returns-2 c = let e : c.before.loop.q ≡ seated (run_from c.before.before.before.before.before.before.args.head c.before.before.before.before.before.before.args.clocks.now c.before.before.before.before.before.before.args.views.now) = omega (arith, c.before.before.least2.ensures, c.before.before.before.least.ensures) in c.before.loop.invariant.1 ∙ ap (rest_below (run_from c.before.before.before.before.before.before.args.head c.before.before.before.before.before.before.args.clocks.now c.before.before.before.before.before.before.args.views.now) c.before.before.before.before.before.before.args.most) e
 
 pub rest-spec : {M : Type 1} → statement M
 rest-spec =

@@ -3,14 +3,14 @@ use native.Mathlib.Omega.{arith}
 use Rattle.lines.proofs.Newlines.{none_here, first-here, none_at_all}
 use lib.ListN.{length}
 use Prim.Native.Nat.{◌-◌, ◌≤◌}
-use Rattle.lines.specs.Splitting.{beforeNewline}
+use Rattle.lines.specs.Splitting.{before_newline}
 use Rattle.lines.proofs.before_newline.Statement.{statement}
 use Rattle.lines.proofs.before_newline.Tie as tie
 use Rattle.lines.proofs.before_newline.Reads as reads
 use Rattle.lines.proofs.before_newline.Lts as lts
 
 abbrev invariant-loop : tie.invariant-loop
-invariant-loop bytes i₀ i = i ≤ beforeNewline bytes
+invariant-loop bytes i₀ i = i ≤ before_newline bytes
 
 abbrev decreases-loop : tie.decreases-loop
 decreases-loop bytes i₀ i = length bytes - i

@@ -1,4 +1,4 @@
-use Rattle.lines.specs.Splitting.{nextLine}
+use Rattle.lines.specs.Splitting.{next_line}
 use Rattle.base.specs.Choice.{choices}
 use borrow.Author.Rules.{rules}
 use Rattle.lines.proofs.next_line.Statement.{statement}
@@ -11,19 +11,19 @@ before-newline-requires : tie.Need-before-newline-requires
 before-newline-requires c κs = search rules
 
 returns : tie.Need-returns
-unfolding nextLine
+unfolding next_line
 returns c = rw (← c.before.before.before-newline.ensures) (search choices)
 
 returns-2 : tie.Need-returns-2
-unfolding nextLine
+unfolding next_line
 returns-2 c = rw (← c.before.before.before-newline.ensures) (search choices)
 
 returns-3 : tie.Need-returns-3
-unfolding nextLine
+unfolding next_line
 returns-3 c = rw (← c.before.before.before-newline.ensures) (search choices)
 
 returns-4 : tie.Need-returns-4
-unfolding nextLine
+unfolding next_line
 returns-4 c = rw (← c.before.before.before-newline.ensures) (search choices)
 
 pub next-line-spec : {M : Type 1} → statement M

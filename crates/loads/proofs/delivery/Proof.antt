@@ -1,4 +1,4 @@
-use Rattle.loads.specs.Loads.{deliveryOf}
+use Rattle.loads.specs.Loads.{delivery_of}
 use Rattle.std.proofs.Common.{sym, ap, ◌∙◌, rules}
 use Rattle.loads.proofs.delivery.Statement.{statement}
 use Rattle.loads.proofs.delivery.Tie as tie
@@ -16,10 +16,10 @@ enum_told : tie.Need-enum-told
 enum_told c = search rules
 
 returns : tie.Need-returns
-returns c = ap deliveryOf (sym c.before.message.given.1 ∙ c.before.before.before.decode.ensures)
+returns c = ap delivery_of (sym c.before.message.given.1 ∙ c.before.before.before.decode.ensures)
 
 returns-2 : tie.Need-returns-2
-returns-2 c = ap deliveryOf (sym c.enum_told.given.1 ∙ c.before.before.decode.ensures)
+returns-2 c = ap delivery_of (sym c.enum_told.given.1 ∙ c.before.before.decode.ensures)
 
 pub delivery-spec : {M : Type 1} → statement M
 delivery-spec = tie.close (tie.spec decode-requires enum-known-message enum_told returns returns-2)

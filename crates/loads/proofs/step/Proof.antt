@@ -1,6 +1,6 @@
 use Rattle.std.proofs.Common.{ℕ, ◌%◌, refl, ap, ◌∙◌, arith, rules}
 use Rattle.model.specs.State.{state_of, run_from}
-use Rattle.loads.specs.Loads.{point_of, deliveryOf}
+use Rattle.loads.specs.Loads.{point_of, delivery_of}
 use Rattle.types.specs.declared.Form.TheVariants.{Packed}
 use Rattle.buffers.specs.Kinds.{stored}
 use Rattle.loads.proofs.Choosing.{tick-none, draws-delivery, draws-tick, none-held, step-delivers, step-ticks}
@@ -35,7 +35,7 @@ delivery-requires : tie.Need-delivery-requires
 delivery-requires c κs = search rules
 
 returns-2 : tie.Need-returns-2
-returns-2 c = λ k v t j. step-delivers (point_of (state_of (run_from c.before.before.before.before.before.before.before.before.before.args.head k v) t c.before.before.before.before.before.before.before.before.before.args.network.now) c.before.before.before.before.before.before.before.before.before.args.seed j) _ c.before.before.before.before.before.before.before.next-seed.ensures _ _ c.before.before.next-seed2.ensures (draws-delivery c.before.before.before.before.before.before.before.next-seed.result c.before.before.before.before.drawn.result c.before.before.before.before.before.before.before.before.before.args.head.held c.before.before.before.before.drawn.ensures c.before.before.before.if2.true (omega (arith, c.before.before.before.before.before.if1.false))) (c.delivery.ensures ∙ ap (λ (d : ℕ). deliveryOf (stored Packed c.before.before.before.before.before.before.before.before.before.args.network.now (d % c.before.before.before.before.before.before.before.before.before.args.head.held))) c.before.drawn2.ensures)
+returns-2 c = λ k v t j. step-delivers (point_of (state_of (run_from c.before.before.before.before.before.before.before.before.before.args.head k v) t c.before.before.before.before.before.before.before.before.before.args.network.now) c.before.before.before.before.before.before.before.before.before.args.seed j) _ c.before.before.before.before.before.before.before.next-seed.ensures _ _ c.before.before.next-seed2.ensures (draws-delivery c.before.before.before.before.before.before.before.next-seed.result c.before.before.before.before.drawn.result c.before.before.before.before.before.before.before.before.before.args.head.held c.before.before.before.before.drawn.ensures c.before.before.before.if2.true (omega (arith, c.before.before.before.before.before.if1.false))) (c.delivery.ensures ∙ ap (λ (d : ℕ). delivery_of (stored Packed c.before.before.before.before.before.before.before.before.before.args.network.now (d % c.before.before.before.before.before.before.before.before.before.args.head.held))) c.before.drawn2.ensures)
 
 tick-or-deliver-requires : tie.Need-tick-or-deliver-requires
 tick-or-deliver-requires c κs = search rules

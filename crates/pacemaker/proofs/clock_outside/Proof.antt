@@ -1,6 +1,6 @@
 use mathlib.Core.Path.{sym, ap, ◌∙◌}
 use native.Mathlib.Omega.{arith}
-use Rattle.types.specs.Quantities.{clockTime}
+use Rattle.types.specs.Quantities.{clock_time}
 use Rattle.pacemaker.proofs.LimitLaws.{past-views, outside-view, outside-next}
 use borrow.Author.Rules.{rules}
 use Rattle.pacemaker.proofs.clock_outside.Statement.{statement}
@@ -13,7 +13,7 @@ use Rattle.pacemaker.proofs.time_of.Reads as time-of-reads
 returns : tie.Need-returns
 returns c =
     let a = c.before.args in
-    sym (past-views a.plan a.processor.clock a.processor.view (omega (arith, c.if1.true, c.before.requires.views-most)))
+    sym (past-views a.plan a.processor.clock a.processor.view (omega (arith, c.if1.true, c.before.requires.views_at_most)))
 
 returns-2 : tie.Need-returns-2
 returns-2 c =
@@ -26,7 +26,7 @@ time-of-requires c κs = search rules
 returns-3 : tie.Need-returns-3
 returns-3 c =
     let a = c.before.before.before.before.before.before.args in
-    sym (outside-view a.plan a.processor.clock a.processor.view (omega (arith, c.before.before.time-of.ensures, c.if3.true)))
+    sym (outside-view a.plan a.processor.clock a.processor.view (omega (arith, c.before.before.time_told.ensures, c.if3.true)))
 
 next-of-requires : tie.Need-next-of-requires
 next-of-requires c κs = search rules
@@ -39,8 +39,8 @@ returns-4 c =
     let start = c.before.before.before.before.before.before.before.before.before in
     let a = start.args in
     outside-next a.plan start.requires a.processor.clock a.processor.view _ c.before.before.before.before.before.before.if2.false
-    (omega (arith, c.before.before.before.before.before.time-of.ensures, c.before.before.before.if3.false))
-    (c.before.time-of2.ensures ∙ ap (clockTime a.plan) c.before.before.next_of.ensures.0)
+    (omega (arith, c.before.before.before.before.before.time_told.ensures, c.before.before.before.if3.false))
+    (c.before.time-of2.ensures ∙ ap (clock_time a.plan) c.before.before.next_of.ensures.0)
 
 pub clock-outside-spec : {M : Type 1} → statement M
 clock-outside-spec =

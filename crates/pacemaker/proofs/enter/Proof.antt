@@ -37,7 +37,7 @@ returns-2 c =
     let start = c.before.before.before.before.before.before in
     let a = start.args in
     as_moved (entered a.plan a.processor a.processor.clock a.w _ _ _
-    c.before.before.before.before.before.time-of.ensures c.before.before.before.before.raise.ensures c.before.entry-sends.ensures
+    c.before.before.before.before.before.time_told.ensures c.before.before.before.before.raise.ensures c.before.entry-sends.ensures
     ∙ entry-goes-on a.plan a.processor start.requires.0 a.w (omega (arith, start.requires.1, c.before.before.if1.false)))
     c.accept.ensures
 

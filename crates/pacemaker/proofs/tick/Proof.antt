@@ -1,7 +1,7 @@
 use mathlib.Core.Path.{ap, ◌∙◌}
 use native.Mathlib.Omega.{arith}
-use Rattle.types.specs.Quantities.{clockTime}
-use Rattle.pacemaker.specs.Steps.{entryInto}
+use Rattle.types.specs.Quantities.{clock_time}
+use Rattle.pacemaker.specs.Steps.{entry_into}
 use Rattle.pacemaker.proofs.LimitLaws.{time-small, view-below}
 use Rattle.pacemaker.proofs.StepLaws.{as_moved}
 use Rattle.pacemaker.proofs.TickLaws.{tick-passes, tick-arrives}
@@ -18,7 +18,7 @@ use Rattle.pacemaker.proofs.time_of.Reads as time-of-reads
 add-clock : tie.Need-overflow-add-clock
 add-clock c =
     let plan = c.before.args.plan in
-    omega (arith, time-small plan c.before.requires.within plan.views (omega arith), c.before.requires.before-end)
+    omega (arith, time-small plan c.before.requires.within plan.views (omega arith), c.before.requires.before_end)
 
 next-of-requires : tie.Need-next-of-requires
 next-of-requires c κs = (c.before.requires.within, view-below c.before.args.plan c.before.args.processor c.before.requires)
@@ -32,7 +32,7 @@ accept-requires c κs = search rules
 returns : tie.Need-returns
 returns c =
     let start = c.before.before.before.before.before in
-    let time = c.before.before.time-of.ensures ∙ ap (clockTime start.args.plan) c.before.before.before.next_of.ensures.0 in
+    let time = c.before.before.time_told.ensures ∙ ap (clock_time start.args.plan) c.before.before.before.next_of.ensures.0 in
     as_moved (tick-passes start.args.plan start.args.processor start.requires (omega (arith, time, c.before.if1.true))) c.accept.ensures
 
 enter-requires : tie.Need-enter-requires
@@ -42,8 +42,8 @@ returns-2 : tie.Need-returns-2
 returns-2 c =
     let start = c.before.before.before.before.before in
     let next = c.before.before.before.next_of.ensures.0 in
-    let time = c.before.before.time-of.ensures ∙ ap (clockTime start.args.plan) next in
-    as_moved (ap (entryInto start.args.plan start.args.processor) next
+    let time = c.before.before.time_told.ensures ∙ ap (clock_time start.args.plan) next in
+    as_moved (ap (entry_into start.args.plan start.args.processor) next
     ∙ tick-arrives start.args.plan start.args.processor start.requires (omega (arith, time, c.before.if1.false)))
     c.enter.ensures
 

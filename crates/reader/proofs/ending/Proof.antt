@@ -1,5 +1,5 @@
 use borrow.Author.Tests.{eq-eqb, ne_eqb}
-use Rattle.reader.specs.Lines.{endingAt}
+use Rattle.reader.specs.Lines.{ending_at}
 use mathlib.Core.Path.{sym, ◌∙◌}
 use borrow.Author.Rules.{rules}
 use Rattle.reader.proofs.ending.Statement.{statement}
@@ -19,11 +19,11 @@ enum_told : tie.Need-enum-told
 enum_told c = search rules
 
 returns : tie.Need-returns
-unfolding endingAt
+unfolding ending_at
 returns c = rw (sym c.before.before.after-close-bracket.ensures ∙ c.enum_told.given.1)
 
 returns-2 : tie.Need-returns-2
-unfolding endingAt
+unfolding ending_at
 returns-2 c =
     rw (
       sym c.before.before.before.before.after-close-bracket.ensures ∙ c.before.before.k.given.1,
@@ -34,7 +34,7 @@ lacks-form-requires : tie.Need-lacks-form-requires
 lacks-form-requires c κs = search rules
 
 returns-3 : tie.Need-returns-3
-unfolding endingAt
+unfolding ending_at
 returns-3 c =
     rw (
       sym c.before.before.before.before.before.before.after-close-bracket.ensures ∙ c.before.before.before.before.k.given.1,
@@ -43,7 +43,7 @@ returns-3 c =
     )
 
 returns-4 : tie.Need-returns-4
-unfolding endingAt
+unfolding ending_at
 returns-4 c =
     rw (
       sym c.before.before.before.before.before.before.after-close-bracket.ensures ∙ c.before.before.before.before.k.given.1,

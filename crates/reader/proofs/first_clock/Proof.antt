@@ -1,4 +1,4 @@
-use Rattle.reader.specs.Lines.{firstClockAt}
+use Rattle.reader.specs.Lines.{first_clock_at}
 use mathlib.Core.Path.{sym, ◌∙◌}
 use borrow.Author.Rules.{rules}
 use Rattle.reader.proofs.first_clock.Statement.{statement}
@@ -19,7 +19,7 @@ enum_told : tie.Need-enum-told
 enum_told c = search rules
 
 returns : tie.Need-returns
-unfolding firstClockAt
+unfolding first_clock_at
 returns c = rw (sym c.before.before.after-blank.ensures ∙ c.enum_told.given.1)
 
 after-open-bracket-requires : tie.Need-after-open-bracket-requires
@@ -32,7 +32,7 @@ enum-told-2 : tie.Need-enum-told-2
 enum-told-2 c = search rules
 
 returns-2 : tie.Need-returns-2
-unfolding firstClockAt
+unfolding first_clock_at
 returns-2 c =
     rw (
       sym c.before.before.before.before.before.before.after-blank.ensures ∙ c.before.before.before.before.a.given.1,
@@ -43,7 +43,7 @@ read-number-requires : tie.Need-read-number-requires
 read-number-requires c κs = search rules
 
 returns-3 : tie.Need-returns-3
-unfolding firstClockAt
+unfolding first_clock_at
 returns-3 c =
     rw (
       sym c.before.before.before.before.before.before.before.before.after-blank.ensures ∙ c.before.before.before.before.before.before.a.given.1,

@@ -1,4 +1,4 @@
-use Rattle.reader.specs.Scan.{nextNumberAt}
+use Rattle.reader.specs.Scan.{next_number_at}
 use mathlib.Core.Path.{sym, ◌∙◌}
 use borrow.Author.Rules.{rules}
 use Rattle.reader.proofs.next_number.Statement.{statement}
@@ -18,14 +18,14 @@ enum_told : tie.Need-enum-told
 enum_told c = search rules
 
 returns : tie.Need-returns
-unfolding nextNumberAt
+unfolding next_number_at
 returns c = rw (sym c.before.before.after-blank.ensures ∙ c.enum_told.given.1)
 
 read-number-requires : tie.Need-read-number-requires
 read-number-requires c κs = search rules
 
 returns-2 : tie.Need-returns-2
-unfolding nextNumberAt
+unfolding next_number_at
 returns-2 c = rw (sym c.before.before.before.before.after-blank.ensures ∙ c.before.before.a.given.1) c.read_number.ensures
 
 pub next-number-spec : {M : Type 1} → statement M

@@ -1,4 +1,4 @@
-use Rattle.reader.specs.Lines.{deliverAt}
+use Rattle.reader.specs.Lines.{deliver_at}
 use mathlib.Core.Path.{sym, ◌∙◌}
 use borrow.Author.Rules.{rules}
 use Rattle.reader.proofs.read_deliver.Statement.{statement}
@@ -18,14 +18,14 @@ enum_told : tie.Need-enum-told
 enum_told c = search rules
 
 returns : tie.Need-returns
-unfolding deliverAt
+unfolding deliver_at
 returns c = rw (sym c.before.before.read-message.ensures ∙ c.enum_told.given.1)
 
 ending-requires : tie.Need-ending-requires
 ending-requires c κs = search rules
 
 returns-2 : tie.Need-returns-2
-unfolding deliverAt
+unfolding deliver_at
 returns-2 c = rw (sym c.before.before.before.before.read-message.ensures ∙ c.before.before.m.given.1) c.ending.ensures
 
 pub read-deliver-spec : {M : Type 1} → statement M

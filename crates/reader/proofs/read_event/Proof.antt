@@ -1,4 +1,4 @@
-use Rattle.reader.specs.Lines.{eventAt}
+use Rattle.reader.specs.Lines.{event_at}
 use mathlib.Core.Path.{sym, ◌∙◌}
 use borrow.Author.Rules.{rules}
 use Rattle.reader.proofs.read_event.Statement.{statement}
@@ -25,7 +25,7 @@ read-deliver-requires : tie.Need-read-deliver-requires
 read-deliver-requires c κs = search rules
 
 returns : tie.Need-returns
-unfolding eventAt
+unfolding event_at
 returns c = rw (sym c.before.before.before.before.after-word.ensures ∙ c.before.before.a.given.1) c.read-deliver.ensures
 
 enum_told : tie.Need-enum-told
@@ -44,7 +44,7 @@ read-tick-requires : tie.Need-read-tick-requires
 read-tick-requires c κs = search rules
 
 returns-2 : tie.Need-returns-2
-unfolding eventAt
+unfolding event_at
 returns-2 c =
     rw (
       sym c.before.before.before.before.before.before.before.before.after-word.ensures ∙ c.before.before.before.before.before.before.enum_told.given.1,
@@ -68,7 +68,7 @@ read-sign-requires : tie.Need-read-sign-requires
 read-sign-requires c κs = search rules
 
 returns-3 : tie.Need-returns-3
-unfolding eventAt
+unfolding event_at
 returns-3 c =
     rw (
       sym c.before.before.before.before.before.before.before.before.before.before.before.before.after-word.ensures ∙ c.before.before.before.before.before.before.before.before.before.before.enum_told.given.1,
@@ -93,7 +93,7 @@ read-show-requires : tie.Need-read-show-requires
 read-show-requires c κs = search rules
 
 returns-4 : tie.Need-returns-4
-unfolding eventAt
+unfolding event_at
 returns-4 c =
     rw (
       sym c.before.before.before.before.before.before.before.before.before.before.before.before.before.before.before.before.after-word.ensures ∙ c.before.before.before.before.before.before.before.before.before.before.before.before.before.before.enum_told.given.1,
@@ -119,7 +119,7 @@ ending-requires : tie.Need-ending-requires
 ending-requires c κs = search rules
 
 returns-5 : tie.Need-returns-5
-unfolding eventAt
+unfolding event_at
 returns-5 c =
     rw (
       sym c.before.before.before.before.before.before.before.before.before.before.before.before.before.before.before.before.before.before.before.before.after-word.ensures ∙ c.before.before.before.before.before.before.before.before.before.before.before.before.before.before.before.before.before.before.enum_told.given.1,
@@ -134,7 +134,7 @@ enum-told-5 : tie.Need-enum-told-5
 enum-told-5 c = search rules
 
 returns-6 : tie.Need-returns-6
-unfolding eventAt
+unfolding event_at
 returns-6 c =
     rw (
       sym c.before.before.before.before.before.before.before.before.before.before.before.before.before.before.before.before.before.before.after-word.ensures ∙ c.before.before.before.before.before.before.before.before.before.before.before.before.before.before.before.before.enum_told.given.1,

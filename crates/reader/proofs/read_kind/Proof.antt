@@ -1,4 +1,4 @@
-use Rattle.reader.specs.Lines.{kindFoundAt}
+use Rattle.reader.specs.Lines.{kind_found_at}
 use mathlib.Core.Path.{sym, ◌∙◌}
 use borrow.Author.Rules.{rules}
 use Rattle.reader.proofs.read_kind.Statement.{statement}
@@ -17,7 +17,7 @@ enum-known-a : tie.Need-enum-known-a
 enum-known-a c = search rules
 
 returns : tie.Need-returns
-unfolding kindFoundAt
+unfolding kind_found_at
 returns c = rw (sym c.before.before.before.after-word.ensures ∙ c.before.a.given.1)
 
 enum_told : tie.Need-enum-told
@@ -33,7 +33,7 @@ enum-known-a-2 : tie.Need-enum-known-a-2
 enum-known-a-2 c = search rules
 
 returns-2 : tie.Need-returns-2
-unfolding kindFoundAt
+unfolding kind_found_at
 returns-2 c =
     rw (
       sym c.before.before.before.before.before.before.before.after-word.ensures ∙ c.before.before.before.before.before.enum_told.given.1,
@@ -53,7 +53,7 @@ enum-known-a-3 : tie.Need-enum-known-a-3
 enum-known-a-3 c = search rules
 
 returns-3 : tie.Need-returns-3
-unfolding kindFoundAt
+unfolding kind_found_at
 returns-3 c =
     rw (
       sym c.before.before.before.before.before.before.before.before.before.before.before.after-word.ensures ∙ c.before.before.before.before.before.before.before.before.before.enum_told.given.1,
@@ -74,7 +74,7 @@ enum-known-a-4 : tie.Need-enum-known-a-4
 enum-known-a-4 c = search rules
 
 returns-4 : tie.Need-returns-4
-unfolding kindFoundAt
+unfolding kind_found_at
 returns-4 c =
     rw (
       sym c.before.before.before.before.before.before.before.before.before.before.before.before.before.before.before.after-word.ensures ∙ c.before.before.before.before.before.before.before.before.before.before.before.before.before.enum_told.given.1,
@@ -87,7 +87,7 @@ enum-told-4 : tie.Need-enum-told-4
 enum-told-4 c = search rules
 
 returns-5 : tie.Need-returns-5
-unfolding kindFoundAt
+unfolding kind_found_at
 returns-5 c =
     rw (
       sym c.before.before.before.before.before.before.before.before.before.before.before.before.before.before.after-word.ensures ∙ c.before.before.before.before.before.before.before.before.before.before.before.before.enum_told.given.1,

@@ -1,6 +1,6 @@
 use Rattle.reader.proofs.RoundTrip.{reading-reads}
 use Rattle.reader.proofs.Skimming.{no-opening, some-opening, skims-opening, skims-plain}
-use Rattle.lines.specs.Contracts.{Reading}
+use Rattle.lines.specs.Clauses.{Reading}
 use mathlib.Core.Path.{ap, sym, ◌∙◌}
 use borrow.Author.Rules.{rules}
 use Rattle.reader.proofs.read_line.Statement.{statement}

@@ -1,6 +1,6 @@
 use mathlib.Core.Path.{sym, ◌∙◌}
 use borrow.Author.Tests.{eq-eqb, ne_eqb, lt-ltb, le-ltb}
-use Rattle.reader.specs.Lines.{openingAt}
+use Rattle.reader.specs.Lines.{opening_at}
 use borrow.Author.Rules.{rules}
 use Rattle.reader.proofs.read_opening.Statement.{statement}
 use Rattle.reader.proofs.read_opening.Tie as tie
@@ -23,21 +23,21 @@ no-setup-requires : tie.Need-no-setup-requires
 no-setup-requires c κs = search rules
 
 returns : tie.Need-returns
-unfolding openingAt
+unfolding opening_at
 returns c = rw (sym c.before.before.before.read-heading.ensures ∙ c.before.enum_told.given.1) c.no-setup.ensures
 
 no-setup-requires-2 : tie.Need-no-setup-requires-2
 no-setup-requires-2 c κs = search rules
 
 returns-2 : tie.Need-returns-2
-unfolding openingAt
+unfolding opening_at
 returns-2 c = rw (sym c.before.before.before.before.before.before.read-heading.ensures ∙ c.before.before.before.before.plan.given.1, eq-eqb _ _ c.before.if1.true) c.no-setup2.ensures
 
 no-setup-requires-3 : tie.Need-no-setup-requires-3
 no-setup-requires-3 c κs = search rules
 
 returns-3 : tie.Need-returns-3
-unfolding openingAt
+unfolding opening_at
 returns-3 c = rw (sym c.before.before.before.before.before.before.before.before.read-heading.ensures ∙ c.before.before.before.before.before.before.plan.given.1, ne_eqb _ _ c.before.before.before.if1.false, lt-ltb _ _ c.before.if2.true) c.no-setup3.ensures
 
 read-table-requires : tie.Need-read-table-requires
@@ -53,7 +53,7 @@ no-setup-requires-4 : tie.Need-no-setup-requires-4
 no-setup-requires-4 c κs = search rules
 
 returns-4 : tie.Need-returns-4
-unfolding openingAt
+unfolding opening_at
 returns-4 c =
     rw (
       sym c.before.before.before.before.before.before.before.before.before.before.before.read-heading.ensures ∙ c.before.before.before.before.before.before.before.before.before.plan.given.1,
@@ -68,7 +68,7 @@ no-setup-requires-5 : tie.Need-no-setup-requires-5
 no-setup-requires-5 c κs = search rules
 
 returns-5 : tie.Need-returns-5
-unfolding openingAt
+unfolding opening_at
 returns-5 c =
     rw (
       sym c.before.before.before.before.before.before.before.before.before.before.before.before.before.read-heading.ensures ∙ c.before.before.before.before.before.before.before.before.before.before.before.plan.given.1,
@@ -81,7 +81,7 @@ returns-5 c =
     c.no-setup5.ensures
 
 returns-6 : tie.Need-returns-6
-unfolding openingAt
+unfolding opening_at
 returns-6 c =
     rw (
       sym c.before.before.before.before.before.before.before.before.before.before.before.before.before.read-heading.ensures ∙ c.before.before.before.before.before.before.before.before.before.before.before.plan.given.1,

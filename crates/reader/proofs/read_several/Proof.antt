@@ -1,5 +1,5 @@
 use borrow.Author.Rules.{rules}
-use Rattle.reader.proofs.SeveralLaws.{SoFar, several-none, several-more, several-stopped, several-full}
+use Rattle.reader.proofs.SeveralLaws.{SoFar, several-none, several-more, several-stopped, several_full}
 use native.Mathlib.Omega.{arith}
 use Prim.Native.Nat.{◌-◌}
 use lib.ListN.{length}
@@ -53,7 +53,7 @@ same-length-2 : tie.Need-same-length-2 invariant-loop decreases-loop
 same-length-2 c = search rules
 
 returns-2 : tie.Need-returns-2 invariant-loop decreases-loop
-returns-2 c = several-full _ _ _ _ _ _ c.before.loop.invariant (omega (arith, c.before.loop.invariant.whole, c.loop-test.false)) _ refl
+returns-2 c = several_full _ _ _ _ _ _ c.before.loop.invariant (omega (arith, c.before.loop.invariant.whole, c.loop-test.false)) _ refl
 
 pub read-several-spec : {M : Type 1} → statement M
 read-several-spec =

@@ -1,4 +1,4 @@
-use Rattle.reader.specs.Lines.{tableEndAt}
+use Rattle.reader.specs.Lines.{table_end_at}
 use mathlib.Core.Path.{sym, ◌∙◌}
 use borrow.Author.Rules.{rules}
 use Rattle.reader.proofs.table_end.Statement.{statement}
@@ -17,14 +17,14 @@ enum_told : tie.Need-enum-told
 enum_told c = search rules
 
 returns : tie.Need-returns
-unfolding tableEndAt
+unfolding table_end_at
 returns c = rw (sym c.before.before.after-close-bracket.ensures ∙ c.enum_told.given.1)
 
 after-close-bracket-requires-2 : tie.Need-after-close-bracket-requires-2
 after-close-bracket-requires-2 c κs = search rules
 
 returns-2 : tie.Need-returns-2
-unfolding tableEndAt
+unfolding table_end_at
 returns-2 c = rw (sym c.before.before.before.before.after-close-bracket.ensures ∙ c.before.before.a.given.1) c.after-close-bracket2.ensures
 
 pub table-end-spec : {M : Type 1} → statement M

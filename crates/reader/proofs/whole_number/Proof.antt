@@ -1,4 +1,4 @@
-use Rattle.reader.specs.Decimals.{decimalOf}
+use Rattle.reader.specs.Decimals.{decimal_of}
 use borrow.Author.Tests.{eq-eqb, ne_eqb}
 use mathlib.Core.Path.{sym, ◌∙◌}
 use borrow.Author.Rules.{rules}
@@ -18,15 +18,15 @@ enum_told : tie.Need-enum-told
 enum_told c = search rules
 
 returns : tie.Need-returns
-unfolding decimalOf
+unfolding decimal_of
 returns c = rw (sym c.before.before.read_number.ensures ∙ c.enum_told.given.1)
 
 returns-2 : tie.Need-returns-2
-unfolding decimalOf
+unfolding decimal_of
 returns-2 c = rw (sym c.before.before.before.before.read_number.ensures ∙ c.before.before.n.given.1, ne_eqb _ _ c.if1.true)
 
 returns-3 : tie.Need-returns-3
-unfolding decimalOf
+unfolding decimal_of
 returns-3 c = rw (sym c.before.before.before.before.read_number.ensures ∙ c.before.before.n.given.1, eq-eqb _ _ c.if1.false)
 
 pub whole-number-spec : {M : Type 1} → statement M

@@ -1,7 +1,7 @@
-use Rattle.words.specs.Events.{eventsIn, eventAt, answerPut}
+use Rattle.words.specs.Events.{events_in, event_at, answer_put}
 use Rattle.model.specs.Events.{applied}
-use Rattle.model.specs.Checks.{unsoundForGood}
-use Rattle.model.specs.State.{State, After, state_of, run_from, leftBehind}
+use Rattle.model.specs.Checks.{unsound_for_good}
+use Rattle.model.specs.State.{State, After, state_of, run_from, left_behind}
 use mathlib.Core.List.{List}
 use mathlib.Core.Bool.{false}
 use Rattle.types.specs.declared.Event.{Event}
@@ -10,8 +10,8 @@ use Prim.Native.Nat.{ℕ, ◌+◌, ◌-◌, ◌≤◌, ◌<◌}
 use native.Mathlib.Omega.{arith}
 use lib.ListN.{length}
 use borrow.Author.Rules.{rules, zero≤}
-use Rattle.words.specs.Batches.{wordsApplied}
-use Rattle.words.proofs.Turning.{wordsAppliedFrom, first-turn, next-turn, last_turn}
+use Rattle.words.specs.Batches.{words_applied}
+use Rattle.words.proofs.Turning.{words_applied_from, first-turn, next-turn, last_turn}
 use Rattle.liveness.specs.Promises.{Tabled}
 use Rattle.simulator.proofs.Lasting.{lasts}
 use Rattle.simulator.proofs.apply_words.Statement.{statement}
@@ -24,9 +24,9 @@ use Rattle.words.proofs.put_answer.Reads as put-answer-reads
 
 abbrev invariant-loop : tie.invariant-loop
 invariant-loop broken clocks₀ views₀ tally₀ network₀ events₀ count current₀ i₀ clocks views tally network events current i = (i ≤ count) × (length tally ≡ length tally₀) × (length network ≡ length network₀) × (length events ≡ length events₀)
-    × (wordsAppliedFrom i events (state_of (run_from current clocks views) tally network)
-    ≡ wordsApplied events₀ (state_of (run_from current₀ clocks₀ views₀) tally₀ network₀))
-    × (broken ≡ unsoundForGood (state_of (run_from current clocks views) tally network)) × (broken ≡ false → Tabled (run_from current clocks views))
+    × (words_applied_from i events (state_of (run_from current clocks views) tally network)
+    ≡ words_applied events₀ (state_of (run_from current₀ clocks₀ views₀) tally₀ network₀))
+    × (broken ≡ unsound_for_good (state_of (run_from current clocks views) tally network)) × (broken ≡ false → Tabled (run_from current clocks views))
 
 abbrev decreases-loop : tie.decreases-loop
 decreases-loop broken clocks₀ views₀ tally₀ network₀ events₀ count current₀ i₀ clocks views tally network events current i = count - i
@@ -53,16 +53,16 @@ loop-again : tie.Need-loop-preserved invariant-loop decreases-loop
 loop-again c =
     let s : State = state_of (run_from c.before.before.before.before.before.before.before.before.before.before.before.before.before.before.before.before.before.loop.current c.before.before.before.before.before.before.before.before.before.before.before.before.before.before.before.before.before.loop.clocks c.before.before.before.before.before.before.before.before.before.before.before.before.before.before.before.before.before.loop.views) c.before.before.before.before.before.before.before.before.before.before.before.before.before.before.before.before.before.loop.tally c.before.before.before.before.before.before.before.before.before.before.before.before.before.before.before.before.before.loop.network in
     let i : ℕ = c.before.before.before.before.before.before.before.before.before.before.before.before.before.before.before.before.before.loop.i in
-    let l : i < eventsIn c.before.before.before.before.before.before.before.before.before.before.before.before.before.before.before.before.before.loop.events = omega (arith, c.before.before.before.before.before.before.before.before.before.before.before.before.before.before.before.before.loop-test.true, c.before.before.before.before.before.before.before.before.before.before.before.before.before.before.before.before.before.loop.invariant.3) in
-    let a : leftBehind c.before.before.before.before.before.before.before.before.before.apply-judged.result _ _ _ _ ≡ applied (eventAt c.before.before.before.before.before.before.before.before.before.before.before.before.before.before.before.before.before.loop.events i) s = c.before.before.before.before.before.before.before.before.before.apply-judged.ensures ∙ ap (λ (e : Event). applied e s) c.before.before.before.before.before.before.before.before.before.before.before.before.before.before.event-at.ensures in
-    let kept = lasts (eventAt c.before.before.before.before.before.before.before.before.before.before.before.before.before.before.before.before.before.loop.events i) s c.before.before.before.before.before.before.before.before.before.before.before.before.before.before.before.before.before.before.before.before.before.args.broken c.before.before.before.before.before.before.before.before.before.before.before.before.before.before.before.before.before.loop.invariant.5 c.before.before.before.before.before.before.before.before.before.before.before.before.before.before.before.before.before.loop.invariant.6 in (
+    let l : i < events_in c.before.before.before.before.before.before.before.before.before.before.before.before.before.before.before.before.before.loop.events = omega (arith, c.before.before.before.before.before.before.before.before.before.before.before.before.before.before.before.before.loop-test.true, c.before.before.before.before.before.before.before.before.before.before.before.before.before.before.before.before.before.loop.invariant.3) in
+    let a : left_behind c.before.before.before.before.before.before.before.before.before.apply-judged.result _ _ _ _ ≡ applied (event_at c.before.before.before.before.before.before.before.before.before.before.before.before.before.before.before.before.before.loop.events i) s = c.before.before.before.before.before.before.before.before.before.apply-judged.ensures ∙ ap (λ (e : Event). applied e s) c.before.before.before.before.before.before.before.before.before.before.before.before.before.before.event-at.ensures in
+    let kept = lasts (event_at c.before.before.before.before.before.before.before.before.before.before.before.before.before.before.before.before.before.loop.events i) s c.before.before.before.before.before.before.before.before.before.before.before.before.before.before.before.before.before.before.before.before.before.args.broken c.before.before.before.before.before.before.before.before.before.before.before.before.before.before.before.before.before.loop.invariant.5 c.before.before.before.before.before.before.before.before.before.before.before.before.before.before.before.before.before.loop.invariant.6 in (
       omega (arith, c.before.before.before.before.before.before.before.before.before.before.before.before.before.before.before.before.loop-test.true),
       omega arith,
       omega arith,
       omega arith,
-      ap₂ (λ (ws : List ℕ) (x : State). wordsAppliedFrom (i + 1) ws x) (c.before.before.put-answer.ensures ∙ ap (λ (x : After). answerPut c.before.before.before.before.before.before.before.before.before.before.before.before.before.before.before.before.before.loop.events i x.answer x.state.run.held) a) (ap (λ (x : After). x.state) a)
+      ap₂ (λ (ws : List ℕ) (x : State). words_applied_from (i + 1) ws x) (c.before.before.put-answer.ensures ∙ ap (λ (x : After). answer_put c.before.before.before.before.before.before.before.before.before.before.before.before.before.before.before.before.before.loop.events i x.answer x.state.run.held) a) (ap (λ (x : After). x.state) a)
           ∙ next-turn c.before.before.before.before.before.before.before.before.before.before.before.before.before.before.before.before.before.loop.events i s l ∙ c.before.before.before.before.before.before.before.before.before.before.before.before.before.before.before.before.before.loop.invariant.4,
-      kept.0 ∙ ap (λ (x : After). unsoundForGood x.state) (sym a),
+      kept.0 ∙ ap (λ (x : After). unsound_for_good x.state) (sym a),
       λ e. subst (λ (x : After). Tabled x.state.run) (sym a) (kept.1 e),
     )
 

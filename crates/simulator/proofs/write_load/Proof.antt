@@ -1,7 +1,7 @@
 use Rattle.simulator.proofs.Single.{single-is, single-accepted}
 use Rattle.loads.proofs.Going.{Going, going-first, never-going, going-inside, going-over, going-short, going-refused, falls, going_more, turn-most}
 use Rattle.loads.proofs.Turns.{weight}
-use Rattle.loads.specs.Loads.{Point, point_of, furtherLoad}
+use Rattle.loads.specs.Loads.{Point, point_of, further_load}
 use Rattle.loads.specs.declared.Turn.{Turn}
 use Rattle.model.specs.State.{state_of, run_from}
 use Rattle.base.specs.Choice.{cond_no}
@@ -25,7 +25,7 @@ use Rattle.writer.proofs.write_event.Reads as write-event-reads
 
 abbrev invariant-loop : tie.invariant-loop
 invariant-loop seed step steps settle clocks₀ views₀ tally₀ network₀ out₀ broken current₀ last₀ next₀ at₀ clocks views tally network out current last next at = (length tally ≡ length tally₀) × (length network ≡ length network₀)
-    × Going steps settle (furtherLoad steps settle (point_of (state_of (run_from current₀ clocks₀ views₀) tally₀ network₀) last₀ next₀) (length out₀)) out₀
+    × Going steps settle (further_load steps settle (point_of (state_of (run_from current₀ clocks₀ views₀) tally₀ network₀) last₀ next₀) (length out₀)) out₀
     (point_of (state_of (run_from current clocks views) tally network) last next) at out
 
 abbrev decreases-loop : tie.decreases-loop

@@ -1,7 +1,7 @@
 use borrow.Author.Rules.{rules}
 use Rattle.stream.proofs.Threading.{Going, going-none, going_more, going-stops, going-threads}
 use Rattle.driver.proofs.Going.{stops-all}
-use Rattle.printout.specs.Printout.{standingOf}
+use Rattle.printout.specs.Printout.{standing_of}
 use native.Mathlib.Omega.{arith}
 use lib.Seq.{length-take-le}
 use lib.ListN.{length}
@@ -16,7 +16,7 @@ use Rattle.io.proofs.write_all.Reads as write-all-reads
 use Rattle.stream.proofs.shown.Reads as shown-reads
 
 abbrev invariant-loop : tie.invariant-loop
-invariant-loop late bytes tally₀ network₀ out₀ to reporting state₀ passed₀ used₀ tally network out state passed used = Going (standingOf state₀ tally₀ network₀) late bytes tally network state passed used × (length tally ≡ length tally₀) × (length network ≡ length network₀) × (length out ≡ length out₀)
+invariant-loop late bytes tally₀ network₀ out₀ to reporting state₀ passed₀ used₀ tally network out state passed used = Going (standing_of state₀ tally₀ network₀) late bytes tally network state passed used × (length tally ≡ length tally₀) × (length network ≡ length network₀) × (length out ≡ length out₀)
 
 abbrev decreases-loop : tie.decreases-loop
 decreases-loop late bytes tally₀ network₀ out₀ to reporting state₀ passed₀ used₀ tally network out state passed used = length bytes - used

@@ -1,6 +1,6 @@
-use Rattle.printout.specs.Traffic.{reportText}
-use Rattle.printout.specs.Printout.{standingOf}
-use Rattle.lines.specs.Printout.{totalsMost}
+use Rattle.printout.specs.Traffic.{report_text}
+use Rattle.printout.specs.Printout.{standing_of}
+use Rattle.lines.specs.Printout.{totals_most}
 use Rattle.lines.proofs.Putting.{too_few}
 use Rattle.stream.proofs.Reporting.{reported, nothing-reported}
 use borrow.Author.Rules.{rules}
@@ -28,10 +28,10 @@ returns : tie.Need-returns
 returns c = reported c.before.before.before.before.before.before.before.before.before.before.before.before.before.before.before.args.session c.before.before.before.before.before.before.before.before.before.before.before.before.before.before.before.args.tally.now c.before.before.before.before.before.before.before.before.before.before.before.before.before.before.before.args.network.now c.before.before.before.before.before.before.before.before.before.before.before.before.before.before.before.args.out.now _ _ _ _ c.before.before.before.before.before.before.before.before.before.before.before.if1.true c.before.before.before.before.before.before.before.head_of.ensures c.before.before.before.before.totals.ensures c.before.before.write-totals.ensures
 
 returns-2 : tie.Need-returns-2
-returns-2 c = too_few totalsMost (reportText (standingOf c.before.before.before.before.before.args.session c.before.before.before.before.before.args.tally.now c.before.before.before.before.before.args.network.now)) _ c.if2.true
+returns-2 c = too_few totals_most (report_text (standing_of c.before.before.before.before.before.args.session c.before.before.before.before.before.args.tally.now c.before.before.before.before.before.args.network.now)) _ c.if2.true
 
 returns-3 : tie.Need-returns-3
-returns-3 c = nothing-reported (standingOf c.before.before.before.before.before.args.session c.before.before.before.before.before.args.tally.now c.before.before.before.before.before.args.network.now) _ c.before.if1.false c.if2.false
+returns-3 c = nothing-reported (standing_of c.before.before.before.before.before.args.session c.before.before.before.before.before.args.tally.now c.before.before.before.before.before.args.network.now) _ c.before.if1.false c.if2.false
 
 pub print-report-spec : {M : Type 1} → statement M
 print-report-spec =

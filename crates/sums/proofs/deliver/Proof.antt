@@ -1,6 +1,6 @@
 use Rattle.std.proofs.Common.{ℕ, ap₂, rules}
 use Rattle.types.specs.declared.Counts.{Counts}
-use Rattle.types.specs.Traffic.{trafficOf, countsMore}
+use Rattle.types.specs.Traffic.{traffic_of, counts_more}
 use Rattle.sums.proofs.deliver.Statement.{statement}
 use Rattle.sums.proofs.deliver.Tie as tie
 use Rattle.sums.proofs.deliver.Reads as reads
@@ -15,8 +15,8 @@ wrapping-add-u64-requires : tie.Need-wrapping-add-u64-requires
 wrapping-add-u64-requires c κs = search rules
 
 returns : tie.Need-returns
-unfolding countsMore
-returns c = ap₂ (λ (z : Counts) (w : ℕ). trafficOf c.before.before.before.args.traffic.sent z w) c.before.count.ensures c.wrapping-add-u64.ensures
+unfolding counts_more
+returns c = ap₂ (λ (z : Counts) (w : ℕ). traffic_of c.before.before.before.args.traffic.sent z w) c.before.count.ensures c.wrapping-add-u64.ensures
 
 pub deliver-spec : {M : Type 1} → statement M
 deliver-spec = tie.close (tie.spec count-requires wrapping-add-u64-requires returns)

@@ -7,7 +7,7 @@ use lib.Seq.{length-take-le, take-suc}
 use lib.Dec.{T}
 use borrow.Author.Rules.{rules}
 use Rattle.lines.specs.Forms.{newline}
-use Rattle.lines.specs.Contracts.{line}
+use Rattle.lines.specs.Clauses.{line}
 use Rattle.try_lines.proofs.is_line.Statement.{statement}
 use Rattle.try_lines.proofs.is_line.Tie as tie
 use Rattle.try_lines.proofs.is_line.Reads as reads

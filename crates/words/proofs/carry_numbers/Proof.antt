@@ -17,13 +17,13 @@ enum_told : tie.Need-enum-told
 enum_told c = search rules
 
 returns : tie.Need-returns
-returns c = rw (sym c.before.before.stored-as.ensures ∙ c.enum_told.given.1)
+returns c = rw (sym c.before.before.is_stored.ensures ∙ c.enum_told.given.1)
 
 carry-requires : tie.Need-carry-requires
 carry-requires c κs = search rules
 
 returns-2 : tie.Need-returns-2
-returns-2 c = rw (sym c.before.before.before.before.stored-as.ensures ∙ c.before.before.message.given.1) c.carry.ensures
+returns-2 c = rw (sym c.before.before.before.before.is_stored.ensures ∙ c.before.before.message.given.1) c.carry.ensures
 
 pub carry-numbers-spec : {M : Type 1} → statement M
 carry-numbers-spec =

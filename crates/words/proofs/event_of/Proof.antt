@@ -1,4 +1,4 @@
-use Rattle.words.specs.Events.{eventOf}
+use Rattle.words.specs.Events.{event_of}
 use borrow.Author.Tests.{ne_eqb}
 use borrow.Author.Rules.{rules}
 use Rattle.words.proofs.event_of.Statement.{statement}
@@ -11,15 +11,15 @@ carry-numbers-requires : tie.Need-carry-numbers-requires
 carry-numbers-requires c κs = search rules
 
 returns : tie.Need-returns
-unfolding eventOf
+unfolding event_of
 returns c = rw c.match.keys1
 
 returns-2 : tie.Need-returns-2
-unfolding eventOf
+unfolding event_of
 returns-2 c = rw c.match.keys2
 
 returns-3 : tie.Need-returns-3
-unfolding eventOf
+unfolding event_of
 returns-3 c = rw (ne_eqb _ _ c.before.match.rest.0.1, ne_eqb _ _ c.before.match.rest.1) c.carry-numbers.ensures
 
 pub event-of-spec : {M : Type 1} → statement M

@@ -1,4 +1,4 @@
-use Rattle.lines.specs.Forms.{eventForm}
+use Rattle.lines.specs.Forms.{event_form}
 use Rattle.types.specs.declared.Event.TheVariants.{Deliver, Sign, Show, Settle, Tick}
 use Rattle.types.specs.declared.Event.{Event}
 use Rattle.writer.proofs.Lengths.{deliver-bytes, sign-bytes, show-bytes, settle-bytes, tick-bytes, line-bytes}
@@ -50,19 +50,19 @@ add-result-4 : tie.Need-overflow-add-result-4
 add-result-4 c = search rules
 
 returns : tie.Need-returns
-returns c = rw c.before.before.event.given.1 (line-bytes (eventForm (Deliver c.before.before.event.given.0.0)) 10 _ (deliver-bytes _ _ c.message-length.ensures.0))
+returns c = rw c.before.before.event.given.1 (line-bytes (event_form (Deliver c.before.before.event.given.0.0)) 10 _ (deliver-bytes _ _ c.message-length.ensures.0))
 
 returns-2 : tie.Need-returns-2
-returns-2 c = rw c.before.before.event2.given.1 (line-bytes (eventForm (Sign c.before.before.event2.given.0.0)) 7 _ (sign-bytes _ _ c.message-length2.ensures.0))
+returns-2 c = rw c.before.before.event2.given.1 (line-bytes (event_form (Sign c.before.before.event2.given.0.0)) 7 _ (sign-bytes _ _ c.message-length2.ensures.0))
 
 returns-3 : tie.Need-returns-3
-returns-3 c = rw c.before.before.event3.given.1 (line-bytes (eventForm (Show c.before.before.event3.given.0.0)) 7 _ (show-bytes _ _ c.message-length3.ensures.0))
+returns-3 c = rw c.before.before.event3.given.1 (line-bytes (event_form (Show c.before.before.event3.given.0.0)) 7 _ (show-bytes _ _ c.message-length3.ensures.0))
 
 returns-4 : tie.Need-returns-4
-returns-4 c = rw c.enum_told.given.1 (line-bytes (eventForm Settle) 8 0 settle-bytes)
+returns-4 c = rw c.enum_told.given.1 (line-bytes (event_form Settle) 8 0 settle-bytes)
 
 returns-5 : tie.Need-returns-5
-returns-5 c = rw c.before.before.event4.given.1 (line-bytes (eventForm (Tick c.before.before.event4.given.0.0)) 7 _ (tick-bytes _ _ c.width.ensures.0))
+returns-5 c = rw c.before.before.event4.given.1 (line-bytes (event_form (Tick c.before.before.event4.given.0.0)) 7 _ (tick-bytes _ _ c.width.ensures.0))
 
 pub event-bytes-spec : {M : Type 1} → statement M
 event-bytes-spec =

@@ -1,4 +1,4 @@
-use Rattle.lines.specs.Printout.{processorForm}
+use Rattle.lines.specs.Printout.{processor_form}
 use Rattle.std.proofs.Common.{rules}
 use Rattle.writer.proofs.write_processor.Statement.{statement}
 use Rattle.writer.proofs.write_processor.Tie as tie
@@ -19,7 +19,7 @@ same_length : tie.Need-same-length
 same_length c = search rules
 
 returns : tie.Need-returns
-unfolding processorForm
+unfolding processor_form
 returns c = c.before.before.write-numbers.ensures
 
 pub write-processor-spec : {M : Type 1} → statement M

@@ -1,6 +1,6 @@
 use Rattle.writer.proofs.Writing.{refused_none, refused-many, written-setup}
 use Rattle.std.proofs.Common.{◌≡◌, ◌≤◌, length, take, sym, arith, length-take-le, rules}
-use Rattle.types.specs.Quantities.{tableClocks}
+use Rattle.types.specs.Quantities.{table_clocks}
 use Rattle.writer.proofs.write_setup.Statement.{statement}
 use Rattle.writer.proofs.write_setup.Tie as tie
 use Rattle.writer.proofs.write_setup.Reads as reads
@@ -22,7 +22,7 @@ slice-aggregate-write-opening-2 c = search rules
 -- the table has a clock for each processor
 within : (c : tie.Else2) → c.before.before.before.before.before.before.args.setup.plan.n ≤ length c.before.before.before.before.before.before.args.setup.clocks
 within c =
-    let h : length c.before.before.before.before.before.before.args.setup.clocks ≡ tableClocks = search rules in omega (arith, c.if2.false)
+    let h : length c.before.before.before.before.before.before.args.setup.clocks ≡ table_clocks = search rules in omega (arith, c.if2.false)
 
 array-share-prefix-table : tie.Need-array-share-prefix-table
 array-share-prefix-table c = within c.before.before.before

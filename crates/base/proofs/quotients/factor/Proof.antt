@@ -1,6 +1,6 @@
 use mathlib.Core.Path.{ap}
 use Prim.Native.Nat.{ℕ, ◌*◌, ◌/◌, ◌%◌, ◌^◌}
-use Rattle.base.specs.Factors.{factorUnit}
+use Rattle.base.specs.Factors.{factor_unit}
 use borrow.Author.Rules.{rules}
 use Rattle.base.proofs.quotients.factor.Statement.{statement}
 use Rattle.base.proofs.quotients.factor.Tie as tie
@@ -18,7 +18,7 @@ shr-result : tie.Need-overflow-shr-result
 shr-result c = search rules
 
 returns : tie.Need-returns
-returns c = ap (λ (x : ℕ). x / 2 ^ (c.before.args.d % 4 * 16) % factorUnit) c.factors.ensures
+returns c = ap (λ (x : ℕ). x / 2 ^ (c.before.args.d % 4 * 16) % factor_unit) c.factors.ensures
 
 pub factor-spec : {M : Type 1} → statement M
 factor-spec = tie.close (tie.spec mul-place factors-requires shr-result returns)

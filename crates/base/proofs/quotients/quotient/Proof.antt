@@ -2,7 +2,7 @@ use mathlib.Core.Path.{sym, ap, ◌∙◌}
 use Prim.Native.Nat.{ℕ, ◌*◌, ◌/◌}
 use native.Mathlib.Omega.{arith}
 use native.Mathlib.Nat.{div-zero}
-use Rattle.base.specs.Factors.{factorUnit, factor-tells, product-fits}
+use Rattle.base.specs.Factors.{factor_unit, factor-tells, product-fits}
 use borrow.Author.Rules.{rules}
 use Rattle.base.proofs.quotients.quotient.Statement.{statement}
 use Rattle.base.proofs.quotients.quotient.Tie as tie
@@ -21,7 +21,7 @@ mul-result : tie.Need-overflow-mul-result
 mul-result c = omega (arith, product-fits c.before.before.before.args.a c.before.before.before.args.d c.factor.result (c.before.before.by-factor.ensures c.before.if1.true) c.factor.ensures)
 
 returns : tie.Need-returns
-returns c = ap (λ (x : ℕ). c.before.before.before.args.a * x / factorUnit) c.factor.ensures ∙ factor-tells _ _ (c.before.before.by-factor.ensures c.before.if1.true)
+returns c = ap (λ (x : ℕ). c.before.before.before.args.a * x / factor_unit) c.factor.ensures ∙ factor-tells _ _ (c.before.before.by-factor.ensures c.before.if1.true)
 
 returns-2 : tie.Need-returns-2
 returns-2 c = sym (ap (λ (x : ℕ). c.before.before.before.args.a / x) c.if2.true ∙ div-zero c.before.before.before.args.a)

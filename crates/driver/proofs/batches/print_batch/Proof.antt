@@ -1,7 +1,7 @@
 use Rattle.driver.proofs.Batching.{answer-fits, answer-told}
 use Rattle.driver.proofs.Texts.{Told, told_none, told-room, told-all, told-inside}
 use mathlib.Core.Path.{refl}
-use Rattle.driver.specs.Batches.{printedUpTo}
+use Rattle.driver.specs.Batches.{printed_up_to}
 use native.Mathlib.Omega.{arith}
 use Prim.Native.Nat.{◌-◌, ◌≤◌}
 use borrow.Author.Rules.{rules}
@@ -13,7 +13,7 @@ use Rattle.driver.proofs.batches.printed_at.Reads as printed-at-reads
 use Rattle.driver.proofs.printing.print_answer.Reads as print-answer-reads
 
 abbrev invariant-loop : tie.invariant-loop
-invariant-loop opened batch out₀ count i₀ at₀ out i at = (i ≤ count) × Told (printedUpTo opened batch) out₀ i at out
+invariant-loop opened batch out₀ count i₀ at₀ out i at = (i ≤ count) × Told (printed_up_to opened batch) out₀ i at out
 
 abbrev decreases-loop : tie.decreases-loop
 decreases-loop opened batch out₀ count i₀ at₀ out i at = count - i

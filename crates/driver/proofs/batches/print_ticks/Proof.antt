@@ -1,4 +1,4 @@
-use Rattle.printout.specs.Printout.{ticksPrinted}
+use Rattle.printout.specs.Printout.{ticks_printed}
 use mathlib.Core.Path.{refl, sym, ◌∙◌}
 use Rattle.base.specs.Choice.{cond_yes, cond_no}
 use borrow.Author.Rules.{rules}
@@ -21,19 +21,19 @@ ends-ticks-requires : tie.Need-ends-ticks-requires
 ends-ticks-requires c κs = search rules
 
 returns : tie.Need-returns
-unfolding ticksPrinted
+unfolding ticks_printed
 returns c = rw c.before.before.before.answer.given.1 (cond_yes _ _ _ _ (sym c.before.ends-ticks.ensures ∙ c.if1.true) refl)
 
 returns-2 : tie.Need-returns-2
-unfolding ticksPrinted
+unfolding ticks_printed
 returns-2 c = rw c.enum_told.given.1 refl
 
 returns-3 : tie.Need-returns-3
-unfolding ticksPrinted
+unfolding ticks_printed
 returns-3 c = rw c.enum-told2.given.1 refl
 
 returns-4 : tie.Need-returns-4
-unfolding ticksPrinted
+unfolding ticks_printed
 returns-4 c = rw c.before.before.before.answer.given.1 (cond_no _ _ _ _ (sym c.before.ends-ticks.ensures ∙ c.if1.false) refl)
 
 pub print-ticks-spec : {M : Type 1} → statement M

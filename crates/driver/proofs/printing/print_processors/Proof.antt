@@ -1,6 +1,6 @@
 use Rattle.driver.proofs.Texts.{Told, told_none, told-room, told-all, told-inside, processor-fits, processor-told}
 use mathlib.Core.Path.{refl}
-use Rattle.printout.specs.Printout.{processorLines}
+use Rattle.printout.specs.Printout.{processor_lines}
 use borrow.Author.Rules.{rules}
 use Prim.Native.Nat.{◌-◌, ◌≤◌}
 use native.Mathlib.Omega.{arith}
@@ -11,7 +11,7 @@ use Rattle.driver.proofs.printing.print_processors.Lts as lts
 use Rattle.driver.proofs.printing.print_processor.Reads as print-processor-reads
 
 abbrev invariant-loop : tie.invariant-loop
-invariant-loop run out₀ plan clocks views p₀ at₀ out p at = (p ≤ 64) × Told (processorLines run) out₀ p at out
+invariant-loop run out₀ plan clocks views p₀ at₀ out p at = (p ≤ 64) × Told (processor_lines run) out₀ p at out
 
 abbrev decreases-loop : tie.decreases-loop
 decreases-loop run out₀ plan clocks views p₀ at₀ out p at = 64 - p

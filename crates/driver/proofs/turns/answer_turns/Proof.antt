@@ -1,4 +1,4 @@
-use Rattle.driver.specs.Inner.{sessionFrom, standingFrom}
+use Rattle.driver.specs.Inner.{session_from, standing_from}
 use lib.ListN.{length}
 use Prim.Native.Nat.{◌-◌}
 use native.Mathlib.Omega.{arith}
@@ -13,7 +13,7 @@ use Rattle.driver.proofs.turns.answer_turns.Lts as lts
 use Rattle.driver.proofs.turns.answer_turn.Reads as answer-turn-reads
 
 abbrev invariant-loop : tie.invariant-loop
-invariant-loop opened late bytes batch₀ clocks₀ views₀ tally₀ network₀ out₀ running₀ current₀ passed₀ used₀ printed₀ batch clocks views tally network out running current passed used printed = Going (standingFrom running₀ current₀ clocks₀ views₀ tally₀ network₀) late bytes out₀ tally network out (sessionFrom running current clocks views) passed used printed × (length tally ≡ length tally₀) × (length network ≡ length network₀) × (length batch ≡ length batch₀)
+invariant-loop opened late bytes batch₀ clocks₀ views₀ tally₀ network₀ out₀ running₀ current₀ passed₀ used₀ printed₀ batch clocks views tally network out running current passed used printed = Going (standing_from running₀ current₀ clocks₀ views₀ tally₀ network₀) late bytes out₀ tally network out (session_from running current clocks views) passed used printed × (length tally ≡ length tally₀) × (length network ≡ length network₀) × (length batch ≡ length batch₀)
 
 abbrev decreases-loop : tie.decreases-loop
 decreases-loop opened late bytes batch₀ clocks₀ views₀ tally₀ network₀ out₀ running₀ current₀ passed₀ used₀ printed₀ batch clocks views tally network out running current passed used printed = length bytes - used

@@ -22,7 +22,7 @@ gather-requires : tie.Need-gather-requires
 gather-requires c κs = search rules
 
 returns : tie.Need-returns
-returns c = c.gather.ensures ∙ parts_whole _ _ _ _ (record { head = c.before.before.before.head_in.ensures; clocks-in = c.before.before.before.before.before.table-in.ensures; views-in = c.before.before.before.before.table-in2.ensures })
+returns c = c.gather.ensures ∙ parts_whole _ _ _ _ (record { head = c.before.before.before.head_in.ensures; clocks_in = c.before.before.before.before.before.table-in.ensures; views_in = c.before.before.before.before.table-in2.ensures })
 
 pub run-in-spec : {M : Type 1} → statement M
 run-in-spec =

@@ -1,6 +1,6 @@
 use borrow.Author.Rules.{rules}
 use mathlib.Core.Path.{refl}
-use Rattle.fever.specs.Layout.{runIn}
+use Rattle.fever.specs.Layout.{run_in}
 use Rattle.fever.proofs.layout.head_in.Statement.{statement}
 use Rattle.fever.proofs.layout.head_in.Tie as tie
 use Rattle.fever.proofs.layout.head_in.Reads as reads
@@ -40,7 +40,7 @@ shared-slice-read-t19 : tie.Need-shared-slice-read-t19
 shared-slice-read-t19 c = search rules
 
 returns : tie.Need-returns
-unfolding runIn
+unfolding run_in
 returns c = rw (c.before.before.before.before.before.before.before.before.before.plan-in.ensures, c.before.before.before.before.before.settled-as.ensures, c.before.before.counts-in.ensures, c.before.counts-in2.ensures) refl
 
 pub head-in-spec : {M : Type 1} → statement M

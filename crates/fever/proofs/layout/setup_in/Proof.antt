@@ -1,4 +1,4 @@
-use Rattle.fever.specs.Layout.{setupIn}
+use Rattle.fever.specs.Layout.{setup_in}
 use borrow.Author.Rules.{rules}
 use Rattle.fever.proofs.layout.setup_in.Statement.{statement}
 use Rattle.fever.proofs.layout.setup_in.Tie as tie
@@ -17,7 +17,7 @@ shared-slice-read-t5 : tie.Need-shared-slice-read-t5
 shared-slice-read-t5 c = search rules
 
 returns : tie.Need-returns
-unfolding setupIn
+unfolding setup_in
 returns c = rw (c.before.before.plan-in.ensures, c.before.table-in.ensures)
 
 pub setup-in-spec : {M : Type 1} → statement M

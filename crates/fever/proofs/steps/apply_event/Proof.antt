@@ -40,7 +40,7 @@ same-length-3 : tie.Need-same-length-3
 same-length-3 c = search rules
 
 returns : tie.Need-returns
-returns c = event-refused _ _ _ _ (record { head = c.before.before.before.before.before.before.before.before.before.before.before.before.before.before.before.before.before.head_in.ensures; clocks-in = c.before.before.before.before.before.before.before.before.before.before.before.before.before.before.before.table-in.ensures; views-in = c.before.before.before.before.before.before.before.before.before.before.before.before.before.table-in2.ensures }) _ _ _ _ c.before.before.before.before.before.before.before.apply-events.result _ _ _ _ _ c.before.before.before.before.before.before.before.apply-events.ensures c.before.if1.true c.if2.true
+returns c = event-refused _ _ _ _ (record { head = c.before.before.before.before.before.before.before.before.before.before.before.before.before.before.before.before.before.head_in.ensures; clocks_in = c.before.before.before.before.before.before.before.before.before.before.before.before.before.before.before.table-in.ensures; views_in = c.before.before.before.before.before.before.before.before.before.before.before.before.before.table-in2.ensures }) _ _ _ _ c.before.before.before.before.before.before.before.apply-events.result _ _ _ _ _ c.before.before.before.before.before.before.before.apply-events.ensures c.before.if1.true c.if2.true
 
 put-run-requires : tie.Need-put-run-requires
 put-run-requires c κs = c.before.before.before.before.before.before.before.before.before.before.before.before.before.before.before.before.before.before.before.before.before.before.before.before.requires.0
@@ -55,7 +55,7 @@ same-length-6 : tie.Need-same-length-6
 same-length-6 c = search rules
 
 returns-2 : tie.Need-returns-2
-returns-2 c = event-done _ _ _ _ (record { head = c.before.before.before.before.before.before.before.before.before.before.before.before.before.before.before.before.before.before.before.before.before.before.head_in.ensures; clocks-in = c.before.before.before.before.before.before.before.before.before.before.before.before.before.before.before.before.before.before.before.before.table-in.ensures; views-in = c.before.before.before.before.before.before.before.before.before.before.before.before.before.before.before.before.before.before.table-in2.ensures }) _ _ _ _ c.before.before.before.before.before.before.before.before.before.before.before.before.apply-events.result _ _ _ _ _ c.before.before.before.before.before.before.before.before.before.before.before.before.apply-events.ensures _ c.before.before.before.before.before.before.before.before.before.before.before.before.before.before.before.before.before.before.before.before.before.before.before.before.before.before.before.requires.0 c.before.before.before.before.before.before.before.before.before.before.before.before.before.before.before.before.before.before.before.before.before.before.before.before.before.before.before.requires.1 c.before.before.put-run.ensures
+returns-2 c = event-done _ _ _ _ (record { head = c.before.before.before.before.before.before.before.before.before.before.before.before.before.before.before.before.before.before.before.before.before.before.head_in.ensures; clocks_in = c.before.before.before.before.before.before.before.before.before.before.before.before.before.before.before.before.before.before.before.before.table-in.ensures; views_in = c.before.before.before.before.before.before.before.before.before.before.before.before.before.before.before.before.before.before.table-in2.ensures }) _ _ _ _ c.before.before.before.before.before.before.before.before.before.before.before.before.apply-events.result _ _ _ _ _ c.before.before.before.before.before.before.before.before.before.before.before.before.apply-events.ensures _ c.before.before.before.before.before.before.before.before.before.before.before.before.before.before.before.before.before.before.before.before.before.before.before.before.before.before.before.requires.0 c.before.before.before.before.before.before.before.before.before.before.before.before.before.before.before.before.before.before.before.before.before.before.before.before.before.before.before.requires.1 c.before.before.put-run.ensures
 
 pub apply-event-spec : {M : Type 1} → statement M
 apply-event-spec =

@@ -1,5 +1,5 @@
 use Rattle.fever.proofs.Stepping.{refusing-steps}
-use Rattle.fever.specs.Contracts.{move_of}
+use Rattle.fever.specs.Clauses.{move_of}
 use borrow.Author.Tests.{lt-ltb, le-ltb, ne_eqb}
 use borrow.Author.Rules.{rules}
 use Rattle.fever.proofs.steps.step_record.Statement.{statement}

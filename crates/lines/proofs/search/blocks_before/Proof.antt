@@ -4,8 +4,8 @@ use mathlib.Core.Path.{◌≡◌, refl}
 use lib.ListN.{length}
 use Prim.Native.Nat.{◌-◌, ◌*◌, ◌/◌, ◌≤◌}
 use Rattle.base.specs.Choice.{flag}
-use Rattle.lines.specs.Splitting.{beforeNewline}
-use Rattle.lines.specs.Inner.{blockBytes}
+use Rattle.lines.specs.Splitting.{before_newline}
+use Rattle.lines.specs.Inner.{block_bytes}
 use Rattle.lines.proofs.Newlines.{before-most, none-among, some-among}
 use Rattle.lines.proofs.search.blocks_before.Statement.{statement}
 use Rattle.lines.proofs.search.blocks_before.Tie as tie
@@ -14,7 +14,7 @@ use Rattle.lines.proofs.search.blocks_before.Lts as lts
 use Rattle.lines.proofs.search.block_has_newline.Reads as block-has-newline-reads
 
 abbrev invariant-loop : tie.invariant-loop
-invariant-loop bytes end i₀ i = (i ≤ beforeNewline bytes) × (i ≡ i / blockBytes * blockBytes) × (end ≡ length bytes / blockBytes * blockBytes)
+invariant-loop bytes end i₀ i = (i ≤ before_newline bytes) × (i ≡ i / block_bytes * block_bytes) × (end ≡ length bytes / block_bytes * block_bytes)
 
 abbrev decreases-loop : tie.decreases-loop
 decreases-loop bytes end i₀ i = end - i
@@ -31,7 +31,7 @@ block-has-newline-requires c κs = search rules
 returns : tie.Need-returns invariant-loop decreases-loop
 returns c =
     let x = c.before.before.before.loop.invariant in
-    omega (arith, some-among _ _ blockBytes x.0 (flag _ _ _ c.before.block-has-newline.ensures c.if1.true), x.1)
+    omega (arith, some-among _ _ block_bytes x.0 (flag _ _ _ c.before.block-has-newline.ensures c.if1.true), x.1)
 
 add-i : tie.Need-overflow-add-i invariant-loop decreases-loop
 add-i c = search rules
@@ -42,7 +42,7 @@ loop-less c = search rules
 loop-again : tie.Need-loop-preserved invariant-loop decreases-loop
 loop-again c =
     let x = c.before.before.before.loop.invariant in
-    (none-among _ _ blockBytes x.0 (search rules) (flag _ _ _ c.before.block-has-newline.ensures c.if1.false), omega (arith, x.1), refl)
+    (none-among _ _ block_bytes x.0 (search rules) (flag _ _ _ c.before.block-has-newline.ensures c.if1.false), omega (arith, x.1), refl)
 
 returns-2 : tie.Need-returns-2 invariant-loop decreases-loop
 returns-2 c = omega (arith, before-most c.before.before.before.args.bytes.now)

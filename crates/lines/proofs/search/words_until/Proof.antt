@@ -3,8 +3,8 @@ use native.Mathlib.Omega.{arith}
 use mathlib.Core.Path.{◌≡◌}
 use Prim.Native.Nat.{◌-◌, ◌*◌, ◌/◌, ◌≤◌}
 use Rattle.base.specs.Choice.{flag}
-use Rattle.lines.specs.Splitting.{beforeNewline}
-use Rattle.lines.specs.Search.{word_bytes, bytesIn}
+use Rattle.lines.specs.Splitting.{before_newline}
+use Rattle.lines.specs.Search.{word_bytes, bytes_in}
 use Rattle.lines.proofs.Newlines.{before-most, none-in-word, first-in-word}
 use Rattle.lines.proofs.search.words_until.Statement.{statement}
 use Rattle.lines.proofs.search.words_until.Tie as tie
@@ -15,7 +15,7 @@ use Rattle.lines.proofs.search.has_newline.Reads as has-newline-reads
 use Rattle.lines.proofs.search.word_at.Reads as word-at-reads
 
 abbrev invariant-loop : tie.invariant-loop
-invariant-loop bytes from end i₀ i = (i ≤ beforeNewline bytes) × (i ≤ end) × (i ≡ i / word_bytes * word_bytes)
+invariant-loop bytes from end i₀ i = (i ≤ before_newline bytes) × (i ≤ end) × (i ≡ i / word_bytes * word_bytes)
 
 abbrev decreases-loop : tie.decreases-loop
 decreases-loop bytes from end i₀ i = end - i
@@ -33,9 +33,9 @@ first-in-requires : tie.Need-first-in-requires invariant-loop decreases-loop
 first-in-requires c κs = search rules
 
 add-result : tie.Need-overflow-add-result invariant-loop decreases-loop
-unfolding bytesIn
+unfolding bytes_in
 add-result c =
-    let k : c.first-in.result ≤ word_bytes = omega (arith, c.first-in.ensures, before-most (bytesIn word_bytes c.before.before.before.word_at.result)) in search rules
+    let k : c.first-in.result ≤ word_bytes = omega (arith, c.first-in.ensures, before-most (bytes_in word_bytes c.before.before.before.word_at.result)) in search rules
 
 returns : tie.Need-returns invariant-loop decreases-loop
 returns c =

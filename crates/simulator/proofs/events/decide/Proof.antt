@@ -17,13 +17,13 @@ enum-known-message : tie.Need-enum-known-message
 enum-known-message c = search rules
 
 decide-heard-requires : tie.Need-decide-heard-requires
-decide-heard-requires c κs = (omega (arith, (within c.before.before.before.before.args.head.plan c.before.before.before.before.requires.0.plan).n-least), (within c.before.before.before.before.args.head.plan c.before.before.before.before.requires.0.plan).n-most, named-place c.before.before.before.before.args.head.plan c.before.before.before.before.args.message _ 64 c.before.before.before.before.requires.0.plan c.before.message.given.1 c.before.before.before.before.requires.1 refl)
+decide-heard-requires c κs = (omega (arith, (within c.before.before.before.before.args.head.plan c.before.before.before.before.requires.0.plan).n_at_least), (within c.before.before.before.before.args.head.plan c.before.before.before.before.requires.0.plan).n_at_most, named-place c.before.before.before.before.args.head.plan c.before.before.before.before.args.message _ 64 c.before.before.before.before.requires.0.plan c.before.message.given.1 c.before.before.before.before.requires.1 refl)
 
 enum-known-message-2 : tie.Need-enum-known-message-2
 enum-known-message-2 c = search rules
 
 decide-heard-requires-2 : tie.Need-decide-heard-requires-2
-decide-heard-requires-2 c κs = (omega (arith, (within c.before.before.before.before.args.head.plan c.before.before.before.before.requires.0.plan).n-least), (within c.before.before.before.before.args.head.plan c.before.before.before.before.requires.0.plan).n-most, named-place c.before.before.before.before.args.head.plan c.before.before.before.before.args.message _ 64 c.before.before.before.before.requires.0.plan c.before.message2.given.1 c.before.before.before.before.requires.1 refl)
+decide-heard-requires-2 c κs = (omega (arith, (within c.before.before.before.before.args.head.plan c.before.before.before.before.requires.0.plan).n_at_least), (within c.before.before.before.before.args.head.plan c.before.before.before.before.requires.0.plan).n_at_most, named-place c.before.before.before.before.args.head.plan c.before.before.before.before.args.message _ 64 c.before.before.before.before.requires.0.plan c.before.message2.given.1 c.before.before.before.before.requires.1 refl)
 
 enum-known-message-3 : tie.Need-enum-known-message-3
 enum-known-message-3 c = search rules

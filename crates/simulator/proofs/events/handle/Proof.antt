@@ -4,7 +4,7 @@ use Rattle.simulator.proofs.Deciding.{named_small, named-place}
 use Rattle.simulator.proofs.Delivery.{fit-held, reaches-held, room-left}
 use Rattle.simulator.proofs.Fitness.{fit_of, room_of}
 use Rattle.pacemaker.proofs.LimitLaws.{within}
-use Rattle.model.specs.Checks.{reachesEnd, overfull}
+use Rattle.model.specs.Checks.{reaches_end, overfull}
 use Rattle.model.specs.Moves.{made, handling}
 use Rattle.model.specs.State.{State, state_of, run_from, capacity}
 use Rattle.types.specs.declared.Head.{Head}
@@ -16,7 +16,7 @@ use mathlib.Core.Path.{◌≡◌, refl, sym, ap, ap₂, ◌∙◌}
 use Prim.Native.Nat.{ℕ, ◌+◌, ◌≤◌}
 use lib.Dec.{ltb}
 use lib.ListN.{length}
-use Rattle.simulator.specs.Inner.{sentFor, changeBy, leaving}
+use Rattle.simulator.specs.Inner.{sent_for, change_by, leaving}
 use Rattle.simulator.proofs.events.handle.Statement.{statement}
 use Rattle.simulator.proofs.events.handle.Tie as tie
 use Rattle.simulator.proofs.events.handle.Reads as reads
@@ -77,14 +77,14 @@ perform-requires c κs =
     let f = fit_of s c.before.before.before.before.before.before.before.before.before.before.before.before.before.before.before.before.before.before.before.before.before.requires.sound in
     let z : c.before.before.before.before.before.before.before.before.before.before.before.outcome-check.result ≡ 0 = omega (arith, c.before.before.before.before.before.before.before.before.before.before.if1.false) in
     let next : Head = c.before.before.before.before.before.before.before.before.before.before.before.before.before.before.before.before.before.before.head-without.result in
-    let k : ℕ = next.held + length (sentFor next.plan next.faulty c.before.before.before.before.before.before.before.before.before.before.before.before.before.before.before.before.before.before.before.before.before.args.message c.before.before.before.before.before.before.before.before.before.before.before.before.before.before.decide.result) in
+    let k : ℕ = next.held + length (sent_for next.plan next.faulty c.before.before.before.before.before.before.before.before.before.before.before.before.before.before.before.before.before.before.before.before.before.args.message c.before.before.before.before.before.before.before.before.before.before.before.before.before.before.decide.result) in
     let p = outcome-passed c.before.before.before.before.before.before.before.before.before.before.before.before.before.before.decide.result.ends (ltb c.before.before.before.before.before.before.before.before.before.before.before.before.capacity.result k) (sym c.before.before.before.before.before.before.before.before.before.before.before.outcome-check.ensures ∙ z) in
     let fits : k ≤ c.before.before.before.before.before.before.before.before.before.before.before.before.capacity.result = ltb-false c.before.before.before.before.before.before.before.before.before.before.before.before.capacity.result k p.1 in
     let as-much = ap (capacity Packed) c.before.before.before.before.before.before.remove.ensures ∙ (room-left s.run s.tally s.network c.before.before.before.before.before.before.before.before.before.before.before.before.before.before.before.before.before.before.before.before.before.args.message c.before.before.before.before.before.before.before.before.before.before.before.before.before.before.before.before.before.before.before.before.before.args.place (room_of s c.before.before.before.before.before.before.before.before.before.before.before.before.before.before.before.before.before.before.before.before.before.requires.sound)).0 in (
-      rw c.before.before.before.before.before.before.before.before.before.before.before.before.before.before.before.before.before.before.head-without.ensures (omega (arith, (within c.before.before.before.before.before.before.before.before.before.before.before.before.before.before.before.before.before.before.before.before.before.args.head.plan f.plan).n-least)),
+      rw c.before.before.before.before.before.before.before.before.before.before.before.before.before.before.before.before.before.before.head-without.ensures (omega (arith, (within c.before.before.before.before.before.before.before.before.before.before.before.before.before.before.before.before.before.before.before.before.before.args.head.plan f.plan).n_at_least)),
       named-place c.before.before.before.before.before.before.before.before.before.before.before.before.before.before.before.before.before.before.before.before.before.args.head.plan c.before.before.before.before.before.before.before.before.before.before.before.before.before.before.before.before.before.before.before.before.before.args.message c.before.before.before.before.before.before.before.before.before.before.before.before.before.before.before.before.before.before.before.before.before.args.message 64 f.plan refl c.before.before.before.before.before.before.before.before.before.before.before.before.before.before.before.before.before.before.before.before.before.requires.named refl,
       omega (arith, c.before.before.before.before.before.before.before.before.before.before.before.before.capacity.ensures, fits, as-much),
-      rw c.before.before.before.before.before.before.before.before.before.before.before.before.before.before.before.before.before.before.head-without.ensures (within c.before.before.before.before.before.before.before.before.before.before.before.before.before.before.before.before.before.before.before.before.before.args.head.plan f.plan).n-most,
+      rw c.before.before.before.before.before.before.before.before.before.before.before.before.before.before.before.before.before.before.head-without.ensures (within c.before.before.before.before.before.before.before.before.before.before.before.before.before.before.before.before.before.before.before.before.before.args.head.plan f.plan).n_at_most,
       (let v = named_small c.before.before.before.before.before.before.before.before.before.before.before.before.before.before.before.before.before.before.before.before.before.args.head.plan c.before.before.before.before.before.before.before.before.before.before.before.before.before.before.before.before.before.before.before.before.before.args.message c.before.before.before.before.before.before.before.before.before.before.before.before.before.before.before.before.before.before.before.before.before.args.message f.plan refl c.before.before.before.before.before.before.before.before.before.before.before.before.before.before.before.before.before.before.before.before.before.requires.named in omega arith),
       c.before.before.before.before.before.before.before.before.before.before.before.before.before.before.decide.ensures.packs p.0,
     )
@@ -105,10 +105,10 @@ returns-2 c =
     let c' = handling s'.run s.tally c.before.before.before.before.before.before.before.before.before.before.before.before.before.before.before.before.before.before.before.before.before.before.before.before.before.before.before.args.message in
     let k = handled-outcome c.before.before.before.before.before.before.before.before.before.before.before.before.before.before.before.before.before.before.before.before.before.before.before.before.before.before.before.args.head c.before.before.before.before.before.before.before.before.before.before.before.before.before.before.before.before.before.before.before.before.before.before.before.before.before.before.before.args.clocks.now c.before.before.before.before.before.before.before.before.before.before.before.before.before.before.before.before.before.before.before.before.before.before.before.before.before.before.before.args.views.now c.before.before.before.before.before.before.before.before.before.before.before.before.before.before.before.before.before.before.before.before.before.before.before.before.before.before.before.args.tally.now c.before.before.before.before.before.before.before.before.before.before.before.before.before.before.before.before.before.before.before.before.before.before.before.before.before.before.before.args.network.now c.before.before.before.before.before.before.before.before.before.before.before.before.before.before.before.before.before.before.before.before.before.before.before.before.before.before.before.args.message c.before.before.before.before.before.before.before.before.before.before.before.before.before.before.before.before.before.before.before.before.before.before.before.before.before.before.before.args.place (room_of s c.before.before.before.before.before.before.before.before.before.before.before.before.before.before.before.before.before.before.before.before.before.before.before.before.before.before.before.requires.sound) _ c.before.before.before.before.before.before.before.before.before.before.before.before.before.before.before.before.before.before.before.before.before.before.before.before.head-without.ensures _ c.before.before.before.before.before.before.before.before.before.before.before.before.before.before.before.before.before.before.before.before.decide.ensures _ _ c.before.before.before.before.before.before.before.before.before.before.before.before.before.before.before.before.before.before.capacity.ensures c.before.before.before.before.before.before.before.before.before.before.before.before.before.before.before.before.before.outcome-check.ensures in
     let z : c.before.before.before.before.before.before.before.before.before.before.before.before.before.before.before.before.before.outcome-check.result ≡ 0 = omega (arith, c.before.before.before.before.before.before.before.before.before.before.before.before.before.before.before.before.if1.false) in
-    let p = outcome-passed (reachesEnd s'.run c') (overfull s' c') (sym k ∙ z) in
+    let p = outcome-passed (reaches_end s'.run c') (overfull s' c') (sym k ∙ z) in
     let d = decides-counted _ s'.run.traffic _ _ _ (rw c.before.before.before.before.before.before.before.before.before.before.before.before.before.before.before.before.before.before.before.before.before.before.before.before.head-without.ensures at c.before.before.before.before.before.before.before.before.before.before.before.before.before.before.before.before.before.before.before.before.decide.ensures) in
     let e = c.before.before.before.before.before.perform.ensures
-    ∙ ap₂ (λ (x : Head) (ws : List ℕ). made (state_of (run_from x s.run.clocks s.run.views) s.tally ws) (changeBy (run_from x s.run.clocks s.run.views) s.tally c.before.before.before.before.before.before.before.before.before.before.before.before.before.before.before.before.before.before.before.before.before.before.before.before.before.before.before.args.message c.before.before.before.before.before.before.before.before.before.before.before.before.before.before.before.before.before.before.before.before.decide.result)) (ap₂ counting c.before.before.before.before.before.before.before.before.before.before.before.before.before.before.before.before.before.before.before.before.before.before.before.before.head-without.ensures c.before.before.before.before.before.before.before.before.before.before.before.before.before.before.note-delivery.ensures) c.before.before.before.before.before.before.before.before.before.before.before.before.remove.ensures
+    ∙ ap₂ (λ (x : Head) (ws : List ℕ). made (state_of (run_from x s.run.clocks s.run.views) s.tally ws) (change_by (run_from x s.run.clocks s.run.views) s.tally c.before.before.before.before.before.before.before.before.before.before.before.before.before.before.before.before.before.before.before.before.before.before.before.before.before.before.before.args.message c.before.before.before.before.before.before.before.before.before.before.before.before.before.before.before.before.before.before.before.before.decide.result)) (ap₂ counting c.before.before.before.before.before.before.before.before.before.before.before.before.before.before.before.before.before.before.before.before.before.before.before.before.head-without.ensures c.before.before.before.before.before.before.before.before.before.before.before.before.before.before.note-delivery.ensures) c.before.before.before.before.before.before.before.before.before.before.before.before.remove.ensures
     ∙ ap (made s') (d.change (d.ends ∙ p.0)) in
     done-is (made s' c') _ _ _ _ _ _ c.done.ensures e ∙ finish-done s s' c' p.0 p.1
 

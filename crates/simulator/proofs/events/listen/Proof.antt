@@ -3,7 +3,7 @@ use borrow.Author.Rules.{rules}
 use mathlib.Core.Path.{sym, ◌∙◌}
 use native.Mathlib.Omega.{arith}
 use Rattle.model.specs.State.{run_from}
-use Rattle.model.specs.Moves.{heardChange}
+use Rattle.model.specs.Moves.{heard_change}
 use Rattle.simulator.proofs.Deciding.{made_by}
 use Rattle.simulator.proofs.Counting.{formed-counted}
 use Rattle.simulator.proofs.events.listen.Statement.{statement}
@@ -43,7 +43,7 @@ same-length-2 c = search rules
 returns : tie.Need-returns
 returns c = λ cs vs.
     rw (sym c.before.before.before.before.before.before.before.before.before.before.before.stage.ensures, sym c.before.before.before.before.before.before.before.before.before.before.view.ensures, sym c.before.before.before.before.before.before.before.processor.ensures)
-    (made_by (run_from c.before.before.before.before.before.before.before.before.before.before.before.before.before.before.args.head cs vs) c.before.before.before.before.before.before.before.before.before.before.before.before.before.before.args.tally.now c.before.before.before.before.before.before.before.before.before.before.before.before.before.before.args.network.now (heardChange c.before.before.before.before.before.before.before.before.before.before.before.stage.result (run_from c.before.before.before.before.before.before.before.before.before.before.before.before.before.before.args.head cs vs) c.before.before.before.before.before.before.before.before.before.before.before.before.before.before.args.tally.now c.before.before.before.before.before.before.before.before.before.before.view.result c.before.before.before.before.before.before.before.processor.result c.before.before.before.before.before.before.before.before.before.before.before.before.before.before.args.formed) _ _ _ _ c.before.before.before.before.before.before.hear.ensures.0 c.before.before.before.before.before.before.hear.ensures.1
+    (made_by (run_from c.before.before.before.before.before.before.before.before.before.before.before.before.before.before.args.head cs vs) c.before.before.before.before.before.before.before.before.before.before.before.before.before.before.args.tally.now c.before.before.before.before.before.before.before.before.before.before.before.before.before.before.args.network.now (heard_change c.before.before.before.before.before.before.before.before.before.before.before.stage.result (run_from c.before.before.before.before.before.before.before.before.before.before.before.before.before.before.args.head cs vs) c.before.before.before.before.before.before.before.before.before.before.before.before.before.before.args.tally.now c.before.before.before.before.before.before.before.before.before.before.view.result c.before.before.before.before.before.before.before.processor.result c.before.before.before.before.before.before.before.before.before.before.before.before.before.before.args.formed) _ _ _ _ c.before.before.before.before.before.before.hear.ensures.0 c.before.before.before.before.before.before.hear.ensures.1
     (c.note-formed.ensures ∙ formed-counted c.before.before.before.before.before.before.before.before.before.before.before.before.before.before.args.head.plan c.before.before.before.before.before.before.before.before.before.before.before.before.before.before.args.head.faulty c.before.before.before.before.before.before.before.before.before.before.before.stage.result c.before.before.before.before.before.before.before.before.before.before.view.result c.before.before.before.before.before.before.before.before.before.before.before.before.before.before.args.formed (c.before.before.before.before.before.before.hear.result - c.before.before.before.before.before.before.before.before.before.before.before.before.before.before.args.head.held) (omega (arith, c.before.before.before.before.before.before.hear.ensures.0.number)) c.before.before.before.before.before.before.before.before.before.before.before.before.before.before.args.head.traffic))
 
 pub listen-spec : {M : Type 1} → statement M

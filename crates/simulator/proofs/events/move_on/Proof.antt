@@ -1,7 +1,7 @@
 use borrow.Author.Rules.{rules}
 use native.Mathlib.Omega.{arith}
 use Rattle.model.specs.State.{run_from}
-use Rattle.simulator.specs.Inner.{movedChange}
+use Rattle.simulator.specs.Inner.{moved_change}
 use Rattle.simulator.proofs.Deciding.{made_by}
 use Rattle.simulator.proofs.events.move_on.Statement.{statement}
 use Rattle.simulator.proofs.events.move_on.Tie as tie
@@ -38,7 +38,7 @@ same-length-2 : tie.Need-same-length-2
 same-length-2 c = search rules
 
 returns : tie.Need-returns
-returns c = made_by (run_from c.before.before.before.before.before.before.before.before.before.before.before.before.args.head c.before.before.before.before.before.before.before.before.before.before.before.before.args.clocks.now c.before.before.before.before.before.before.before.before.before.before.before.before.args.views.now) c.before.before.before.before.before.before.before.before.before.before.before.before.args.tally.now c.before.before.before.before.before.before.before.before.before.before.before.before.args.network.now (movedChange (run_from c.before.before.before.before.before.before.before.before.before.before.before.before.args.head c.before.before.before.before.before.before.before.before.before.before.before.before.args.clocks.now c.before.before.before.before.before.before.before.before.before.before.before.before.args.views.now) c.before.before.before.before.before.before.before.before.before.before.before.before.args.tally.now c.before.before.before.before.before.before.before.before.before.before.before.before.args.p c.before.before.before.before.before.before.before.before.before.before.before.before.args.x) _ _ _ _ c.before.before.before.before.before.before.enter.ensures.0 c.before.before.before.before.before.before.enter.ensures.1
+returns c = made_by (run_from c.before.before.before.before.before.before.before.before.before.before.before.before.args.head c.before.before.before.before.before.before.before.before.before.before.before.before.args.clocks.now c.before.before.before.before.before.before.before.before.before.before.before.before.args.views.now) c.before.before.before.before.before.before.before.before.before.before.before.before.args.tally.now c.before.before.before.before.before.before.before.before.before.before.before.before.args.network.now (moved_change (run_from c.before.before.before.before.before.before.before.before.before.before.before.before.args.head c.before.before.before.before.before.before.before.before.before.before.before.before.args.clocks.now c.before.before.before.before.before.before.before.before.before.before.before.before.args.views.now) c.before.before.before.before.before.before.before.before.before.before.before.before.args.tally.now c.before.before.before.before.before.before.before.before.before.before.before.before.args.p c.before.before.before.before.before.before.before.before.before.before.before.before.args.x) _ _ _ _ c.before.before.before.before.before.before.enter.ensures.0 c.before.before.before.before.before.before.enter.ensures.1
     (c.note-entry.ensures c.before.before.before.before.before.before.before.before.before.before.before.before.args.head.plan c.before.before.before.before.before.before.before.before.before.before.before.before.args.head.faulty (omega (arith, c.before.before.before.before.before.before.enter.ensures.0.number)))
 
 pub move-on-spec : {M : Type 1} → statement M

@@ -1,7 +1,7 @@
 use Rattle.simulator.proofs.Packing.{certificate-packs}
 use Rattle.simulator.proofs.Posting.{posts-none, each_fits, each_turn}
 use Rattle.simulator.specs.Inner.{Posts}
-use Rattle.model.specs.Moves.{toCorrect, toEach}
+use Rattle.model.specs.Moves.{to_correct, to_each}
 use borrow.Author.Rules.{rules, zero≤}
 use lib.ListN.{length}
 use native.Mathlib.Omega.{arith}
@@ -15,13 +15,13 @@ use Rattle.simulator.proofs.moves.certificate_of.Reads as certificate-of-reads
 use Rattle.simulator.proofs.moves.send.Reads as send-reads
 
 abbrev invariant-loop : tie.invariant-loop
-invariant-loop network₀ held plan faulty stage w time h₀ q₀ network h q = (q ≤ plan.n) × Posts (toCorrect plan faulty (toEach stage w q)) held time network₀ h network × (length network ≡ length network₀)
+invariant-loop network₀ held plan faulty stage w time h₀ q₀ network h q = (q ≤ plan.n) × Posts (to_correct plan faulty (to_each stage w q)) held time network₀ h network × (length network ≡ length network₀)
 
 abbrev decreases-loop : tie.decreases-loop
 decreases-loop network₀ held plan faulty stage w time h₀ q₀ network h q = plan.n - q
 
 loop-holds : tie.Need-loop-init invariant-loop decreases-loop
-unfolding toEach toCorrect
+unfolding to_each to_correct
 loop-holds c = (zero≤, posts-none _ _ _, refl)
 
 certificate-of-requires : tie.Need-certificate-of-requires invariant-loop decreases-loop
@@ -43,7 +43,7 @@ same_length : tie.Need-same-length invariant-loop decreases-loop
 same_length c = search rules
 
 returns : tie.Need-returns invariant-loop decreases-loop
-returns c = let e : c.before.before.loop.q ≡ c.before.before.before.before.args.plan.n = omega arith in subst (λ (x : ℕ). Posts (toCorrect c.before.before.before.before.args.plan c.before.before.before.before.args.faulty (toEach c.before.before.before.before.args.stage c.before.before.before.before.args.w x)) c.before.before.before.before.args.held c.before.before.before.before.args.time c.before.before.before.before.args.network.now c.before.before.loop.h c.before.before.loop.network) e c.before.before.loop.invariant.1
+returns c = let e : c.before.before.loop.q ≡ c.before.before.before.before.args.plan.n = omega arith in subst (λ (x : ℕ). Posts (to_correct c.before.before.before.before.args.plan c.before.before.before.before.args.faulty (to_each c.before.before.before.before.args.stage c.before.before.before.before.args.w x)) c.before.before.before.before.args.held c.before.before.before.before.args.time c.before.before.before.before.args.network.now c.before.before.loop.h c.before.before.loop.network) e c.before.before.loop.invariant.1
 
 pub broadcast-spec : {M : Type 1} → statement M
 broadcast-spec =

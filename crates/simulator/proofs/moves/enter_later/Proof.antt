@@ -1,4 +1,4 @@
-use Rattle.model.specs.State.{enteredWord}
+use Rattle.model.specs.State.{entered_word}
 use Rattle.buffers.specs.Tally.{added-word}
 use mathlib.Core.Path.{◌∙◌}
 use borrow.Author.Rules.{rules}
@@ -22,7 +22,7 @@ same-length-2 : tie.Need-same-length-2
 same-length-2 c = search rules
 
 returns : tie.Need-returns
-returns c = (c.before.before.send.ensures, c.before.before.before.before.before.before.enter.ensures ∙ added-word c.before.before.before.before.before.before.before.before.before.before.args.tally.now c.before.before.before.before.before.before.before.before.before.before.args.w enteredWord c.before.before.before.before.before.before.before.before.before.before.args.p c.before.before.before.before.before.before.before.before.before.before.requires.1)
+returns c = (c.before.before.send.ensures, c.before.before.before.before.before.before.enter.ensures ∙ added-word c.before.before.before.before.before.before.before.before.before.before.args.tally.now c.before.before.before.before.before.before.before.before.before.before.args.w entered_word c.before.before.before.before.before.before.before.before.before.before.args.p c.before.before.before.before.before.before.before.before.before.before.requires.1)
 
 pub enter-later-spec : {M : Type 1} → statement M
 enter-later-spec =

@@ -1,6 +1,6 @@
 use Rattle.simulator.proofs.Posting.{posts-none}
 use Rattle.buffers.specs.Tally.{added-word}
-use Rattle.model.specs.State.{heardWord, marksWord, markBit, added}
+use Rattle.model.specs.State.{heard_word, marks_word, mark_bit, added}
 use Prim.Native.Nat.{ℕ}
 use mathlib.Core.List.{List}
 use mathlib.Core.Path.{◌∙◌, ap}
@@ -29,13 +29,13 @@ same-length-2 : tie.Need-same-length-2
 same-length-2 c = search rules
 
 returns : tie.Need-returns
-returns c = rw c.before.before.before.before.before.before.before.before.if1.true (c.before.before.broadcast.ensures, c.before.before.before.before.before.before.mark.ensures ∙ ap (λ (l : List ℕ). added l c.before.before.before.before.before.before.before.before.before.before.before.before.before.before.before.args.w marksWord (markBit c.before.before.before.before.before.before.before.before.before.before.before.before.before.before.before.args.stage)) (c.before.before.before.before.before.before.before.before.before.before.before.hear.ensures ∙ added-word c.before.before.before.before.before.before.before.before.before.before.before.before.before.before.before.args.tally.now c.before.before.before.before.before.before.before.before.before.before.before.before.before.before.before.args.w (heardWord c.before.before.before.before.before.before.before.before.before.before.before.before.before.before.before.args.stage) c.before.before.before.before.before.before.before.before.before.before.before.before.before.before.before.args.p c.before.before.before.before.before.before.before.before.before.before.before.before.before.before.before.requires.1))
+returns c = rw c.before.before.before.before.before.before.before.before.if1.true (c.before.before.broadcast.ensures, c.before.before.before.before.before.before.mark.ensures ∙ ap (λ (l : List ℕ). added l c.before.before.before.before.before.before.before.before.before.before.before.before.before.before.before.args.w marks_word (mark_bit c.before.before.before.before.before.before.before.before.before.before.before.before.before.before.before.args.stage)) (c.before.before.before.before.before.before.before.before.before.before.before.hear.ensures ∙ added-word c.before.before.before.before.before.before.before.before.before.before.before.before.before.before.before.args.tally.now c.before.before.before.before.before.before.before.before.before.before.before.before.before.before.before.args.w (heard_word c.before.before.before.before.before.before.before.before.before.before.before.before.before.before.before.args.stage) c.before.before.before.before.before.before.before.before.before.before.before.before.before.before.before.args.p c.before.before.before.before.before.before.before.before.before.before.before.before.before.before.before.requires.1))
 
 same-length-3 : tie.Need-same-length-3
 same-length-3 c = search rules
 
 returns-2 : tie.Need-returns-2
-returns-2 c = rw c.if1.false (posts-none _ _ _, c.before.before.before.hear.ensures ∙ added-word c.before.before.before.before.before.before.before.args.tally.now c.before.before.before.before.before.before.before.args.w (heardWord c.before.before.before.before.before.before.before.args.stage) c.before.before.before.before.before.before.before.args.p c.before.before.before.before.before.before.before.requires.1)
+returns-2 c = rw c.if1.false (posts-none _ _ _, c.before.before.before.hear.ensures ∙ added-word c.before.before.before.before.before.before.before.args.tally.now c.before.before.before.before.before.before.before.args.w (heard_word c.before.before.before.before.before.before.before.args.stage) c.before.before.before.before.before.before.before.args.p c.before.before.before.before.before.before.before.requires.1)
 
 pub hear-spec : {M : Type 1} → statement M
 hear-spec =

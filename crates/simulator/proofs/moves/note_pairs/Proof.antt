@@ -1,5 +1,5 @@
 use Rattle.simulator.proofs.Counting.{pairs-counted}
-use Rattle.types.specs.Traffic.{trafficOf, trafficSent}
+use Rattle.types.specs.Traffic.{traffic_of, traffic_sent}
 use Rattle.types.specs.declared.Message.TheVariants.{Vote}
 use Rattle.types.specs.declared.Traffic.{Traffic}
 use Rattle.types.specs.declared.Counts.{Counts}
@@ -20,8 +20,8 @@ send-requires-2 : tie.Need-send-requires-2
 send-requires-2 c κs = search rules
 
 returns : tie.Need-returns
-returns c = c.send2.ensures ∙ ap (λ (x : Traffic). trafficSent x (replicate (c.before.before.args.posted / 2) (Vote 0 0))) c.before.send.ensures
-    ∙ ap (λ (x : Counts). trafficOf x c.before.before.args.traffic.delivered c.before.before.args.traffic.waits) (pairs-counted (c.before.before.args.posted / 2) c.before.before.args.traffic.sent)
+returns c = c.send2.ensures ∙ ap (λ (x : Traffic). traffic_sent x (replicate (c.before.before.args.posted / 2) (Vote 0 0))) c.before.send.ensures
+    ∙ ap (λ (x : Counts). traffic_of x c.before.before.args.traffic.delivered c.before.before.args.traffic.waits) (pairs-counted (c.before.before.args.posted / 2) c.before.before.args.traffic.sent)
 
 pub note-pairs-spec : {M : Type 1} → statement M
 note-pairs-spec = tie.close (tie.spec send-requires send-requires-2 returns)

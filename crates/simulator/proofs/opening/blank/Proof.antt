@@ -2,7 +2,7 @@ use mathlib.Core.Path.{◌≡◌, refl, subst}
 use Prim.Native.Nat.{ℕ, ◌-◌, ◌≤◌}
 use native.Mathlib.Omega.{arith}
 use borrow.Author.Rules.{rules, zero≤}
-use Rattle.simulator.proofs.Starting.{startsBelow, starts_more, starts-all}
+use Rattle.simulator.proofs.Starting.{starts_below, starts_more, starts-all}
 use Rattle.simulator.proofs.opening.blank.Statement.{statement}
 use Rattle.simulator.proofs.opening.blank.Tie as tie
 use Rattle.simulator.proofs.opening.blank.Reads as reads
@@ -11,7 +11,7 @@ use Rattle.simulator.proofs.opening.start_clock.Reads as start-clock-reads
 use Rattle.types.proofs.Traffic.none.Reads as none_reads
 
 abbrev invariant-loop : tie.invariant-loop
-invariant-loop setup clocks₀ q₀ clocks q = (q ≤ 64) × startsBelow setup q clocks
+invariant-loop setup clocks₀ q₀ clocks q = (q ≤ 64) × starts_below setup q clocks
 
 abbrev decreases-loop : tie.decreases-loop
 decreases-loop setup clocks₀ q₀ clocks q = 64 - q
@@ -47,7 +47,7 @@ none-requires : tie.Need-none-requires invariant-loop decreases-loop
 none-requires c κs = search rules
 
 returns : tie.Need-returns invariant-loop decreases-loop
-returns c = let e : c.before.before.before.loop.q ≡ 64 = omega arith in rw (c.none.ensures, starts-all c.before.before.before.before.args.t1 c.before.before.before.loop.clocks (subst (λ (k : ℕ). startsBelow c.before.before.before.before.args.t1 k c.before.before.before.loop.clocks) e c.before.before.before.loop.invariant.1)) refl
+returns c = let e : c.before.before.before.loop.q ≡ 64 = omega arith in rw (c.none.ensures, starts-all c.before.before.before.before.args.t1 c.before.before.before.loop.clocks (subst (λ (k : ℕ). starts_below c.before.before.before.before.args.t1 k c.before.before.before.loop.clocks) e c.before.before.before.loop.invariant.1)) refl
 
 pub blank-spec : {M : Type 1} → statement M
 blank-spec =

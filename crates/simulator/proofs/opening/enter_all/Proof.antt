@@ -4,7 +4,7 @@ use native.Mathlib.Omega.{arith}
 use lib.ListN.{length}
 use borrow.Author.Rules.{rules, zero≤}
 use Rattle.model.specs.Moves.{entries}
-use Rattle.simulator.specs.Opening.{enteredFirst}
+use Rattle.simulator.specs.Opening.{entered_first}
 use Rattle.simulator.specs.Inner.{Posts}
 use Rattle.simulator.proofs.Posting.{posts-none}
 use Rattle.simulator.proofs.Starting.{first-packs, tally-turn, first_fits, posts-turn}
@@ -16,7 +16,7 @@ use Rattle.simulator.proofs.moves.enter.Reads as enter-reads
 use Rattle.simulator.proofs.opening.first_sends.Reads as first-sends-reads
 
 abbrev invariant-loop : tie.invariant-loop
-invariant-loop setup tally₀ network₀ n held₀ q₀ tally network held q = (q ≤ setup.plan.n) × (tally ≡ (enteredFirst setup tally₀ q).tally) × Posts (enteredFirst setup tally₀ q).sent 0 0 network₀ held network × (length tally ≡ length tally₀) × (length network ≡ length network₀)
+invariant-loop setup tally₀ network₀ n held₀ q₀ tally network held q = (q ≤ setup.plan.n) × (tally ≡ (entered_first setup tally₀ q).tally) × Posts (entered_first setup tally₀ q).sent 0 0 network₀ held network × (length tally ≡ length tally₀) × (length network ≡ length network₀)
 
 abbrev decreases-loop : tie.decreases-loop
 decreases-loop setup tally₀ network₀ n held₀ q₀ tally network held q = setup.plan.n - q
@@ -47,7 +47,7 @@ same-length-2 : tie.Need-same-length-2 invariant-loop decreases-loop
 same-length-2 c = search rules
 
 returns : tie.Need-returns invariant-loop decreases-loop
-returns c = let e : c.before.loop.q ≡ c.before.before.before.before.args.setup.plan.n = omega arith in (subst (λ (k : ℕ). Posts (enteredFirst c.before.before.before.before.args.setup c.before.before.before.before.args.tally.now k).sent 0 0 c.before.before.before.before.args.network.now c.before.loop.held c.before.loop.network) e c.before.loop.invariant.2, c.before.loop.invariant.1 ∙ ap (λ (k : ℕ). (enteredFirst c.before.before.before.before.args.setup c.before.before.before.before.args.tally.now k).tally) e)
+returns c = let e : c.before.loop.q ≡ c.before.before.before.before.args.setup.plan.n = omega arith in (subst (λ (k : ℕ). Posts (entered_first c.before.before.before.before.args.setup c.before.before.before.before.args.tally.now k).sent 0 0 c.before.before.before.before.args.network.now c.before.loop.held c.before.loop.network) e c.before.loop.invariant.2, c.before.loop.invariant.1 ∙ ap (λ (k : ℕ). (entered_first c.before.before.before.before.args.setup c.before.before.before.before.args.tally.now k).tally) e)
 
 pub enter-all-spec : {M : Type 1} → statement M
 enter-all-spec =

@@ -25,7 +25,7 @@ blank-requires : tie.Need-blank-requires
 blank-requires c κs = search rules
 
 enter-all-requires : tie.Need-enter-all-requires
-enter-all-requires c κs = (omega (arith, (ready _ _ _ c.before.before.before.before.before.before.before.before.before.before.before.before.before.requires).ok.n-least), (ready _ _ _ c.before.before.before.before.before.before.before.before.before.before.before.before.before.requires).ok.n-most, first-room c.before.before.before.before.before.before.before.before.before.before.before.before.before.args.setup c.before.before.before.before.before.before.before.before.before.before.before.before.before.args.network.now _ (ready _ _ _ c.before.before.before.before.before.before.before.before.before.before.before.before.before.requires).room (c.before.before.before.before.before.zero-words2.ensures ∙ zeroed-fits c.before.before.before.before.before.before.before.before.before.before.before.before.before.args.network.now _ (omega arith)))
+enter-all-requires c κs = (omega (arith, (ready _ _ _ c.before.before.before.before.before.before.before.before.before.before.before.before.before.requires).ok.n_at_least), (ready _ _ _ c.before.before.before.before.before.before.before.before.before.before.before.before.before.requires).ok.n_at_most, first-room c.before.before.before.before.before.before.before.before.before.before.before.before.before.args.setup c.before.before.before.before.before.before.before.before.before.before.before.before.before.args.network.now _ (ready _ _ _ c.before.before.before.before.before.before.before.before.before.before.before.before.before.requires).room (c.before.before.before.before.before.zero-words2.ensures ∙ zeroed-fits c.before.before.before.before.before.before.before.before.before.before.before.before.before.args.network.now _ (omega arith)))
 
 note-pairs-requires : tie.Need-note-pairs-requires
 note-pairs-requires c κs = search rules

@@ -1,5 +1,5 @@
 use Rattle.simulator.proofs.Happening.{show-named, show-faulty, show-none, show-there, certificate-reaches, none-leaves}
-use Rattle.simulator.specs.Inner.{namedCheck}
+use Rattle.simulator.specs.Inner.{named_check}
 use Rattle.model.specs.Checks.{exists}
 use Rattle.model.specs.State.{State, state_of, run_from}
 use Rattle.types.specs.Quantities.{correct}
@@ -43,7 +43,7 @@ has-certificate-requires c κs = search rules
 returns-2 : tie.Need-returns-2
 returns-2 c = λ cs vs ws a.
     let s : State = state_of (run_from c.before.before.before.before.before.before.before.before.before.before.args.head cs vs) c.before.before.before.before.before.before.before.before.before.before.args.tally.now ws in
-    let named : namedCheck c.before.before.before.before.before.before.before.before.before.before.args.head.plan c.before.before.before.before.before.before.before.before.before.before.args.message ≡ 0 = omega (arith, c.before.before.before.before.before.before.before.before.check-named.ensures, c.before.before.before.before.before.before.before.if1.false) in
+    let named : named_check c.before.before.before.before.before.before.before.before.before.before.args.head.plan c.before.before.before.before.before.before.before.before.before.before.args.message ≡ 0 = omega (arith, c.before.before.before.before.before.before.before.before.check-named.ensures, c.before.before.before.before.before.before.before.if1.false) in
     let right = ap (correct c.before.before.before.before.before.before.before.before.before.before.args.head.plan c.before.before.before.before.before.before.before.before.before.before.args.head.faulty) (sym c.before.before.before.before.before.before.processor.ensures) ∙ sym c.before.before.before.before.before.correct.ensures ∙ c.before.before.before.before.if2.true in (
       record { sound = a.1; named = named; reaches = certificate-reaches s.run c.before.before.before.before.before.before.before.before.before.before.args.message right },
       show-there s c.before.before.before.before.before.before.before.before.before.before.args.message a.0 a.1 named right
@@ -54,14 +54,14 @@ returns-2 c = λ cs vs ws a.
 returns-3 : tie.Need-returns-3
 returns-3 c = λ cs vs ws a.
     let s : State = state_of (run_from c.before.before.before.before.before.before.before.before.before.before.args.head cs vs) c.before.before.before.before.before.before.before.before.before.before.args.tally.now ws in
-    let named : namedCheck c.before.before.before.before.before.before.before.before.before.before.args.head.plan c.before.before.before.before.before.before.before.before.before.before.args.message ≡ 0 = omega (arith, c.before.before.before.before.before.before.before.before.check-named.ensures, c.before.before.before.before.before.before.before.if1.false) in
+    let named : named_check c.before.before.before.before.before.before.before.before.before.before.args.head.plan c.before.before.before.before.before.before.before.before.before.before.args.message ≡ 0 = omega (arith, c.before.before.before.before.before.before.before.before.check-named.ensures, c.before.before.before.before.before.before.before.if1.false) in
     show-none s c.before.before.before.before.before.before.before.before.before.before.args.message a.0 a.1 named
     (ap (correct c.before.before.before.before.before.before.before.before.before.before.args.head.plan c.before.before.before.before.before.before.before.before.before.before.args.head.faulty) (sym c.before.before.before.before.before.before.processor.ensures) ∙ sym c.before.before.before.before.before.correct.ensures ∙ c.before.before.before.before.if2.true)
     (ap₂ (λ (b : Bool) (w : ℕ). exists b s.run c.before.before.before.before.before.before.before.before.before.before.args.tally.now w) (sym c.before.before.before.stage.ensures) (sym c.before.before.view.ensures) ∙ sym (c.before.has-certificate.ensures cs vs) ∙ c.if3.false)
 
 returns-4 : tie.Need-returns-4
 returns-4 c = λ cs vs ws a.
-    let named : namedCheck c.before.before.before.before.before.before.args.head.plan c.before.before.before.before.before.before.args.message ≡ 0 = omega (arith, c.before.before.before.before.check-named.ensures, c.before.before.before.if1.false) in
+    let named : named_check c.before.before.before.before.before.before.args.head.plan c.before.before.before.before.before.before.args.message ≡ 0 = omega (arith, c.before.before.before.before.check-named.ensures, c.before.before.before.if1.false) in
     show-faulty (state_of (run_from c.before.before.before.before.before.before.args.head cs vs) c.before.before.before.before.before.before.args.tally.now ws) c.before.before.before.before.before.before.args.message a.0 a.1 named
     (ap (correct c.before.before.before.before.before.before.args.head.plan c.before.before.before.before.before.before.args.head.faulty) (sym c.before.before.processor.ensures) ∙ sym c.before.correct.ensures ∙ c.if2.false)
 

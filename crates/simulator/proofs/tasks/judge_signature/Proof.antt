@@ -1,5 +1,5 @@
 use Rattle.simulator.proofs.Happening.{sign-named, sign-correct, sign-heard, sign-unheard, signature-reaches, none-leaves, finish-still}
-use Rattle.simulator.specs.Inner.{namedCheck}
+use Rattle.simulator.specs.Inner.{named_check}
 use Rattle.model.specs.State.{State, state_of, run_from}
 use Rattle.types.specs.Quantities.{lead, correct}
 use native.Mathlib.Omega.{arith}
@@ -30,7 +30,7 @@ correct-requires c κs = search rules
 
 returns-2 : tie.Need-returns-2
 returns-2 c = λ cs vs t ws a.
-    let named : namedCheck c.before.before.before.before.before.args.head.plan c.before.before.before.before.before.args.message ≡ 0 = omega (arith, c.before.before.before.before.check-named.ensures, c.before.before.before.if1.false) in
+    let named : named_check c.before.before.before.before.before.args.head.plan c.before.before.before.before.before.args.message ≡ 0 = omega (arith, c.before.before.before.before.check-named.ensures, c.before.before.before.if1.false) in
     sign-correct (state_of (run_from c.before.before.before.before.before.args.head cs vs) t ws) c.before.before.before.before.before.args.message a.0 a.1 named
     (ap (correct c.before.before.before.before.before.args.head.plan c.before.before.before.before.before.args.head.faulty) (sym c.before.before.processor.ensures) ∙ sym c.before.correct.ensures ∙ c.if2.true)
 
@@ -43,7 +43,7 @@ led-requires c κs = search rules
 returns-3 : tie.Need-returns-3
 returns-3 c = λ cs vs t ws a.
     let s : State = state_of (run_from c.before.before.before.before.before.before.before.before.args.head cs vs) t ws in
-    let named : namedCheck c.before.before.before.before.before.before.before.before.args.head.plan c.before.before.before.before.before.before.before.before.args.message ≡ 0 = omega (arith, c.before.before.before.before.before.before.before.check-named.ensures, c.before.before.before.before.before.before.if1.false) in (
+    let named : named_check c.before.before.before.before.before.before.before.before.args.head.plan c.before.before.before.before.before.before.before.before.args.message ≡ 0 = omega (arith, c.before.before.before.before.before.before.before.check-named.ensures, c.before.before.before.before.before.before.if1.false) in (
       record { sound = a.1; named = named; reaches = signature-reaches s.run c.before.before.before.before.before.before.before.before.args.message a.0 },
       sign-heard s c.before.before.before.before.before.before.before.before.args.message a.0 a.1 named
           (ap (correct c.before.before.before.before.before.before.before.before.args.head.plan c.before.before.before.before.before.before.before.before.args.head.faulty) (sym c.before.before.before.before.before.processor.ensures) ∙ sym c.before.before.before.before.correct.ensures ∙ c.before.before.before.if2.false)
@@ -54,7 +54,7 @@ returns-3 c = λ cs vs t ws a.
 returns-4 : tie.Need-returns-4
 returns-4 c = λ cs vs t ws a.
     let s : State = state_of (run_from c.before.before.before.before.before.before.before.before.args.head cs vs) t ws in
-    let named : namedCheck c.before.before.before.before.before.before.before.before.args.head.plan c.before.before.before.before.before.before.before.before.args.message ≡ 0 = omega (arith, c.before.before.before.before.before.before.before.check-named.ensures, c.before.before.before.before.before.before.if1.false) in
+    let named : named_check c.before.before.before.before.before.before.before.before.args.head.plan c.before.before.before.before.before.before.before.before.args.message ≡ 0 = omega (arith, c.before.before.before.before.before.before.before.check-named.ensures, c.before.before.before.before.before.before.if1.false) in
     sign-unheard s c.before.before.before.before.before.before.before.before.args.message a.0 a.1 named
     (ap (correct c.before.before.before.before.before.before.before.before.args.head.plan c.before.before.before.before.before.before.before.before.args.head.faulty) (sym c.before.before.before.before.before.processor.ensures) ∙ sym c.before.before.before.before.correct.ensures ∙ c.before.before.before.if2.false)
     (ap (λ (w : ℕ). correct c.before.before.before.before.before.before.before.before.args.head.plan c.before.before.before.before.before.before.before.before.args.head.faulty (lead c.before.before.before.before.before.before.before.before.args.head.plan w)) (sym c.before.before.view.ensures) ∙ sym c.before.led.ensures ∙ c.if3.false)

@@ -1,5 +1,5 @@
 use Rattle.simulator.proofs.Fitness.{whole_of}
-use Rattle.simulator.proofs.Striding.{advance-late, advance-once, advance-leap}
+use Rattle.simulator.proofs.Striding.{advance-late, advance-once, advance_leap}
 use Rattle.leaps.proofs.Leaping.{waits-now}
 use Rattle.leaps.specs.Leaps.{Waits}
 use Rattle.model.specs.State.{State, state_of, run_from}
@@ -39,7 +39,7 @@ same-length-2 c = search rules
 returns-2 : tie.Need-returns-2
 returns-2 c =
     let s : State = state_of (run_from c.before.before.before.before.before.before.before.before.before.before.before.before.before.args.head c.before.before.before.before.before.before.before.before.before.before.before.before.before.args.clocks.now c.before.before.before.before.before.before.before.before.before.before.before.before.before.args.views.now) c.before.before.before.before.before.before.before.before.before.before.before.before.before.args.tally.now c.before.before.before.before.before.before.before.before.before.before.before.before.before.args.network.now in
-    advance-leap s c.before.before.before.before.before.before.before.before.before.before.before.before.before.requires.0 c.before.before.before.before.before.before.before.before.before.before.before.before.before.args.most _ (c.before.before.before.before.before.before.before.before.before.wait.ensures c.before.before.before.before.before.before.before.before.before.before.before.before.before.args.clocks.now c.before.before.before.before.before.before.before.before.before.before.before.before.before.args.views.now c.before.before.before.before.before.before.before.before.before.before.before.before.before.args.tally.now) (whole_of s.run c.before.before.before.before.before.before.before.before.before.before.before.before.before.requires.0.fit c.before.before.before.before.before.before.rest-arg2.given.0 c.before.before.before.before.rest-arg4.given.0) _ c.before.before.before.rest.ensures c.before.before.if2.true _ (c.leap.ensures c.before.before.before.before.before.before.before.before.before.before.before.before.before.args.views.now)
+    advance_leap s c.before.before.before.before.before.before.before.before.before.before.before.before.before.requires.0 c.before.before.before.before.before.before.before.before.before.before.before.before.before.args.most _ (c.before.before.before.before.before.before.before.before.before.wait.ensures c.before.before.before.before.before.before.before.before.before.before.before.before.before.args.clocks.now c.before.before.before.before.before.before.before.before.before.before.before.before.before.args.views.now c.before.before.before.before.before.before.before.before.before.before.before.before.before.args.tally.now) (whole_of s.run c.before.before.before.before.before.before.before.before.before.before.before.before.before.requires.0.fit c.before.before.before.before.before.before.rest-arg2.given.0 c.before.before.before.before.rest-arg4.given.0) _ c.before.before.before.rest.ensures c.before.before.if2.true _ (c.leap.ensures c.before.before.before.before.before.before.before.before.before.before.before.before.before.args.views.now)
 
 tick-once-requires : tie.Need-tick-once-requires
 tick-once-requires c κs =

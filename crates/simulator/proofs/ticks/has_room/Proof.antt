@@ -8,8 +8,8 @@ use Rattle.types.specs.declared.Run.{Run}
 use Rattle.model.specs.State.{State, state_of, run_from}
 use Rattle.model.specs.Moves.{advanced, arrival}
 use Rattle.pacemaker.proofs.LimitLaws.{within}
-use Rattle.simulator.specs.Inner.{arrivedBelow}
-use Rattle.simulator.proofs.Entries.{sent-few}
+use Rattle.simulator.specs.Inner.{arrived_below}
+use Rattle.simulator.proofs.Entries.{sent_few}
 use borrow.Author.Rules.{rules}
 use Rattle.simulator.proofs.ticks.has_room.Statement.{statement}
 use Rattle.simulator.proofs.ticks.has_room.Tie as tie
@@ -23,8 +23,8 @@ add-if1 c = omega (arith, c.before.requires.1)
 returns : tie.Need-returns
 returns c = λ t ws.
     let s : State = state_of (run_from c.before.before.args.head c.before.before.args.clocks.now c.before.before.args.views.now) t ws in
-    let fits : c.before.before.args.head.held + length (arrivedBelow s s.run.plan.n).sent ≤ c.before.before.args.room =
-    omega (arith, c.if1.true, sent-few (arrival (advanced s).run) (advanced s).run t s.run.plan.n, (within s.run.plan c.before.before.requires.0.fit.plan).n-most) in
+    let fits : c.before.before.args.head.held + length (arrived_below s s.run.plan.n).sent ≤ c.before.before.args.room =
+    omega (arith, c.if1.true, sent_few (arrival (advanced s).run) (advanced s).run t s.run.plan.n, (within s.run.plan c.before.before.requires.0.fit.plan).n_at_most) in
     sym (le-leb _ _ fits)
 
 foretell-requires : tie.Need-foretell-requires

@@ -12,7 +12,7 @@ use Rattle.types.proofs.Plan.clock_time.Reads as clock-time-reads
 use Rattle.types.proofs.Plan.next_initial.Reads as next-initial-reads
 
 add-clock : tie.Need-overflow-add-clock
-add-clock c = let x = sound c.before.args.plan c.before.args.processor c.before.requires.0 in omega (arith, x.before-end, end-most c.before.args.plan x.within)
+add-clock c = let x = sound c.before.args.plan c.before.args.processor c.before.requires.0 in omega (arith, x.before_end, end-most c.before.args.plan x.within)
 
 next-initial-requires : tie.Need-next-initial-requires
 next-initial-requires c κs = search rules

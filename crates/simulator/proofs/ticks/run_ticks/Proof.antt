@@ -2,7 +2,7 @@ use Rattle.simulator.proofs.Striding.{strides-none, strides-also, strides-rest, 
 use Rattle.simulator.proofs.Once.{ticks-ended, run-ended, run-done}
 use Rattle.simulator.proofs.Fitness.{fit_of, room_of}
 use Rattle.simulator.specs.Strides.{Strides}
-use Rattle.simulator.specs.Inner.{ranTo}
+use Rattle.simulator.specs.Inner.{ran_to}
 use Rattle.model.specs.Events.{ticks}
 use Rattle.model.specs.State.{State, state_of, run_from}
 use borrow.Author.Rules.{rules, zero≤}
@@ -72,7 +72,7 @@ returns-2 : tie.Need-returns-2 invariant-loop decreases-loop
 returns-2 c =
     let s₀ : State = state_of (run_from c.before.before.before.before.args.head c.before.before.before.before.args.clocks.now c.before.before.before.before.args.views.now) c.before.before.before.before.args.tally.now c.before.before.before.before.args.network.now in
     let e : c.before.loop.count ≡ c.before.before.before.before.args.m = omega arith in
-    run-done c.before.before.before.before.args.m c.before.loop.count s₀ c.before.loop.at _ _ _ _ c.before.before.before.before.requires.0 e (subst (λ (k : ℕ). ticks k s₀ ≡ ranTo (state_of (run_from c.before.loop.at c.before.loop.clocks c.before.loop.views) c.before.loop.tally c.before.loop.network) c.before.loop.count 0) e c.before.loop.invariant.1.ran)
+    run-done c.before.before.before.before.args.m c.before.loop.count s₀ c.before.loop.at _ _ _ _ c.before.before.before.before.requires.0 e (subst (λ (k : ℕ). ticks k s₀ ≡ ran_to (state_of (run_from c.before.loop.at c.before.loop.clocks c.before.loop.views) c.before.loop.tally c.before.loop.network) c.before.loop.count 0) e c.before.loop.invariant.1.ran)
 
 pub run-ticks-spec : {M : Type 1} → statement M
 run-ticks-spec =

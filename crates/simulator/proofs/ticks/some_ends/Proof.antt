@@ -1,4 +1,4 @@
-use Rattle.types.specs.Quantities.{endTime, correct}
+use Rattle.types.specs.Quantities.{end_time, correct}
 use mathlib.Core.Path.{◌≡◌, sym, ap, ◌∙◌}
 use mathlib.Core.Bool.{true, false}
 use mathlib.Core.Logic.{⊎_elim}
@@ -12,10 +12,10 @@ use Rattle.base.specs.Choice.{and_both, and-not-first, and-not-second}
 use Rattle.base.specs.Scan.{some}
 use Rattle.base.specs.ScanLaws.{some-start, some-on, some-here}
 use Rattle.types.specs.declared.Plan.{Plan}
-use Rattle.types.specs.PlanFunctions.{clockTimeWord}
+use Rattle.types.specs.PlanFunctions.{clock_time_word}
 use Rattle.model.specs.State.{run_from}
-use Rattle.model.specs.Checks.{planOutside, atEnd}
-use Rattle.pacemaker.proofs.LimitLaws.{within, gamma-positive, time-word}
+use Rattle.model.specs.Checks.{plan_outside, at_end}
+use Rattle.pacemaker.proofs.LimitLaws.{within, gamma_positive, time-word}
 use Rattle.simulator.specs.Inner.{ends_at}
 use Rattle.simulator.proofs.ticks.some_ends.Statement.{statement}
 use Rattle.simulator.proofs.ticks.some_ends.Tie as tie
@@ -25,22 +25,22 @@ use Rattle.types.proofs.Plan.correct.Reads as correct-reads
 use Rattle.types.proofs.Plan.end_time.Reads as end-time-reads
 
 -- the end, as the plan's own function gives it, and the clock time before it
-module _ (plan : Plan) (ok : planOutside plan ≡ false) (e : ℕ) (is : e ≡ clockTimeWord plan plan.views) where
-  end_is : e ≡ endTime plan
+module _ (plan : Plan) (ok : plan_outside plan ≡ false) (e : ℕ) (is : e ≡ clock_time_word plan plan.views) where
+  end_is : e ≡ end_time plan
   end_is = is ∙ time-word plan (within plan ok) plan.views (le_refl plan.views)
 
   end-positive : 0 < e
   end-positive =
       let l = within plan ok in
-      let views : 0 < plan.views = omega (arith, l.views-least) in
-      let product : 0 < plan.views * plan.gamma = mul-pos views (gamma-positive plan l) in
+      let views : 0 < plan.views = omega (arith, l.views_at_least) in
+      let product : 0 < plan.views * plan.gamma = mul-pos views (gamma_positive plan l) in
       omega (arith, end_is, product)
 
-  ends_next : (clock : ℕ) → e - 1 ≤ clock → atEnd plan (clock + 1) ≡ true
-  ends_next clock l = let reached : endTime plan ≤ clock + 1 = omega (arith, end_is, l) in le-leb _ _ reached
+  ends_next : (clock : ℕ) → e - 1 ≤ clock → at_end plan (clock + 1) ≡ true
+  ends_next clock l = let reached : end_time plan ≤ clock + 1 = omega (arith, end_is, l) in le-leb _ _ reached
 
-  goes-on-next : (clock : ℕ) → clock < e - 1 → atEnd plan (clock + 1) ≡ false
-  goes-on-next clock l = let before : clock + 1 < endTime plan = omega (arith, end_is, l) in lt-leb _ _ before
+  goes-on-next : (clock : ℕ) → clock < e - 1 → at_end plan (clock + 1) ≡ false
+  goes-on-next clock l = let before : clock + 1 < end_time plan = omega (arith, end_is, l) in lt-leb _ _ before
 
 abbrev invariant-loop : tie.invariant-loop
 invariant-loop head clocks n last q₀ q = (q ≤ head.plan.n) × ((v : List ℕ) → some (ends_at (run_from head clocks v)) q ≡ false)
@@ -58,10 +58,10 @@ loop-holds : tie.Need-loop-init invariant-loop decreases-loop
 loop-holds c = (zero≤, λ v. some-start (ends_at (run_from c.before.args.head c.before.args.clocks.now v)))
 
 mul-if1 : tie.Need-overflow-mul-if1 invariant-loop decreases-loop
-mul-if1 c = omega (arith, c.loop-test.true, (within c.before.before.before.args.head.plan c.before.before.before.requires).n-most)
+mul-if1 c = omega (arith, c.loop-test.true, (within c.before.before.before.args.head.plan c.before.before.before.requires).n_at_most)
 
 element-copy-out-if1 : tie.Need-element-copy-out-if1 invariant-loop decreases-loop
-element-copy-out-if1 c = omega (arith, c.loop-test.true, (within c.before.before.before.args.head.plan c.before.before.before.requires).n-most)
+element-copy-out-if1 c = omega (arith, c.loop-test.true, (within c.before.before.before.args.head.plan c.before.before.before.requires).n_at_most)
 
 correct-requires : tie.Need-correct-requires invariant-loop decreases-loop
 correct-requires c κs = search rules

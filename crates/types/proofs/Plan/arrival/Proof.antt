@@ -1,5 +1,5 @@
 use Rattle.types.proofs.PlanWords.{start-below, small-fits, small-next, small-arrival}
-use Rattle.types.specs.PlanFunctions.{clockTimeWord}
+use Rattle.types.specs.PlanFunctions.{clock_time_word}
 use native.Mathlib.Omega.{arith}
 use mathlib.Core.Path.{ap, ◌∙◌}
 use borrow.Author.Rules.{rules}
@@ -39,7 +39,7 @@ clock-time-requires : tie.Need-clock-time-requires
 clock-time-requires c κs = search rules
 
 returns-2 : tie.Need-returns-2
-returns-2 c = c.clock-time.ensures ∙ ap (clockTimeWord c.before.before.before.before.args.self) c.before.next-initial.ensures
+returns-2 c = c.clock-time.ensures ∙ ap (clock_time_word c.before.before.before.before.args.self) c.before.next-initial.ensures
 
 pub arrival-spec : {M : Type 1} → statement M
 arrival-spec =

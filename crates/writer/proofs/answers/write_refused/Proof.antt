@@ -1,4 +1,4 @@
-use Rattle.lines.specs.Printout.{answerForm}
+use Rattle.lines.specs.Printout.{answer_form}
 use Rattle.std.proofs.Common.{rules}
 use Rattle.writer.proofs.answers.write_refused.Statement.{statement}
 use Rattle.writer.proofs.answers.write_refused.Tie as tie
@@ -19,7 +19,7 @@ same_length : tie.Need-same-length
 same_length c = search rules
 
 returns : tie.Need-returns
-unfolding answerForm
+unfolding answer_form
 returns c = c.before.before.write-numbers.ensures
 
 pub write-refused-spec : {M : Type 1} → statement M

@@ -1,4 +1,4 @@
-use Rattle.lines.specs.Forms.{eventForm}
+use Rattle.lines.specs.Forms.{event_form}
 use Rattle.std.proofs.Common.{rules}
 use Rattle.writer.proofs.events.put_event.Statement.{statement}
 use Rattle.writer.proofs.events.put_event.Tie as tie
@@ -15,7 +15,7 @@ slice-aggregate-put-carrying : tie.Need-slice-aggregate-put-carrying
 slice-aggregate-put-carrying c = search rules
 
 put-carrying-requires : tie.Need-put-carrying-requires
-unfolding eventForm
+unfolding event_form
 put-carrying-requires c κs = rw c.before.before.before.event.given.1 at c.before.before.before.before.before.before.requires
 
 enum-known-event-2 : tie.Need-enum-known-event-2
@@ -25,7 +25,7 @@ slice-aggregate-put-carrying-2 : tie.Need-slice-aggregate-put-carrying-2
 slice-aggregate-put-carrying-2 c = search rules
 
 put-carrying-requires-2 : tie.Need-put-carrying-requires-2
-unfolding eventForm
+unfolding event_form
 put-carrying-requires-2 c κs = rw c.before.before.before.event2.given.1 at c.before.before.before.before.before.before.requires
 
 enum-known-event-3 : tie.Need-enum-known-event-3
@@ -35,7 +35,7 @@ slice-aggregate-put-carrying-3 : tie.Need-slice-aggregate-put-carrying-3
 slice-aggregate-put-carrying-3 c = search rules
 
 put-carrying-requires-3 : tie.Need-put-carrying-requires-3
-unfolding eventForm
+unfolding event_form
 put-carrying-requires-3 c κs = rw c.before.before.before.event3.given.1 at c.before.before.before.before.before.before.requires
 
 enum_told : tie.Need-enum-told
@@ -45,7 +45,7 @@ slice-aggregate-put-word : tie.Need-slice-aggregate-put-word
 slice-aggregate-put-word c = search rules
 
 put-word-requires : tie.Need-put-word-requires
-unfolding eventForm
+unfolding event_form
 put-word-requires c κs = rw c.before.before.enum_told.given.1 at c.before.before.before.before.before.requires
 
 enum-known-event-4 : tie.Need-enum-known-event-4
@@ -58,28 +58,28 @@ same_length : tie.Need-same-length
 same_length c = search rules
 
 returns : tie.Need-returns
-unfolding eventForm
+unfolding event_form
 returns c = rw c.before.before.before.before.before.before.event.given.1 c.before.before.put-carrying.ensures
 
 same-length-2 : tie.Need-same-length-2
 same-length-2 c = search rules
 
 returns-2 : tie.Need-returns-2
-unfolding eventForm
+unfolding event_form
 returns-2 c = rw c.before.before.before.before.before.before.event2.given.1 c.before.before.put-carrying2.ensures
 
 same-length-3 : tie.Need-same-length-3
 same-length-3 c = search rules
 
 returns-3 : tie.Need-returns-3
-unfolding eventForm
+unfolding event_form
 returns-3 c = rw c.before.before.before.before.before.before.event3.given.1 c.before.before.put-carrying3.ensures
 
 same-length-4 : tie.Need-same-length-4
 same-length-4 c = search rules
 
 returns-4 : tie.Need-returns-4
-unfolding eventForm
+unfolding event_form
 returns-4 c = rw c.before.before.before.before.before.enum_told.given.1 c.before.before.put_word.ensures
 
 same-length-5 : tie.Need-same-length-5

@@ -1,4 +1,4 @@
-use Rattle.lines.specs.Forms.{messageForm}
+use Rattle.lines.specs.Forms.{message_form}
 use Rattle.writer.proofs.Stamping.{room-first, room-second, written_then, written_last}
 use Rattle.std.proofs.Common.{rules}
 use Rattle.writer.proofs.events.put_message.Statement.{statement}
@@ -12,36 +12,36 @@ use Rattle.writer.proofs.pieces.put_byte.Reads as put-byte-reads
 use Rattle.writer.proofs.pieces.put_spaced.Reads as put-spaced-reads
 
 put-byte-requires : tie.Need-put-byte-requires
-unfolding messageForm
+unfolding message_form
 put-byte-requires c κs = room-first _ _ c.before.before.requires
 
 put-kind-requires : tie.Need-put-kind-requires
-unfolding messageForm
+unfolding message_form
 put-kind-requires c κs = room-first _ _ (room-second _ c.before.before.before.put_byte.ensures c.before.before.before.before.before.before.requires)
 
 view-requires : tie.Need-view-requires
 view-requires c κs = search rules
 
 put-spaced-requires : tie.Need-put-spaced-requires
-unfolding messageForm
+unfolding message_form
 put-spaced-requires c κs = rw c.view.ensures (room-first _ _ (room-second _ c.before.before.before.before.put-kind.ensures (room-second _ c.before.before.before.before.before.before.before.before.put_byte.ensures c.before.before.before.before.before.before.before.before.before.before.before.requires)))
 
 processor-requires : tie.Need-processor-requires
 processor-requires c κs = search rules
 
 put-spaced-requires-2 : tie.Need-put-spaced-requires-2
-unfolding messageForm
+unfolding message_form
 put-spaced-requires-2 c κs = rw c.processor.ensures (room-first _ _ (room-second _ (rw c.before.before.before.before.before.view.ensures at c.before.before.before.before.put-spaced.ensures) (room-second _ c.before.before.before.before.before.before.before.before.before.put-kind.ensures (room-second _ c.before.before.before.before.before.before.before.before.before.before.before.before.before.put_byte.ensures c.before.before.before.before.before.before.before.before.before.before.before.before.before.before.before.before.requires))))
 
 put-byte-requires-2 : tie.Need-put-byte-requires-2
-unfolding messageForm
+unfolding message_form
 put-byte-requires-2 c κs = room-second _ (rw c.before.before.before.before.processor.ensures at c.before.before.before.put-spaced2.ensures) (room-second _ (rw c.before.before.before.before.before.before.before.before.before.view.ensures at c.before.before.before.before.before.before.before.before.put-spaced.ensures) (room-second _ c.before.before.before.before.before.before.before.before.before.before.before.before.before.put-kind.ensures (room-second _ c.before.before.before.before.before.before.before.before.before.before.before.before.before.before.before.before.before.put_byte.ensures c.before.before.before.before.before.before.before.before.before.before.before.before.before.before.before.before.before.before.before.before.requires)))
 
 same_length : tie.Need-same-length
 same_length c = search rules
 
 returns : tie.Need-returns
-unfolding messageForm
+unfolding message_form
 returns c =
     written_then _ c.before.before.before.before.before.before.before.before.before.before.before.before.before.before.before.before.before.before.before.before.put_byte.ensures
     (written_then _ c.before.before.before.before.before.before.before.before.before.before.before.before.before.before.before.before.put-kind.ensures

@@ -1,6 +1,6 @@
 use Rattle.std.proofs.Common.{[], ◌∷◌, ◌++◌, ◌∙◌, arith, rules}
-use Rattle.lines.specs.Printout.{trafficWord, allWord, waitsWord}
-use Rattle.lines.specs.Forms.{oneBlank}
+use Rattle.lines.specs.Printout.{traffic_word, all_word, waits_word}
+use Rattle.lines.specs.Forms.{one_blank}
 use Rattle.writer.proofs.Reporting.{line_as, six-stamped}
 use Rattle.writer.proofs.totals.put_traffic.Statement.{statement}
 use Rattle.writer.proofs.totals.put_traffic.Tie as tie
@@ -63,8 +63,8 @@ same_length c = c.before.before.put-line.auto.0 ∙ c.before.before.before.befor
 
 returns : tie.Need-returns
 returns c = six-stamped c.before.before.before.before.before.before.before.before.before.before.before.before.before.before.before.before.before.before.before.before.before.before.before.before.before.before.before.before.before.before.before.put-kind.ensures.0 c.before.before.before.before.before.before.before.before.before.before.before.before.before.before.before.before.before.before.before.before.before.before.before.before.before.before.put-kind2.ensures.0 c.before.before.before.before.before.before.before.before.before.before.before.before.before.before.before.before.before.before.before.before.before.put-kind3.ensures.0 c.before.before.before.before.before.before.before.before.before.before.before.before.before.before.before.before.put-kind4.ensures.0
-    (line_as (trafficWord ++ oneBlank ++ allWord) (λ i. c.before.before.before.before.before.before.before.before.before.before.add-all2.ensures i ∷ c.before.before.before.before.before.before.before.before.before.before.before.before.before.add-all.ensures i ∷ c.before.before.before.before.before.before.before.before.before.add-all3.ensures i ∷ []) c.before.before.before.before.before.before.before.before.put-kind5.ensures.0)
-    (line_as waitsWord (λ i. c.before.before.before.before.before.before.before.before.before.before.before.before.before.before.before.before.before.before.before.before.before.before.before.before.before.before.before.before.before.before.before.before.before.before.before.before.before.args.traffic.waits ∷ c.before.before.before.before.before.before.before.before.before.before.before.before.before.add-all.ensures i ∷ []) c.before.before.put-line.ensures.0)
+    (line_as (traffic_word ++ one_blank ++ all_word) (λ i. c.before.before.before.before.before.before.before.before.before.before.add-all2.ensures i ∷ c.before.before.before.before.before.before.before.before.before.before.before.before.before.add-all.ensures i ∷ c.before.before.before.before.before.before.before.before.before.add-all3.ensures i ∷ []) c.before.before.before.before.before.before.before.before.put-kind5.ensures.0)
+    (line_as waits_word (λ i. c.before.before.before.before.before.before.before.before.before.before.before.before.before.before.before.before.before.before.before.before.before.before.before.before.before.before.before.before.before.before.before.before.before.before.before.before.before.args.traffic.waits ∷ c.before.before.before.before.before.before.before.before.before.before.before.before.before.add-all.ensures i ∷ []) c.before.before.put-line.ensures.0)
 
 pub put-traffic-spec : {M : Type 1} → statement M
 put-traffic-spec =

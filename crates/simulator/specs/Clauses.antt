@@ -5,10 +5,10 @@ use Rattle.types.specs.declared.Setup.{Setup}
 use Rattle.model.specs.State.{State, After}
 use Rattle.model.specs.Opening.{opening}
 use Rattle.model.specs.Events.{applied}
-use Rattle.model.specs.Checks.{unsoundForGood}
-use Rattle.words.specs.Batches.{wordsApplied}
-use Rattle.loads.specs.Loads.{Point, point_of, furtherLoad}
-use Rattle.loads.specs.Contracts.{PutLoad}
+use Rattle.model.specs.Checks.{unsound_for_good}
+use Rattle.words.specs.Batches.{words_applied}
+use Rattle.loads.specs.Loads.{Point, point_of, further_load}
+use Rattle.loads.specs.Clauses.{PutLoad}
 use Rattle.simulator.specs.declared.Piece.{Piece}
 
 -- that an opening of the setup u, with the run and the lent buffers s at hand, left and answered a: the run and every word of both buffers are
@@ -23,11 +23,11 @@ Applies e s a = a ≡ applied e s
 -- that the events in the words ws, applied one after the other to the run and the lent buffers s, whatever they hold, left s' and their answers
 -- in their places, ws'
 abbrev pub AppliesAll : List ℕ → State → State → List ℕ → Type 0
-AppliesAll ws s s' ws' = record { state = s'; words = ws' } ≡ wordsApplied ws s
+AppliesAll ws s s' ws' = record { state = s'; words = ws' } ≡ words_applied ws s
 
 -- that a load went on from x, up to so many steps, in the lent bytes `out`: it left the run and the lent buffers s', r and the bytes `after`. A run
 -- that is unsound, but for its time, answers 9
 abbrev pub WritesLoad : ℕ → ℕ → Point → List ℕ → State → Piece → List ℕ → Type 0
 WritesLoad steps settle x out s' r after =
-    PutLoad (furtherLoad steps settle x (length out)) out (point_of s' r.seed r.step) r.full r.bytes after
-    × (r.check ≡ cond (unsoundForGood x.state) 9 0)
+    PutLoad (further_load steps settle x (length out)) out (point_of s' r.seed r.step) r.full r.bytes after
+    × (r.check ≡ cond (unsound_for_good x.state) 9 0)

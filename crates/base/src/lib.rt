@@ -1,4 +1,6 @@
 // Sets of processors below 64, each one 64-bit number with bit p for processor p; and quotients.
+#![tactic(auto)]
+
 pub mod quotients;
 
 ghost use Rattle.std.specs.Prelude.{◌≡◌};

@@ -1,5 +1,6 @@
 // The two lent buffers: the tally, four 64-bit words a view, and the network, two words a message; four in the wide form, which runs are carried over
 // from and to.
+#![tactic(auto)]
 ghost use Rattle.std.specs.Prelude.{◌≡◌, true, cond, [], ◌∷◌, ◌++◌, ◌+◌, ◌*◌, ◌^◌, ◌<◌, ◌≤◌, length, take, drop};
 ghost use Rattle.base.specs.Scan.{first};
 ghost use Rattle.base.specs.Sets.{member};
@@ -297,7 +298,7 @@ pub fn remove(network: &mut [u64], held: usize, i: usize)
 }
 
 // What the words of the network say at a place: a message, or none, where the kind is no message's or so many do not fit.
-#[derive(Drop)]
+#[derive(Clone, Copy)]
 pub enum Stored {
     Holds(Message),
     Unknown,

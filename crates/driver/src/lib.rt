@@ -1,4 +1,5 @@
 // The simulate program but for its reading and writing of files: lines in, printed answers out.
+#![tactic(auto)]
 mod batches;
 mod printing;
 mod replies;
@@ -21,28 +22,28 @@ pub const PRINTED_MOST: usize = 73;
 pub const CLOSING_MOST: usize = 4745;
 
 // What a line left of the session, and the answer in the lent bytes: how many of them, or check 1 where too few are lent.
-#[derive(Drop)]
+#[derive(Clone, Copy)]
 pub struct Replied {
     pub session: Session,
     pub written: Written,
 }
 
 // The next line, in numbers: how many bytes it has with its newline, or 0 where no batch may have it.
-#[derive(Drop)]
+#[derive(Clone, Copy)]
 pub(crate) struct Noted {
     pub(crate) used: usize,
     pub(crate) numbers: Numbers,
 }
 
 // Lines that stand in a batch: how many, and the bytes that they have.
-#[derive(Drop)]
+#[derive(Clone, Copy)]
 pub(crate) struct Gathered {
     pub(crate) count: usize,
     pub(crate) used: usize,
 }
 
 // What bytes of an input left, the run's tables being lent: as `Served`.
-#[derive(Drop)]
+#[derive(Clone, Copy)]
 pub(crate) struct Turned {
     pub(crate) opened: bool,
     pub(crate) head: Head,

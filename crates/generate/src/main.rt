@@ -1,4 +1,5 @@
 // The generate program: a load out of a seed number, on standard output. What is refused, and wrong arguments, are told on standard error.
+#![tactic(auto)]
 mod pieces;
 
 use libc::{STDERR_FILENO, STDOUT_FILENO};

@@ -8,7 +8,7 @@ use types::Setup;
 use workload::Generated;
 
 // What a load that was written leaves: the check that refused its opening, or 0, and its last piece.
-#[derive(Drop)]
+#[derive(Clone, Copy)]
 pub struct WrittenLoad {
     pub check: u64,
     pub last: Generated,

@@ -1,4 +1,5 @@
 // What lines of a schedule are, and where the next one ends.
+#![tactic(auto)]
 pub mod search;
 
 ghost use Rattle.std.specs.Prelude.{◌≡◌};
@@ -7,7 +8,7 @@ ghost use Rattle.lines.specs.Splitting.{before_newline, next_line};
 use types::Event;
 
 // What a line is read as: an event, an opening, whose setup is read by itself, or none of the forms (check 1).
-#[derive(Drop)]
+#[derive(Clone, Copy)]
 pub enum Read {
     Event(Event),
     Opening,
@@ -15,7 +16,7 @@ pub enum Read {
 }
 
 // The answer to writing a line: the bytes written, its newline among them, or the check.
-#[derive(Drop)]
+#[derive(Clone, Copy)]
 pub enum Written {
     Bytes(usize),
     Refused(u64),
@@ -23,7 +24,7 @@ pub enum Written {
 
 // The next line within the bytes at hand. Line: it ends before the newline at the place named. Long: so it does, but it has more bytes than a line may
 // have. Unfinished: no newline is at hand. Endless: none, and already more bytes than a line may have.
-#[derive(Drop)]
+#[derive(Clone, Copy)]
 pub enum Next {
     Line(usize),
     Long(usize),

@@ -35,10 +35,10 @@ module _ (to : Form) where
   laid_from h zero = []
   laid_from h (suc k) = laid_from h k ++ held_words to (h k)
 
-  laid_out : (s : State) (k : ℕ) → laid_out to s k ≡ laid_from (held_in s) k
+  laid_out-from : (s : State) (k : ℕ) → laid_out to s k ≡ laid_from (held_in s) k
   unfolding laid_from
-  laid_out s zero = refl
-  laid_out s (suc k) = ap (λ (l : List ℕ). l ++ held_words to (held_in s k)) (laid_out s k)
+  laid_out-from s zero = refl
+  laid_out-from s (suc k) = ap (λ (l : List ℕ). l ++ held_words to (held_in s k)) (laid_out-from s k)
 
   from_first : (h : ℕ → Held) (k : ℕ) → laid_from h (suc k) ≡ held_words to (h 0) ++ laid_from (λ i. h (suc i)) k
   unfolding laid_from
@@ -66,7 +66,7 @@ module _ (to : Form) where
     where
       words : laid_out to s s.run.held ≡ all_words to xs
       words =
-          laid_out s s.run.held ∙ ap₂ (λ (ws : List ℕ) (k : ℕ). laid_from (held_at s.form ws) k) wire.words wire.number
+          laid_out-from s s.run.held ∙ ap₂ (λ (ws : List ℕ) (k : ℕ). laid_from (held_at s.form ws) k) wire.words wire.number
           ∙ in-flight s.form xs wire.spare named
 
   carried-length : (s : State) {xs : List Sent} → Wire s.form s.network s.run.held xs → Named xs → (len : ℕ) → width to * s.run.held ≤ len

@@ -180,7 +180,7 @@ module _ (s : State) (ok : Planned s.run.plan s.run.faulty) (x : Tracked s.run.p
 pub at-own-plan {κ} : (Q : (plan : Plan) (faulty : ℕ) (ok : Planned plan faulty) (s : State) → Tracked plan faulty ok s → Type κ)
     → ((s : State) (ok : Planned s.run.plan s.run.faulty) (x : Tracked s.run.plan s.run.faulty ok s) → Q s.run.plan s.run.faulty ok s x)
     → (plan : Plan) (faulty : ℕ) (ok : Planned plan faulty) (s : State) (x : Tracked plan faulty ok s) → Q plan faulty ok s x
-at-own-plan Q h plan faulty ok s x =
+at-own-plan Q h _ faulty ok s x =
     path_j (λ (pl : Plan) _. (fa : ℕ) → s.run.faulty ≡ fa → (o : Planned pl fa) (y : Tracked pl fa o s) → Q pl fa o s y)
     (λ fa e. path_j (λ (fa' : ℕ) _. (o : Planned s.run.plan fa') (y : Tracked s.run.plan fa' o s) → Q s.run.plan fa' o s y) (λ o y. h s o y) e)
     x.plan_is faulty x.faulty_is ok x

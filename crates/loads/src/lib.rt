@@ -1,4 +1,5 @@
 // What a load out of a seed number does next: the draws, and the event that they choose.
+#![tactic(auto)]
 ghost use Rattle.std.specs.Prelude.{◌≡◌, ℕ, ◌*◌, ◌%◌, ◌^◌, not, ◌&&◌, List, if◌then◌else◌, ◌==◌};
 ghost use Rattle.base.specs.Scan.{first};
 ghost use Rattle.types.specs.Runs.{is_settled};
@@ -12,7 +13,7 @@ use buffers::Stored;
 use types::{Event, Form, Head, Plan};
 
 // The next event of a load, the seed after it, and how many steps it is: 1, or 0 where the load settles.
-#[derive(Drop)]
+#[derive(Clone, Copy)]
 pub struct Turn {
     pub event: Event,
     pub seed: u64,

@@ -1,4 +1,5 @@
 // The types of the state of the simulate program and of the traffic program.
+#![tactic(auto)]
 ghost use Rattle.std.specs.Prelude.{◌≡◌};
 ghost use Rattle.printout.specs.Printout.{unopened_session};
 
@@ -10,7 +11,7 @@ pub const TALLY_LENT: usize = 3600;
 pub const NETWORK_LENT: usize = 2048;
 
 // The state of the program but for the lent buffers: whether a run is open, and the run.
-#[derive(Drop)]
+#[derive(Clone, Copy)]
 pub struct Session {
     pub opened: bool,
     pub run: Run,
@@ -46,7 +47,7 @@ impl Session {
 
 // What bytes of an input left: the session, whether more bytes than a line may have were passed over since the last newline, how many bytes were
 // used, and how many printed.
-#[derive(Drop)]
+#[derive(Clone, Copy)]
 pub struct Served {
     pub session: Session,
     pub late: bool,

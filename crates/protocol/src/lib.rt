@@ -1,1 +1,2 @@
 // That the Fever pacemaker is live, proved of its small transitions, all in specs/.
+#![tactic(auto)]

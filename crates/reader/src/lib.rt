@@ -1,4 +1,5 @@
 // Reading one line of a schedule: any bytes in, the event, that it is an opening or none of the forms; and an opening's setup.
+#![tactic(auto)]
 ghost use Rattle.std.specs.Prelude.{◌≡◌, ◌+◌, ◌-◌, ◌/◌, ◌≤◌, length, drop};
 ghost use Rattle.types.specs.Quantities.{n_most};
 ghost use Rattle.lines.specs.Decimal.{field_limit};
@@ -15,7 +16,7 @@ use types::{Event, Message, Plan, Setup};
 // ---- bytes
 
 // What a byte is to the reader.
-#[derive(Drop)]
+#[derive(Clone, Copy)]
 enum Class {
     Digit(u64),
     OpenBracket,
@@ -55,7 +56,7 @@ fn class_at(s: &[u8], at: usize) -> Class
 // ---- words
 
 // The place after something, if that stands there.
-#[derive(Drop)]
+#[derive(Clone, Copy)]
 enum After {
     At(usize),
     Away,
@@ -112,7 +113,7 @@ fn after_word(s: &[u8], at: usize, word: &[u8]) -> After
 // ---- numbers
 
 // A number, and the place after it.
-#[derive(Drop)]
+#[derive(Clone, Copy)]
 enum Number {
     Value(u64, usize),
     NoNumber,
@@ -175,7 +176,7 @@ fn next_number(s: &[u8], at: usize) -> Number
 }
 
 // How many numbers stand in a series, and the place after them.
-#[derive(Drop)]
+#[derive(Clone, Copy)]
 struct Several {
     count: usize,
     end: usize,
@@ -206,7 +207,7 @@ fn read_several(s: &[u8], at: usize, numbers: &mut [u64]) -> Several
 
 // ---- messages
 
-#[derive(Drop)]
+#[derive(Clone, Copy)]
 enum Kind {
     View,
     Vote,
@@ -215,14 +216,14 @@ enum Kind {
 }
 
 // A kind, and the place after its word.
-#[derive(Drop)]
+#[derive(Clone, Copy)]
 enum KindFound {
     Is(Kind, usize),
     NoKind,
 }
 
 // A message, and the place after it.
-#[derive(Drop)]
+#[derive(Clone, Copy)]
 enum Said {
     Told(Message, usize),
     NoMessage,
@@ -368,14 +369,14 @@ fn read_event(s: &[u8], at: usize) -> Read
 // ---- the opening
 
 // A plan and a faulty set, and the place after them.
-#[derive(Drop)]
+#[derive(Clone, Copy)]
 enum Heading {
     Parameters(Plan, u64, usize),
     NoHeading,
 }
 
 // A table's clocks, and the place after it.
-#[derive(Drop)]
+#[derive(Clone, Copy)]
 struct Table {
     end: After,
     clocks: [u64; 64],
@@ -560,7 +561,7 @@ pub fn read_line(line: &[u8]) -> Read
 // ---- a number by itself
 
 // What a whole text is read as: the number whose decimal it is, or none.
-#[derive(Drop)]
+#[derive(Clone, Copy)]
 pub enum Decimal {
     Is(u64),
     NoDecimal,

@@ -1,4 +1,5 @@
 // The simulate program: a schedule on standard input, its printout on standard output.
+#![tactic(auto)]
 use libc::{STDIN_FILENO, STDOUT_FILENO};
 
 fn main() {

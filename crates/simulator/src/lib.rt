@@ -1,5 +1,6 @@
 // The simulator: a setup is opened, and each event moves the run and the lent buffers exactly as the definitions say. Whatever is handed in gets
 // either the step or a refusal by the first check that fails, and a refused call has changed nothing.
+#![tactic(auto)]
 mod events;
 mod moves;
 mod opening;
@@ -19,7 +20,7 @@ use types::{
 
 // What a message or a tick makes of the processor that it reaches. Of a signature it says whether the leader forms the certificate; of a
 // certificate or a tick, the processor's next state and what it sends, or that its clock would reach the end.
-#[derive(Drop)]
+#[derive(Clone, Copy)]
 pub(crate) struct Reaction {
     pub(crate) formed: bool,
     pub(crate) processor: Processor,
@@ -29,7 +30,7 @@ pub(crate) struct Reaction {
 
 // A piece of a load: where the load stands after it, the bytes written, and whether more of them are needed; check 9 where nothing is chosen on
 // the run, else 0.
-#[derive(Drop)]
+#[derive(Clone, Copy)]
 pub struct Piece {
     pub head: Head,
     pub seed: u64,
@@ -41,7 +42,7 @@ pub struct Piece {
 
 // What an event's input comes to: a check that refuses it; a head that is left, all else being as it was; a message to be handled, and the place
 // where it is held, or how many are held where it is not one of them; or ticks to be run.
-#[derive(Drop)]
+#[derive(Clone, Copy)]
 pub(crate) enum Task {
     Refuse(u64),
     Finish(Head),

@@ -179,7 +179,7 @@ fn arrive_all(
 }
 
 // What ticks leave of the run, how many were done, and the check that refuses the next one, or 0.
-#[derive(Drop)]
+#[derive(Clone, Copy)]
 struct Ticked {
     head: Head,
     count: u64,

@@ -1,5 +1,6 @@
 // The simulate program and the traffic program between two open files. What is read and what is printed are the driver's; here bytes are moved, and a
 // report is printed.
+#![tactic(auto)]
 ghost use Rattle.std.specs.Prelude.{◌≡◌, cond, ◌+◌, ◌-◌, ◌≤◌, length, take, drop, replicate};
 ghost use Rattle.lines.specs.Clauses.{Prints};
 ghost use Rattle.lines.specs.Printout.{printed_most, totals_most};
@@ -12,7 +13,7 @@ use lines::Written;
 use printout::Session;
 
 // The session, whether bytes of a line that is too long were passed over, and a number of bytes: used, or left unused at the start of the window.
-#[derive(Drop)]
+#[derive(Clone, Copy)]
 struct Progress {
     session: Session,
     late: bool,

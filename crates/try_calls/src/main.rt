@@ -1,5 +1,6 @@
 // Answers the schedule of its input in three ways: by `answer_lines` over pieces of it, by `answer_line`, and by `open` and `apply`. For each a line
 // with its name, and the printout.
+#![tactic(auto)]
 ghost use Rattle.std.specs.Prelude.{◌≤◌, ◌<◌, length};
 
 use libc::{STDIN_FILENO, STDOUT_FILENO};

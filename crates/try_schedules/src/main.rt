@@ -1,4 +1,5 @@
 // Runs the schedules that its arguments name, as simulate does: for each a line with its name, and the printout.
+#![tactic(auto)]
 use libc::STDOUT_FILENO;
 
 fn say(text: &[u8]) {

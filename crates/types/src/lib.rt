@@ -1,4 +1,5 @@
 // The types of the product, declared once, and their own functions.
+#![tactic(auto)]
 ghost use Rattle.std.specs.Prelude.{◌≡◌, true};
 ghost use Rattle.types.specs.Quantities.{tolerated, per_leader, turns_over, turn_start, initial, correct, width};
 ghost use Rattle.types.specs.Messages.{kind_of, view_in, processor_in, stage_of, is_signature, lacks_form};
@@ -7,7 +8,7 @@ ghost use Rattle.types.specs.Runs.{settled_as, run_from, head_of};
 ghost use Rattle.types.specs.PlanFunctions.{lead_word, next_initial_word, clock_time_word, addressee_word, arrival_time, Small};
 
 // The protocol's parameters (document 01: the plan): processors, delay, slot, view limit, views per leader.
-#[derive(Drop)]
+#[derive(Clone, Copy)]
 pub struct Plan {
     pub n: u64,
     pub delta: u64,
@@ -169,7 +170,7 @@ impl Plan {
 }
 
 // A message: its view, then the processor, which is the sender of a view message or vote and the receiver of a certificate.
-#[derive(Drop)]
+#[derive(Clone, Copy)]
 pub enum Message {
     View(u64, u64),
     Vote(u64, u64),
@@ -250,7 +251,7 @@ impl Message {
 }
 
 // How a message in flight stands in the network's words: four of them (document 01), or two (document 02), in which they are held now.
-#[derive(Drop)]
+#[derive(Clone, Copy)]
 pub enum Form {
     Wide,
     Packed,
@@ -275,7 +276,7 @@ impl Form {
 
 // What happens next (document 01: the forms of a line, but for the opening): a message is delivered, a faulty processor signs, the
 // adversary shows a certificate, the network settles, time passes.
-#[derive(Drop)]
+#[derive(Clone, Copy)]
 pub enum Event {
     Deliver(Message),
     Sign(Message),
@@ -300,7 +301,7 @@ impl Event {
 }
 
 // An initial configuration (document 01: what the opening form carries; the clocks are its table).
-#[derive(Drop)]
+#[derive(Clone, Copy)]
 pub struct Setup {
     pub plan: Plan,
     pub faulty: u64,
@@ -308,7 +309,7 @@ pub struct Setup {
 }
 
 // So many messages of each kind.
-#[derive(Drop)]
+#[derive(Clone, Copy)]
 pub struct Counts {
     pub views: u64,
     pub votes: u64,
@@ -331,7 +332,7 @@ impl Counts {
 }
 
 // What was sent and what was delivered since the opening, and the sum of the times that the delivered ones were in flight; all modulo 2^64.
-#[derive(Drop)]
+#[derive(Clone, Copy)]
 pub struct Traffic {
     pub sent: Counts,
     pub delivered: Counts,
@@ -352,7 +353,7 @@ impl Traffic {
 }
 
 // A run's traffic, and the messages in flight; or the check that refuses to tell it.
-#[derive(Drop)]
+#[derive(Clone, Copy)]
 pub struct Totals {
     pub check: u64,
     pub traffic: Traffic,
@@ -360,7 +361,7 @@ pub struct Totals {
 }
 
 // The execution so far, without the lent buffers.
-#[derive(Drop)]
+#[derive(Clone, Copy)]
 pub struct Run {
     pub plan: Plan,
     pub faulty: u64,
@@ -375,7 +376,7 @@ pub struct Run {
 
 // The execution so far but for its two tables, which are lent beside it: so nothing large is handed from function to function.
 // Whether the network has settled is a number, 1 or another: a flag among numbers is slow to copy.
-#[derive(Drop)]
+#[derive(Clone, Copy)]
 pub struct Head {
     pub plan: Plan,
     pub faulty: u64,
@@ -436,7 +437,7 @@ pub fn gather(head: Head, clocks: &[u64; 64], views: &[u64; 64]) -> Run
 
 // The answer to an opening or an event. Done: ticks done, messages held. Stopped: the same, and the check that ended the ticks.
 // Refused: the first check whose sentence holds.
-#[derive(Drop)]
+#[derive(Clone, Copy)]
 pub enum Answer {
     Done(u64, usize),
     Stopped(u64, usize, u64),
@@ -444,21 +445,21 @@ pub enum Answer {
 }
 
 // What a call leaves of the run, and its answer.
-#[derive(Drop)]
+#[derive(Clone, Copy)]
 pub struct Applied {
     pub run: Run,
     pub answer: Answer,
 }
 
 // The same, the run's tables being lent.
-#[derive(Drop)]
+#[derive(Clone, Copy)]
 pub struct AppliedHead {
     pub head: Head,
     pub answer: Answer,
 }
 
 // One processor's own record (document 01: what is lent at the cabinet's own face).
-#[derive(Drop)]
+#[derive(Clone, Copy)]
 pub struct Processor {
     pub number: u64,
     pub clock: u64,
@@ -466,7 +467,7 @@ pub struct Processor {
 }
 
 // What reaches one processor: a tick of its clock, or a certificate for a view.
-#[derive(Drop)]
+#[derive(Clone, Copy)]
 pub enum Input {
     Tick,
     Vc(u64),
@@ -474,7 +475,7 @@ pub enum Input {
 }
 
 // The messages that a processor sends in one move, for the view named.
-#[derive(Drop)]
+#[derive(Clone, Copy)]
 pub enum Sends {
     Nothing,
     Vote(u64),
@@ -482,7 +483,7 @@ pub enum Sends {
 }
 
 // The answer of one processor.
-#[derive(Drop)]
+#[derive(Clone, Copy)]
 pub enum Stepped {
     Sent(Sends),
     Refused(u64),

@@ -1,4 +1,5 @@
 // Events and their answers in words, four each: how a list of events is lent, and what is left in its place.
+#![tactic(auto)]
 ghost use Rattle.std.specs.Prelude.{◌≡◌};
 ghost use Rattle.model.specs.State.{check_of, ticks_of};
 ghost use Rattle.buffers.specs.Kinds.{stored_as};
@@ -11,7 +12,7 @@ use types::{Answer, Event, Message};
 pub const EVENT_WORDS: usize = 4;
 
 // An event in numbers. Form: 1 deliver, 2 sign, 3 show, 4 settle, 5 tick.
-#[derive(Drop)]
+#[derive(Clone, Copy)]
 pub struct Numbers {
     pub form: u64,
     pub kind: u64,

@@ -1,4 +1,5 @@
 // Loads out of a seed number: a run is opened and moved by events that the seed chooses, and the lines of a schedule are written that does the same.
+#![tactic(auto)]
 ghost use Rattle.std.specs.Prelude.{◌≡◌, cond, length};
 ghost use Rattle.model.specs.State.{state_of, check_of};
 ghost use Rattle.model.specs.Checks.{unsound_for_good};
@@ -11,7 +12,7 @@ use types::{Run, Setup};
 
 // What a load, or a piece of it, leaves: the run; where it stands, by its seed and its next step; the bytes written, and whether more of them are
 // needed; and the check that refused it, or 0.
-#[derive(Drop)]
+#[derive(Clone, Copy)]
 pub struct Generated {
     pub run: Run,
     pub seed: u64,

@@ -1,0 +1,12 @@
+use Rattle.lines.proofs.Newlines.{none_here, first-here, none_at_all}
+use Prim.Native.Nat.{◌-◌}
+use Rattle.lines.proofs.before_newline.Goals as goal
+
+pub returns-then-bytes-i-eq10 : goal.returns-then-bytes-i-eq10
+returns-then-bytes-i-eq10 c = first-here _ _ c.loop-i.invariant c.loop-i-test.true c.if-bytes-i-eq10.true
+
+pub loop-i-preserved : goal.loop-i-preserved
+loop-i-preserved c = none_here _ _ c.loop-i.invariant c.loop-i-test.true c.if-bytes-i-eq10.false
+
+pub returns : goal.returns
+returns c = none_at_all _ _ c.loop-i.invariant c.loop-i-test.false

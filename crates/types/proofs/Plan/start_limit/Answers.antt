@@ -1,0 +1,5 @@
+use borrow.Author.Rules.{rules}
+use Rattle.types.proofs.Plan.start_limit.Goals as goal
+
+pub returns : goal.returns
+returns c = c.clock_time.ensures

@@ -18,17 +18,17 @@ returns-in_default c =
 pub slice_bounds-generate_more-count : goal.slice_bounds-generate_more-count
 slice_bounds-generate_more-count c =
     let s : State = state_of c.args.run c.args.tally.now c.args.network.now in
-    line-inside c.args.setup s c.args.steps c.args.settle c.args.seed c.args.out.now (check-opens c.args.setup s c.setup_check-check.result c.setup_check-check.ensures c.if-check-gt0.false) c.write_setup.result _ c.write_setup.ensures _ c.in-Bytes.is c.write_setup.auto.1.0 (opening c.args.setup s) refl
+    line-inside c.args.setup s c.args.steps c.args.settle c.args.seed c.args.out.now (check-opens c.args.setup s c.setup_check-check.result c.setup_check-check.ensures c.if-check-gt0.false) c.write_setup.result _ c.write_setup.ensures _ c.in-Bytes.is c.write_setup.auto.out (opening c.args.setup s) refl
 
 pub slice_bounds-generate_more-start : goal.slice_bounds-generate_more-start
 slice_bounds-generate_more-start c =
     let s : State = state_of c.args.run c.args.tally.now c.args.network.now in
-    line-inside c.args.setup s c.args.steps c.args.settle c.args.seed c.args.out.now (check-opens c.args.setup s c.setup_check-check.result c.setup_check-check.ensures c.if-check-gt0.false) c.write_setup.result _ c.write_setup.ensures _ c.in-Bytes.is c.write_setup.auto.1.0 (opening c.args.setup s) refl
+    line-inside c.args.setup s c.args.steps c.args.settle c.args.seed c.args.out.now (check-opens c.args.setup s c.setup_check-check.result c.setup_check-check.ensures c.if-check-gt0.false) c.write_setup.result _ c.write_setup.ensures _ c.in-Bytes.is c.write_setup.auto.out (opening c.args.setup s) refl
 
 pub returns : goal.returns
 returns c =
     let s : State = state_of c.args.run c.args.tally.now c.args.network.now in
     let e : opening c.args.setup s ≡ done (opened c.args.setup s) = check-opens c.args.setup s c.setup_check-check.result c.setup_check-check.ensures c.if-check-gt0.false in (
-      made-on c.args.setup s c.args.steps c.args.settle c.args.seed c.args.out.now e c.write_setup.result _ c.write_setup.ensures _ c.in-Bytes.is c.write_setup.auto.1.0 _ c.?«open».ensures _ _ _ _ c.generate_more-load.ensures.0,
-      made-check c.args.setup s c.args.steps c.args.settle c.args.seed c.args.out.now e c.write_setup.result _ c.write_setup.ensures _ c.in-Bytes.is c.write_setup.auto.1.0 _ c.?«open».ensures _ c.generate_more-load.ensures.1,
+      made-on c.args.setup s c.args.steps c.args.settle c.args.seed c.args.out.now e c.write_setup.result _ c.write_setup.ensures _ c.in-Bytes.is c.write_setup.auto.out _ c.open-opened.ensures _ _ _ _ c.generate_more-load.ensures.0,
+      made-check c.args.setup s c.args.steps c.args.settle c.args.seed c.args.out.now e c.write_setup.result _ c.write_setup.ensures _ c.in-Bytes.is c.write_setup.auto.out _ c.open-opened.ensures _ c.generate_more-load.ensures.1,
     )

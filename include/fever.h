@@ -13,7 +13,7 @@
  * run of ticks that is stopped answers the check that ended it, and the ticks before are done. Events applied together are answered
  * each in its own words, refused or not; that call itself refuses only where the words lent are those of no run. The contracts are in
  * crates/fever/specs: those for loads in Loads.antt, that of traffic in Traffic.antt, those of carrying over in Carrying.antt, the
- * others in Contracts.antt, the layouts in Layout.antt, and what is promised of calls in a row and of what they answer in Promises.antt.
+ * others in Clauses.antt, the layouts in Layout.antt, and what is promised of calls in a row and of what they answer in Promises.antt.
  *
  * The checks: 1 no such form, or too few elements lent; 2 to 8 refuse an opening; 9 to 18 an event; one processor uses 9, 10, 11 and
  * 17, a report of traffic 1 and 9, carrying a run over 1, 6 and 9. The README lists them.

@@ -1,6 +1,7 @@
 // The two lent buffers: the tally, four 64-bit words a view, and the network, two words a message; four in the wide form, which runs are carried over
 // from and to.
 #![tactic(auto)]
+
 ghost use Rattle.std.specs.Prelude.{◌≡◌, true, cond, [], ◌∷◌, ◌++◌, ◌+◌, ◌*◌, ◌^◌, ◌<◌, ◌≤◌, length, take, drop};
 ghost use Rattle.base.specs.Scan.{first};
 ghost use Rattle.base.specs.Sets.{member};

@@ -1,5 +1,6 @@
 // A run carried over to a network of another form: the same messages in the same order, while run and tally stay as they are.
 #![tactic(auto)]
+
 ghost use Rattle.std.specs.Prelude.{◌≡◌, length};
 ghost use Rattle.model.specs.State.{state_in, run_from};
 ghost use Rattle.model.specs.Carrying.{target_outside};

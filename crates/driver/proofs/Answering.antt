@@ -7,11 +7,9 @@ use Prim.Native.Nat.{ℕ, ◌*◌, ◌/◌, ◌≤◌, ◌<◌}
 use native.Mathlib.Omega.{arith}
 use lib.ListN.{length, take}
 use lib.Seq.{length-take-le}
-use types.Run.{OneOf, miss}
 use denote.Enum.Declared.{tag_of}
 use lib.Dec.{ltb}
 use borrow.Author.Tests.{le-ltb, ltb-false}
-use Rattle.lines.specs.contracts.Read as ReadType
 use Rattle.lines.specs.contracts.Next as NextType
 use Rattle.base.specs.Choice.{cond_no}
 use Rattle.types.specs.declared.Run.{Run}
@@ -26,7 +24,6 @@ use Rattle.words.specs.Events.{event_words, events_in, numbers_put}
 use Rattle.words.proofs.Single.{four-numbers}
 use Rattle.words.specs.Batches.{Worded}
 use Rattle.lines.specs.declared.Read.{Read}
-use Rattle.lines.specs.declared.Read.TheVariants as Read
 use Rattle.lines.specs.declared.Next.{Next}
 use Rattle.lines.specs.declared.Next.TheVariants.{Line, Unfinished}
 use Rattle.lines.specs.Clauses.{Reading, no_setup, line, Put}

@@ -19,7 +19,6 @@ use Rattle.words.specs.Events.{event_words, event_of, event_numbers}
 use Rattle.words.specs.Batches.{Worded, answered, words_applied}
 use Rattle.words.proofs.Single.{event-back}
 use Rattle.lines.specs.declared.Read.{Read}
-use Rattle.lines.specs.declared.Read.TheVariants as Read
 use Rattle.lines.specs.Clauses.{line, Put}
 use Rattle.lines.specs.Printout.{answer_form, printed_most}
 use Rattle.lines.proofs.Printing.{answer-length}

@@ -11,7 +11,6 @@ use lib.Dec.{ltb}
 use borrow.Author.Tests.{lt-ltb, le-ltb}
 use Rattle.base.specs.Choice.{cond_yes, cond_no}
 use Rattle.types.specs.declared.Answer.{Answer}
-use Rattle.types.specs.declared.Answer.TheVariants as Answer
 use Rattle.types.specs.declared.Run.{Run}
 use Rattle.types.specs.Quantities.{table_clocks}
 use Rattle.model.specs.State.{State, with_run, is_correct, view_of, clock_of}

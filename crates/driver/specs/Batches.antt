@@ -8,7 +8,6 @@ use Rattle.words.specs.declared.Numbers.{Numbers}
 use Rattle.words.specs.Events.{event_words, four_numbers, event_numbers}
 use Rattle.words.specs.Batches.{Worded, words_applied}
 use Rattle.lines.specs.declared.Read.{Read}
-use Rattle.lines.specs.declared.Read.TheVariants as Read
 use Rattle.lines.specs.Clauses.{no_setup, line}
 use Rattle.lines.specs.Printout.{answer_form}
 use Rattle.printout.specs.Printout.{Standing, leaving, read_reply, printed_line, ticks_printed}

@@ -1,5 +1,6 @@
 // The simulate program but for its reading and writing of files: lines in, printed answers out.
 #![tactic(auto)]
+
 mod batches;
 mod printing;
 mod replies;

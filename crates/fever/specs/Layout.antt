@@ -11,7 +11,6 @@ use Rattle.types.specs.Runs.{settled_as, plan_numbers, plan_in}
 use Rattle.types.specs.Traffic.{counts_of, traffic_of, count_numbers}
 use Rattle.model.specs.State.{run_of}
 use Rattle.lines.specs.declared.Read.{Read}
-use Rattle.lines.specs.declared.Read.TheVariants as Read
 use Rattle.lines.specs.Clauses.{Reading}
 use Rattle.words.specs.declared.Numbers.{Numbers}
 use Rattle.words.specs.Events.{four_numbers, event_numbers}

@@ -8,7 +8,6 @@ use Rattle.model.specs.State.{State, check_of}
 use Rattle.model.specs.Checks.{unsound_for_good}
 use Rattle.model.specs.Opening.{opening}
 use Rattle.lines.specs.declared.Read.{Read}
-use Rattle.lines.specs.declared.Read.TheVariants as Read
 use Rattle.lines.specs.Promises.{schedule_of}
 use Rattle.reader.specs.Lines.{reading}
 use Rattle.loads.specs.Loads.{Point, point_of, Load, further_load, whole_load}

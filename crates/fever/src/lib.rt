@@ -1,6 +1,7 @@
 // The library for C and Rust: the simulator, one processor's pacemaker, lines, loads out of a seed number, reports of a run's traffic and runs carried
 // over to a network of another form, over numbers and lent words and bytes. Every function takes every argument; a refused call has changed nothing that was lent.
 #![tactic(auto)]
+
 mod generating;
 mod layout;
 mod reporting;

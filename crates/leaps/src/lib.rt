@@ -1,5 +1,6 @@
 // Quiet ticks: how many of them come next, and the leap over them, whatever is handed in.
 #![tactic(auto)]
+
 ghost use Rattle.std.specs.Prelude.{◌≡◌, ℕ, min, max, List, if◌then◌else◌};
 ghost use Rattle.types.specs.Quantities.{correct};
 ghost use Rattle.model.specs.State.{state_of, run_from};

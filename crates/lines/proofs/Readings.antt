@@ -7,7 +7,6 @@ use mathlib.Core.List.{List}
 use Rattle.types.specs.declared.Event.{Event}
 use Rattle.types.specs.declared.Setup.{Setup}
 use Rattle.lines.specs.declared.Read.{Read}
-use Rattle.lines.specs.declared.Read.TheVariants as Read
 use Rattle.lines.specs.Forms.{EventLine, SetupLine}
 use Rattle.lines.specs.Clauses.{Reading, read_check, Reads}
 use Rattle.lines.specs.Promises.{Formed, OneReading, Judges}

@@ -1,5 +1,6 @@
 // What lines of a schedule are, and where the next one ends.
 #![tactic(auto)]
+
 pub mod search;
 
 ghost use Rattle.std.specs.Prelude.{◌≡◌};

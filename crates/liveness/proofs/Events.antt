@@ -28,8 +28,7 @@ use Rattle.model.specs.Checks.{place_of, not_held, exists, reaches_end, overfull
 use Rattle.model.specs.Events.{wait_of, without, delivering, signing, tick_checks, tick_once, continued, ticks, tick_run, effect, applied}
 use Rattle.liveness.proofs.Flight.{Sent, In, sent_as, Found, found_in, rest, rest_in, in_rest}
 use Rattle.liveness.proofs.Sending.{signature}
-use Rattle.liveness.proofs.Link.{Planned, params, flight, Wire, wire-removed, length_without, wire-found}
-use Rattle.liveness.proofs.Enters.{entered}
+use Rattle.liveness.proofs.Link.{Planned, params, Wire, wire-removed, length_without, wire-found}
 use Rattle.liveness.proofs.Hears.{needed-enough}
 use Rattle.liveness.proofs.Tracks.{Tracked, Leads, stays, leads_on}
 use Rattle.liveness.proofs.Naming.{tracked-named}

@@ -19,7 +19,7 @@ use Rattle.protocol.proofs.Opening.{open-holds}
 use Rattle.types.specs.declared.Plan.{Plan}
 use Rattle.types.specs.declared.Run.{Run}
 use Rattle.types.specs.declared.Setup.{Setup}
-use Rattle.types.specs.Quantities.{n_least, n_most, delta_least, delta_most, gamma_least, gamma_most, views_least, views_most, width, table_clocks, row_words, per_leader, per_leader_least, per_leader_most, tolerated, lead, turn_start, start_limit, correct}
+use Rattle.types.specs.Quantities.{n_least, n_most, delta_least, delta_most, gamma_least, gamma_most, views_least, views_most, width, table_clocks, row_words, per_leader, per_leader_least, per_leader_most, tolerated, turn_start, start_limit, correct}
 use Rattle.types.proofs.PlanLaws.{next-least, next-of-zero}
 use Rattle.model.specs.State.{State, After, capacity, accepted, refused, done, entered_word, heard_word, marks_word, mark_bit, word}
 use Rattle.model.specs.FormLaws.{room-of-words}

@@ -36,7 +36,7 @@ use Rattle.types.specs.declared.Plan.{Plan}
 use Rattle.types.specs.declared.Event.{Event}
 use Rattle.types.specs.declared.Event.TheVariants.{Deliver, Sign, Show, Settle, Tick}
 use Rattle.types.specs.declared.Setup.{Setup}
-use Rattle.types.specs.Quantities.{per_leader, tolerated, lead, correct}
+use Rattle.types.specs.Quantities.{per_leader, tolerated, correct}
 use Rattle.model.specs.State.{State, After, clock_of, view_of, check_of, accepted}
 use Rattle.model.specs.Checks.{supporting, too_far_ahead, unsound}
 use Rattle.model.specs.Opening.{opened, opening_checks, opening}

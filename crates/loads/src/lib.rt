@@ -1,5 +1,6 @@
 // What a load out of a seed number does next: the draws, and the event that they choose.
 #![tactic(auto)]
+
 ghost use Rattle.std.specs.Prelude.{◌≡◌, ℕ, ◌*◌, ◌%◌, ◌^◌, not, ◌&&◌, List, if◌then◌else◌, ◌==◌};
 ghost use Rattle.base.specs.Scan.{first};
 ghost use Rattle.types.specs.Runs.{is_settled};

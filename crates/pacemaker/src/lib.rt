@@ -1,5 +1,6 @@
 // The pacemaker of one processor: rules 1 to 3 behind its own checks (document 01: at the cabinet's own face).
 #![tactic(auto)]
+
 ghost use Rattle.std.specs.Prelude.{◌≡◌, cond, ◌≤◌, ◌<◌, ltb};
 ghost use Rattle.types.specs.Quantities.{delta_most, gamma_least, initial, next_initial, clock_time};
 ghost use Rattle.model.specs.Checks.{n_outside, delays_outside, views_outside, clock_outside};

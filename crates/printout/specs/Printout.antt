@@ -12,7 +12,6 @@ use Rattle.model.specs.State.{State, state_of, run_of, accepted, is_correct, vie
 use Rattle.model.specs.Opening.{opening}
 use Rattle.model.specs.Events.{applied}
 use Rattle.lines.specs.declared.Read.{Read}
-use Rattle.lines.specs.declared.Read.TheVariants as Read
 use Rattle.lines.specs.Clauses.{Reading, no_setup, line}
 use Rattle.lines.specs.Splitting.{Cut, input_lines, cut_read}
 use Rattle.lines.specs.Printout.{answer_form, processor_form}

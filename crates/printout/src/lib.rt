@@ -1,5 +1,6 @@
 // The types of the state of the simulate program and of the traffic program.
 #![tactic(auto)]
+
 ghost use Rattle.std.specs.Prelude.{◌≡◌};
 ghost use Rattle.printout.specs.Printout.{unopened_session};
 

@@ -13,7 +13,6 @@ use Rattle.types.specs.declared.Event.{Event}
 use Rattle.types.specs.declared.Event.TheVariants.{Deliver, Sign, Show, Settle, Tick}
 use Rattle.types.specs.Messages.{lacks_form}
 use Rattle.lines.specs.declared.Read.{Read}
-use Rattle.lines.specs.declared.Read.TheVariants as Read
 use Rattle.lines.specs.declared.Read.TheVariants.{NoForm}
 use Rattle.lines.specs.Decimal.{decimal}
 use Rattle.lines.specs.Forms.{open_bracket, close_bracket, one_blank, deliver_word, sign_word, show_word, settle_word, tick_word, open_word, message_form, carrying_form, event_form, event_fields, Below, EventLine}

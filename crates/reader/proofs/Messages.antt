@@ -8,7 +8,6 @@ use Rattle.types.specs.declared.Message.TheVariants.{View, Vote, Vc, Qc}
 use Rattle.lines.specs.Decimal.{decimal}
 use Rattle.lines.specs.Forms.{open_bracket, close_bracket, one_blank, view_word, vote_word, vc_word, qc_word, message_fields, message_form, Below}
 use Rattle.reader.specs.declared.Kind.{Kind}
-use Rattle.reader.specs.declared.Kind.TheVariants as Kind
 use Rattle.reader.specs.declared.KindFound.{KindFound}
 use Rattle.reader.specs.declared.KindFound.TheVariants.{Is, NoKind}
 use Rattle.reader.specs.declared.Said.{Said}

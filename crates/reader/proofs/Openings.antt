@@ -18,7 +18,6 @@ use Rattle.types.specs.declared.Setup.{Setup}
 use Rattle.types.specs.Quantities.{n_most, table_clocks, per_leader, per_leader_usual}
 use Rattle.types.specs.Runs.{setup_with, plan_numbers, plan_in, usual_numbers, usual_plan_in}
 use Rattle.lines.specs.declared.Read.{Read}
-use Rattle.lines.specs.declared.Read.TheVariants as Read
 use Rattle.lines.specs.declared.Read.TheVariants.{NoForm}
 use Rattle.lines.specs.Decimal.{field_limit}
 use Rattle.lines.specs.Forms.{open_bracket, open_word, line_clocks, setup_form, usual_form, Below, EventLine, SetupBytes, SetupLine, trimmed}

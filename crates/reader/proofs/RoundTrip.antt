@@ -13,7 +13,6 @@ use Rattle.types.specs.declared.Setup.{Setup}
 use Rattle.types.specs.Quantities.{per_leader, per_leader_usual}
 use Rattle.types.specs.Runs.{usual_numbers}
 use Rattle.lines.specs.declared.Read.{Read}
-use Rattle.lines.specs.declared.Read.TheVariants as Read
 use Rattle.lines.specs.declared.Read.TheVariants.{NoForm}
 use Rattle.lines.specs.Forms.{newline, open_bracket, open_word, line_clocks, setup_form, usual_form, Below, EventLine, SetupLine, trimmed}
 use Rattle.lines.specs.Clauses.{Reading, read_as, no_setup, event_reading, opening_reading, no_form, line}

@@ -2,20 +2,16 @@
 use mathlib.Core.Path.{◌≡◌, refl, sym, ap, ap₂, ◌∙◌}
 use mathlib.Core.Logic.{◌≢◌}
 use mathlib.Core.Bool.{false}
-use mathlib.Core.List.{List, [], ◌∷◌, ◌++◌}
+use mathlib.Core.List.{List, ◌++◌}
 use Prim.Native.Nat.{ℕ}
 use lib.ListN.{length, drop}
 use lib.Dec.{eqb, ltb}
-use types.Run.{OneOf, miss}
-use denote.Enum.Declared.{tag_of}
 use borrow.Author.Tests.{eq-eqb, ne_eqb}
 use Rattle.base.specs.Tests.{T_false, by_cond}
 use Rattle.types.specs.declared.Plan.{Plan}
 use Rattle.types.specs.declared.Setup.{Setup}
 use Rattle.types.specs.Quantities.{n_most}
-use Rattle.lines.specs.contracts.Read.{the_type}
 use Rattle.lines.specs.declared.Read.{Read}
-use Rattle.lines.specs.declared.Read.TheVariants as Read
 use Rattle.lines.specs.Forms.{open_bracket, open_word}
 use Rattle.lines.specs.Clauses.{Reading, read_as, no_setup, opening_reading, no_form}
 use Rattle.reader.specs.declared.After.{After}

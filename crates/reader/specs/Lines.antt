@@ -10,7 +10,6 @@ use Rattle.types.specs.Quantities.{n_most, table_clocks}
 use Rattle.types.specs.Runs.{plan_in, usual_plan_in}
 use Rattle.types.specs.Messages.{lacks_form}
 use Rattle.lines.specs.declared.Read.{Read}
-use Rattle.lines.specs.declared.Read.TheVariants as Read
 use Rattle.lines.specs.declared.Read.TheVariants.{NoForm}
 use Rattle.lines.specs.Forms.{open_bracket, close_bracket, one_blank, open_word, deliver_word, sign_word, show_word, settle_word, tick_word, view_word, vote_word, vc_word, qc_word}
 use Rattle.lines.specs.Clauses.{Reading, read_as, no_setup, event_reading, opening_reading, no_form}
@@ -19,7 +18,6 @@ use Rattle.reader.specs.declared.After.TheVariants.{At, Away}
 use Rattle.reader.specs.declared.Number.{Number}
 use Rattle.reader.specs.declared.Number.TheVariants.{NoNumber}
 use Rattle.reader.specs.declared.Kind.{Kind}
-use Rattle.reader.specs.declared.Kind.TheVariants as Kind
 use Rattle.reader.specs.declared.KindFound.{KindFound}
 use Rattle.reader.specs.declared.KindFound.TheVariants.{Is, NoKind}
 use Rattle.reader.specs.declared.Said.{Said}

@@ -1,5 +1,6 @@
 // Reading one line of a schedule: any bytes in, the event, that it is an opening or none of the forms; and an opening's setup.
 #![tactic(auto)]
+
 ghost use Rattle.std.specs.Prelude.{◌≡◌, ◌+◌, ◌-◌, ◌/◌, ◌≤◌, length, drop};
 ghost use Rattle.types.specs.Quantities.{n_most};
 ghost use Rattle.lines.specs.Decimal.{field_limit};

@@ -20,7 +20,7 @@ use Rattle.types.specs.declared.Sends.{Sends}
 use Rattle.types.specs.declared.Sends.TheVariants.{Nothing, ViewAndVote}
 use Rattle.types.specs.declared.Form.TheVariants.{Packed}
 use Rattle.types.proofs.PlanLaws.{zero-starts}
-use Rattle.types.specs.Quantities.{n_most, network_least, network_most, table_clocks, row_words, initial, correct}
+use Rattle.types.specs.Quantities.{n_most, network_least, network_most, table_clocks, row_words, correct}
 use Rattle.types.specs.Runs.{head-back}
 use Rattle.types.specs.Traffic.{no_traffic, traffic_sent}
 use Rattle.model.specs.State.{state_of, run_of, with_held, with_traffic, clock_of, view_of, posted, capacity, refused, done, run_from, head_of}

@@ -1,6 +1,7 @@
 // The simulator: a setup is opened, and each event moves the run and the lent buffers exactly as the definitions say. Whatever is handed in gets
 // either the step or a refusal by the first check that fails, and a refused call has changed nothing.
 #![tactic(auto)]
+
 mod events;
 mod moves;
 mod opening;

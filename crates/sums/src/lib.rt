@@ -1,5 +1,6 @@
 // The sums of a run's traffic: messages that are sent and delivered are added to them. They wrap at 2^64. And what is told of them.
 #![tactic(auto)]
+
 ghost use Rattle.std.specs.Prelude.{◌≡◌, ◌<◌, ◌≤◌, false, replicate, ◌==◌, nat_eq};
 ghost use Rattle.base.specs.Count.{count};
 ghost use Rattle.types.specs.Traffic.{counts_more, traffic_sent, traffic_delivered};

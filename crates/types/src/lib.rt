@@ -1,5 +1,6 @@
 // The types of the product, declared once, and their own functions.
 #![tactic(auto)]
+
 ghost use Rattle.std.specs.Prelude.{◌≡◌, true};
 ghost use Rattle.types.specs.Quantities.{tolerated, per_leader, turns_over, turn_start, initial, correct, width};
 ghost use Rattle.types.specs.Messages.{kind_of, view_in, processor_in, stage_of, is_signature, lacks_form};

@@ -1,5 +1,6 @@
 // Events and their answers in words, four each: how a list of events is lent, and what is left in its place.
 #![tactic(auto)]
+
 ghost use Rattle.std.specs.Prelude.{◌≡◌};
 ghost use Rattle.model.specs.State.{check_of, ticks_of};
 ghost use Rattle.buffers.specs.Kinds.{stored_as};

@@ -1,5 +1,6 @@
 // Loads out of a seed number: a run is opened and moved by events that the seed chooses, and the lines of a schedule are written that does the same.
 #![tactic(auto)]
+
 ghost use Rattle.std.specs.Prelude.{◌≡◌, cond, length};
 ghost use Rattle.model.specs.State.{state_of, check_of};
 ghost use Rattle.model.specs.Checks.{unsound_for_good};

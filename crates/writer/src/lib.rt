@@ -1,5 +1,6 @@
 // Writing one line of a schedule or of its printout into lent bytes: a form and a newline. And a report of the traffic, which has several.
 #![tactic(auto)]
+
 mod answers;
 mod events;
 mod numbers;

@@ -1,6 +1,5 @@
 use lib.Count.{ones-le}
 use native.Mathlib.Omega.{arith}
-use borrow.Author.Rules.{rules}
 use Rattle.base.proofs.size.Goals as goal
 
 pub overflow_cast-result : goal.overflow_cast-result

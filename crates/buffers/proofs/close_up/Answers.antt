@@ -1,6 +1,5 @@
 use native.Mathlib.Omega.{arith}
 use Rattle.buffers.proofs.NetworkWords.{moved_none, moved_more}
-use Prim.Native.Nat.{◌-◌}
 use mathlib.Core.Path.{refl}
 use lib.ListN.{length-set}
 use Rattle.buffers.proofs.close_up.Goals as goal

@@ -1,6 +1,5 @@
 use Rattle.buffers.proofs.Firsts.{first-none, first_more, first-yes}
 use Rattle.buffers.specs.Network.{begins_with}
-use Prim.Native.Nat.{◌-◌}
 use borrow.Author.Tests.{eq-eqb, ne_eqb}
 use native.Mathlib.Omega.{arith}
 use mathlib.Core.Path.{sym}

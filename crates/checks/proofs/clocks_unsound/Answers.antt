@@ -1,6 +1,5 @@
 use Rattle.model.specs.Checks.{outside_at}
 use Rattle.base.specs.ScanLaws.{some-start, some-on, some-here, some_below}
-use Prim.Native.Nat.{◌-◌}
 use mathlib.Core.Path.{sym, ◌∙◌}
 use Rattle.checks.proofs.clocks_unsound.Goals as goal
 

@@ -1,7 +1,6 @@
 use Rattle.model.specs.Checks.{support_at}
 use Rattle.base.specs.Count.{count-start, count-on, count-le}
 use native.Mathlib.Omega.{arith}
-use Prim.Native.Nat.{◌-◌}
 use mathlib.Core.Path.{sym}
 use Rattle.checks.proofs.count_support.Goals as goal
 

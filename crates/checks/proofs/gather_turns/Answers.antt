@@ -13,7 +13,6 @@ pub loop-left-preserved : goal.loop-left-preserved
 loop-left-preserved c = (
   omega (arith, c.loop-left.invariant.0, c.loop-left-test.true),
   found_turn (c.loop-left.a ∷ c.loop-left.b ∷ c.loop-left.c ∷ c.loop-left.d ∷ c.loop-left.e ∷ c.loop-left.f ∷ c.loop-left.g ∷ c.loop-left.h ∷ []) c.loop-left.i c.args.network.now 7 refl (omega (arith, c.loop-left.invariant.0, c.loop-left-test.true, c.requires)) ∙ c.loop-left.invariant.1,
-
 )
 
 pub returns : goal.returns

@@ -1,7 +1,6 @@
 use Rattle.checks.specs.Scans.{flying}
 use Rattle.model.specs.Checks.{message_unsound}
 use Rattle.base.specs.ScanLaws.{some-start, some-on, some-here, some_below}
-use Prim.Native.Nat.{◌-◌}
 use mathlib.Core.Path.{sym, ◌∙◌}
 use Rattle.checks.proofs.messages_unsound.Goals as goal
 

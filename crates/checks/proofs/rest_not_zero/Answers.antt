@@ -1,5 +1,4 @@
 use mathlib.Core.Path.{◌∙◌}
-use Prim.Native.Nat.{◌-◌}
 use Rattle.checks.proofs.Tail.{found-more}
 use Rattle.checks.proofs.rest_not_zero.Goals as goal
 

@@ -1,6 +1,5 @@
 use Rattle.model.specs.Checks.{high_at, start_too_high}
 use Rattle.base.specs.ScanLaws.{some-start, some-on, some-here, some_below}
-use Prim.Native.Nat.{◌-◌}
 use mathlib.Core.Path.{sym, ◌∙◌}
 use Rattle.checks.proofs.start_too_high.Goals as goal
 

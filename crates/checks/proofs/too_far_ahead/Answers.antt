@@ -1,6 +1,5 @@
 use Rattle.model.specs.Checks.{alone_at, too_far_ahead}
 use Rattle.base.specs.ScanLaws.{some-start, some-on, some-here, some_below}
-use Prim.Native.Nat.{◌-◌}
 use mathlib.Core.Path.{sym, ◌∙◌}
 use Rattle.checks.proofs.too_far_ahead.Goals as goal
 

@@ -1,7 +1,7 @@
 use Rattle.leaps.proofs.Clocks.{by-more}
 use Rattle.leaps.specs.Leaps.{clocks_by, more_word}
 use Rattle.types.specs.Quantities.{correct}
-use Rattle.std.proofs.Common.{ℕ, ◌-◌, cond, List, get_or, set, refl, ap, ◌∙◌, arith}
+use Rattle.std.proofs.Common.{ℕ, cond, List, get_or, set, refl, ap, ◌∙◌, arith}
 use Rattle.leaps.proofs.leap.Goals as goal
 
 pub loop-q-init : goal.loop-q-init

@@ -1,7 +1,7 @@
 use Rattle.leaps.proofs.Resting.{rest_more, rest-none}
 use Rattle.leaps.specs.Leaps.{rest_below}
 use Rattle.model.specs.State.{run_from}
-use Rattle.std.proofs.Common.{◌+◌, ◌-◌, sym, refl, ◌∙◌, arith}
+use Rattle.std.proofs.Common.{◌+◌, sym, refl, ◌∙◌, arith}
 use Rattle.leaps.proofs.rest.Goals as goal
 
 pub loop-q-init : goal.loop-q-init

@@ -1,5 +1,5 @@
 use Rattle.leaps.proofs.Waiting.{waits_start, waits-more}
-use Rattle.std.proofs.Common.{◌-◌, arith}
+use Rattle.std.proofs.Common.{arith}
 use Rattle.leaps.proofs.wait_for_all.Goals as goal
 
 pub loop-i-init : goal.loop-i-init

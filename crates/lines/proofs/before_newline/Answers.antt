@@ -1,5 +1,4 @@
 use Rattle.lines.proofs.Newlines.{none_here, first-here, none_at_all}
-use Prim.Native.Nat.{◌-◌}
 use Rattle.lines.proofs.before_newline.Goals as goal
 
 pub returns-then-bytes-i-eq10 : goal.returns-then-bytes-i-eq10

@@ -1,7 +1,7 @@
 use Rattle.buffers.proofs.Firsts.{first-none, first_more, first-yes}
 use Rattle.types.specs.declared.Form.TheVariants.{Packed}
 use Rattle.model.specs.Checks.{late, late_at}
-use Rattle.std.proofs.Common.{◌-◌, sym, ap, ◌∙◌, arith}
+use Rattle.std.proofs.Common.{sym, ap, ◌∙◌, arith}
 use Rattle.loads.proofs.first_late.Goals as goal
 
 pub loop-i-init : goal.loop-i-init

@@ -1,5 +1,4 @@
 use Rattle.reader.proofs.ScanLaws.{away-beyond, matched-short, matched-other, matched-all}
-use Prim.Native.Nat.{◌-◌}
 use Rattle.reader.proofs.after_word.Goals as goal
 
 pub returns-then-s-at : goal.returns-then-s-at

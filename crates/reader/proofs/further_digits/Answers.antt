@@ -1,6 +1,5 @@
 use native.Mathlib.Omega.{arith}
 use mathlib.Core.Path.{sym, ◌∙◌}
-use Prim.Native.Nat.{◌-◌}
 use Rattle.reader.proofs.ScanLaws.{spelling-more, spelling-large, spelling-end}
 use Rattle.reader.proofs.BytesLaws.{class-inside, digit-few}
 use Rattle.reader.proofs.further_digits.Goals as goal

@@ -1,6 +1,5 @@
 use Rattle.reader.proofs.SeveralLaws.{several-more}
 use native.Mathlib.Omega.{arith}
-use Prim.Native.Nat.{◌-◌}
 use mathlib.Core.Path.{sym, ◌∙◌}
 use Rattle.reader.proofs.read_several.Goals as goal
 

@@ -5,7 +5,7 @@ use Rattle.model.specs.State.{State, After, state_of, run_from, left_behind}
 use mathlib.Core.List.{List}
 use Rattle.types.specs.declared.Event.{Event}
 use mathlib.Core.Path.{◌≡◌, refl, sym, ap, ap₂, subst, ◌∙◌}
-use Prim.Native.Nat.{ℕ, ◌+◌, ◌-◌, ◌<◌}
+use Prim.Native.Nat.{ℕ, ◌+◌, ◌<◌}
 use native.Mathlib.Omega.{arith}
 use Rattle.words.proofs.Turning.{words_applied_from, first-turn, next-turn, last_turn}
 use Rattle.liveness.specs.Promises.{Tabled}

@@ -9,7 +9,6 @@ use Rattle.words.proofs.Turning.{words_applied_from}
 use Rattle.liveness.specs.Promises.{Tabled}
 use Rattle.simulator.proofs.apply_words.Given as goal
 
-
 abbrev pub invariant-loop-i : goal.invariant-loop-i
 invariant-loop-i l = (l.i ≤ l.count) × (length l.tally ≡ length l.initial.tally) × (length l.network ≡ length l.initial.network) × (length l.events ≡ length l.initial.events)
     × (words_applied_from l.i l.events (state_of (run_from l.current l.clocks l.views) l.tally l.network)

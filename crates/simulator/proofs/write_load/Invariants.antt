@@ -6,7 +6,6 @@ use lib.ListN.{length}
 use mathlib.Core.Path.{◌≡◌}
 use Rattle.simulator.proofs.write_load.Given as goal
 
-
 abbrev pub invariant-loop-next : goal.invariant-loop-next
 invariant-loop-next l = (length l.tally ≡ length l.initial.tally) × (length l.network ≡ length l.initial.network)
     × Going l.steps l.settle (further_load l.steps l.settle (point_of (state_of (run_from l.initial.current l.initial.clocks l.initial.views) l.initial.tally l.initial.network) l.initial.last l.initial.next) (length l.initial.out)) l.initial.out

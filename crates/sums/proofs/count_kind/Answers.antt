@@ -1,6 +1,6 @@
 use Rattle.base.specs.Count.{bit, bit_le, count-start, count-on, count-le}
 use Rattle.sums.proofs.Reporting.{byte-bit}
-use Rattle.std.proofs.Common.{◌-◌, sym, ap, arith}
+use Rattle.std.proofs.Common.{sym, ap, arith}
 use Rattle.sums.proofs.count_kind.Invariants.{is_kind}
 use Rattle.sums.proofs.count_kind.Goals as goal
 

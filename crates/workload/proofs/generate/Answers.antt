@@ -1,4 +1,3 @@
-use Prim.Native.Nat.{◌-◌}
 use Rattle.model.specs.State.{State, state_of, done}
 use Rattle.workload.proofs.Making.{check-refused, check-opens, made-refused, made-short, line-inside, made-on, made-check}
 use Rattle.model.specs.Opening.{opened, opening}

@@ -1,6 +1,5 @@
 use mathlib.Core.Path.{sym, subst}
 use lib.Dec.{T}
-use borrow.Author.Rules.{rules}
 use Rattle.base.proofs.quotients.by_factor.Goals as goal
 
 pub returns-then-a-ge-NUMBERS : goal.returns-then-a-ge-NUMBERS

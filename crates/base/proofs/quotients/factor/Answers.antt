@@ -1,7 +1,6 @@
 use mathlib.Core.Path.{ap}
 use Prim.Native.Nat.{ℕ, ◌*◌, ◌/◌, ◌%◌, ◌^◌}
 use Rattle.base.specs.Factors.{factor_unit}
-use borrow.Author.Rules.{rules}
 use Rattle.base.proofs.quotients.factor.Goals as goal
 
 pub returns : goal.returns

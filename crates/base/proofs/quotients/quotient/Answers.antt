@@ -3,7 +3,6 @@ use Prim.Native.Nat.{ℕ, ◌*◌, ◌/◌}
 use native.Mathlib.Omega.{arith}
 use native.Mathlib.Nat.{div-zero}
 use Rattle.base.specs.Factors.{factor_unit, factor-tells, product-fits}
-use borrow.Author.Rules.{rules}
 use Rattle.base.proofs.quotients.quotient.Goals as goal
 
 pub overflow_mul-result : goal.overflow_mul-result

@@ -1,6 +1,5 @@
 use Rattle.driver.proofs.Batching.{answer-told}
 use native.Mathlib.Omega.{arith}
-use Prim.Native.Nat.{◌-◌}
 use Rattle.driver.proofs.batches.print_batch.Goals as goal
 
 pub loop-i-preserved : goal.loop-i-preserved

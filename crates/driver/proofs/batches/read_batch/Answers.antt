@@ -1,6 +1,5 @@
 use native.Mathlib.Omega.{arith}
 use Rattle.driver.proofs.Gathering.{gathers-more}
-use Prim.Native.Nat.{◌-◌}
 use mathlib.Core.Path.{◌∙◌}
 use Rattle.driver.proofs.batches.read_batch.Goals as goal
 

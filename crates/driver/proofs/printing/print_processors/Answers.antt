@@ -1,5 +1,4 @@
 use Rattle.driver.proofs.Texts.{told-all, processor-told}
-use Prim.Native.Nat.{◌-◌}
 use native.Mathlib.Omega.{arith}
 use Rattle.driver.proofs.printing.print_processors.Goals as goal
 

@@ -1,4 +1,3 @@
-use Prim.Native.Nat.{◌-◌}
 use mathlib.Core.Logic.{inr}
 use mathlib.Core.Path.{◌∙◌}
 use Rattle.driver.proofs.Going.{going_more, going-stops, stops-all, going-serves}

@@ -1,5 +1,4 @@
 use Rattle.writer.proofs.Stamping.{copied_none, copied_more}
-use Prim.Native.Nat.{◌-◌}
 use Rattle.fever.proofs.layout.put_words.Goals as goal
 
 pub loop-k-init : goal.loop-k-init

@@ -1,5 +1,4 @@
 use Rattle.fever.proofs.Tables.{taken-all}
-use Prim.Native.Nat.{◌-◌}
 use Rattle.fever.proofs.layout.table_in.Goals as goal
 
 pub returns : goal.returns

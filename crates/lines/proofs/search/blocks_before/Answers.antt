@@ -1,7 +1,6 @@
 use borrow.Author.Rules.{rules}
 use native.Mathlib.Omega.{arith}
 use mathlib.Core.Path.{refl}
-use Prim.Native.Nat.{◌-◌}
 use Rattle.base.specs.Choice.{flag}
 use Rattle.lines.specs.Inner.{block_bytes}
 use Rattle.lines.proofs.Newlines.{before-most, none-among, some-among}

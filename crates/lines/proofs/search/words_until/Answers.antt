@@ -1,6 +1,6 @@
 use borrow.Author.Rules.{rules}
 use native.Mathlib.Omega.{arith}
-use Prim.Native.Nat.{◌-◌, ◌≤◌}
+use Prim.Native.Nat.{◌≤◌}
 use Rattle.base.specs.Choice.{flag}
 use Rattle.lines.specs.Search.{word_bytes, bytes_in}
 use Rattle.lines.proofs.Newlines.{before-most, none-in-word, first-in-word}

@@ -2,7 +2,6 @@ use Rattle.simulator.proofs.Packing.{certificate-packs}
 use Rattle.simulator.proofs.Posting.{posts-none, each_fits, each_turn}
 use Rattle.model.specs.Moves.{to_correct, to_each}
 use native.Mathlib.Omega.{arith}
-use Prim.Native.Nat.{◌-◌}
 use mathlib.Core.Path.{refl}
 use Rattle.simulator.proofs.moves.broadcast.Goals as goal
 

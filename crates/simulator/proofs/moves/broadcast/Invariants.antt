@@ -5,7 +5,6 @@ use Prim.Native.Nat.{◌≤◌, ◌-◌}
 use mathlib.Core.Path.{◌≡◌}
 use Rattle.simulator.proofs.moves.broadcast.Given as goal
 
-
 abbrev pub invariant-loop-q : goal.invariant-loop-q
 invariant-loop-q l = (l.q ≤ l.plan.n) × Posts (to_correct l.plan l.faulty (to_each l.stage l.w l.q)) l.held l.time l.initial.network l.h l.network × (length l.network ≡ length l.initial.network)
 

@@ -1,5 +1,5 @@
 use mathlib.Core.Path.{◌≡◌, refl, subst}
-use Prim.Native.Nat.{ℕ, ◌-◌}
+use Prim.Native.Nat.{ℕ}
 use native.Mathlib.Omega.{arith}
 use Rattle.simulator.proofs.Starting.{starts_below, starts_more, starts-all}
 use Rattle.simulator.proofs.opening.blank.Goals as goal

@@ -10,7 +10,7 @@ use Rattle.model.specs.Processors.{processor_unsound}
 use Rattle.base.specs.ScanLaws.{some-not}
 use lib.ListN.{length}
 use native.Mathlib.Omega.{arith}
-use Prim.Native.Nat.{ℕ, ◌+◌, ◌-◌, ◌≤◌}
+use Prim.Native.Nat.{ℕ, ◌+◌, ◌≤◌}
 use mathlib.Core.Bool.{false}
 use mathlib.Core.Path.{◌≡◌, refl, ap, ◌∙◌, subst}
 use Rattle.simulator.proofs.ticks.arrive_all.Goals as goal

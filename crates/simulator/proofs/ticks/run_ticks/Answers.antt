@@ -5,7 +5,7 @@ use Rattle.simulator.specs.Inner.{ran_to}
 use Rattle.model.specs.Events.{ticks}
 use Rattle.model.specs.State.{State, state_of, run_from}
 use native.Mathlib.Omega.{arith}
-use Prim.Native.Nat.{ℕ, ◌-◌}
+use Prim.Native.Nat.{ℕ}
 use mathlib.Core.List.{[]}
 use mathlib.Core.Path.{◌≡◌, refl, subst}
 use Rattle.simulator.proofs.ticks.run_ticks.Goals as goal

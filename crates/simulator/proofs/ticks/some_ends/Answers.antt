@@ -1,7 +1,6 @@
 use Rattle.types.specs.Quantities.{end_time, correct}
 use mathlib.Core.Path.{◌≡◌, sym, ◌∙◌}
 use mathlib.Core.Bool.{true, false}
-use mathlib.Core.Logic.{⊎_elim}
 use Prim.Native.Nat.{ℕ, ◌+◌, ◌*◌, ◌-◌, ◌≤◌, ◌<◌}
 use native.Mathlib.Omega.{arith}
 use native.Mathlib.Nat.{le_refl, mul-pos}
@@ -47,7 +46,7 @@ pub loop-q-preserved : goal.loop-q-preserved
 loop-q-preserved c = (
   omega arith,
   λ v. some-on (ends_at (run_from c.args.head c.args.clocks.now v)) c.loop-q.q (c.loop-q.invariant.1 v) (elim c.if-last-clocks.branch [
-      then-last-clocks+else-correct w ↦ and-not-first _ _ (sym w.correct.ensures ∙ w.if-correct.false)
+    | then-last-clocks+else-correct w ↦ and-not-first _ _ (sym w.correct.ensures ∙ w.if-correct.false)
     | else-last-clocks w ↦ and-not-second (correct c.args.head.plan c.args.head.faulty c.loop-q.q) _ (goes-on-next c.args.head.plan c.requires c.end_time-last.result c.end_time-last.ensures _ w.if-last-clocks.false)
   ]),
 )

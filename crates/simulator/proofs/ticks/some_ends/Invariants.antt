@@ -7,7 +7,6 @@ use Rattle.model.specs.State.{run_from}
 use Rattle.simulator.specs.Inner.{ends_at}
 use Rattle.simulator.proofs.ticks.some_ends.Given as goal
 
-
 abbrev pub invariant-loop-q : goal.invariant-loop-q
 invariant-loop-q l = (l.q ≤ l.head.plan.n) × ((v : List ℕ) → some (ends_at (run_from l.head l.clocks v)) l.q ≡ false)
 

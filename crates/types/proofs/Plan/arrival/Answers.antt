@@ -2,7 +2,6 @@ use Rattle.types.proofs.PlanWords.{start-below, small-fits, small-next, small-ar
 use Rattle.types.specs.PlanFunctions.{clock_time_word}
 use native.Mathlib.Omega.{arith}
 use mathlib.Core.Path.{ap, ◌∙◌}
-use borrow.Author.Rules.{rules}
 use Rattle.types.proofs.Plan.arrival.Goals as goal
 
 pub overflow_mul-result : goal.overflow_mul-result

@@ -1,6 +1,5 @@
 use Rattle.types.proofs.PlanWords.{small-fits, quotient_fits, quotient-large, time-fits, time-large, time-zero}
 use native.Mathlib.Omega.{arith}
-use borrow.Author.Rules.{rules}
 use Rattle.types.proofs.Plan.clock_time.Goals as goal
 
 pub overflow_mul-result : goal.overflow_mul-result

@@ -1,6 +1,5 @@
 use lib.Dec.{T}
 use mathlib.Core.Path.{sym, subst}
-use borrow.Author.Rules.{rules}
 use Rattle.types.proofs.Plan.is_small.Goals as goal
 
 pub returns-then-w-ge-NUMBERS : goal.returns-then-w-ge-NUMBERS

@@ -1,4 +1,3 @@
-use borrow.Author.Rules.{rules}
 use Rattle.types.proofs.Plan.start_limit.Goals as goal
 
 pub returns : goal.returns

@@ -1,5 +1,4 @@
 use mathlib.Core.Path.{refl}
-use borrow.Author.Rules.{rules}
 use Rattle.types.proofs.Traffic.none.Goals as goal
 
 pub returns : goal.returns

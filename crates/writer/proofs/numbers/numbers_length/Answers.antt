@@ -1,4 +1,3 @@
-use Rattle.std.proofs.Common.{◌-◌}
 use Rattle.writer.proofs.Spacing.{measured-more}
 use Rattle.writer.proofs.numbers.numbers_length.Goals as goal
 

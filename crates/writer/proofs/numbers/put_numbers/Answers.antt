@@ -1,4 +1,3 @@
-use Rattle.std.proofs.Common.{◌-◌}
 use Rattle.writer.proofs.Spacing.{listed-none, next-room, listed_more}
 use Rattle.writer.proofs.numbers.put_numbers.Goals as goal
 

@@ -1,4 +1,3 @@
-use Rattle.std.proofs.Common.{◌-◌}
 use Rattle.writer.proofs.Stamping.{copied_none, copied_more}
 use Rattle.writer.proofs.pieces.put_word.Goals as goal
 

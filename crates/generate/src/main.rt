@@ -1,5 +1,6 @@
 // The generate program: a load out of a seed number, on standard output. What is refused, and wrong arguments, are told on standard error.
 #![tactic(auto)]
+
 mod pieces;
 
 ghost use Rattle.std.specs.Prelude.{◌≤◌, length};

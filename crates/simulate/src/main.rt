@@ -1,5 +1,6 @@
 // The simulate program: a schedule on standard input, its printout on standard output.
 #![tactic(auto)]
+
 use std::io;
 
 fn main(rt: HostRuntime) -> io::Result<()> {

@@ -1,6 +1,7 @@
 // The simulate program and the traffic program between a reader and a writer. What is read and what is printed are the driver's; here bytes are moved, and
 // a report is printed. An error is one that the reader or the writer gave, or tells of a writer that takes no more.
 #![tactic(auto)]
+
 ghost use Rattle.std.specs.Prelude.{◌≡◌, cond, ◌+◌, ◌-◌, ◌≤◌, length, take, drop, replicate, IfOk};
 ghost use Rattle.lines.specs.Clauses.{Prints};
 ghost use Rattle.lines.specs.Printout.{printed_most, totals_most};

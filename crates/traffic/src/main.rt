@@ -1,5 +1,6 @@
 // The traffic program: a schedule on standard input, the report of the run open at its end on standard output.
 #![tactic(auto)]
+
 use std::io;
 
 fn main(rt: HostRuntime) -> io::Result<()> {

@@ -1,5 +1,6 @@
 // Moving bytes between lent buffers and a reader or a writer. An error is one that the reader or the writer gave, or tells of a writer that takes no more.
 #![tactic(auto)]
+
 ghost use Rattle.std.specs.Prelude.{◌≤◌, length, IfOk, OnOk};
 ghost use Rattle.std.specs.Io.KnownBytes.{Appends};
 ghost use Rattle.transfer.specs.Moves.{Grows, Shrinks};

@@ -1,5 +1,6 @@
 // Prints what each line of its input is read as, and whether that is written as the same bytes.
 #![tactic(auto)]
+
 ghost use Rattle.std.specs.Prelude.{◌≡◌, true, ◌<◌, ◌≤◌, length, take, IfOk};
 ghost use Rattle.lines.specs.Clauses.{line};
 

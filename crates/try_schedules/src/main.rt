@@ -1,5 +1,6 @@
 // Runs the schedules that its arguments name, as simulate does: for each a line with its name, and the printout.
 #![tactic(auto)]
+
 use std::env::FillError;
 use std::rt::{Env, Files};
 use std::{fs, io, str};

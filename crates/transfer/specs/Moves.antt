@@ -1,6 +1,5 @@
 -- What a call leaves, where it is known, of the bytes that a reader has left and of those that a writer holds: after an error too.
-use Rattle.std.specs.Prelude.{ℕ, List}
-use Rattle.core.specs.declared.option.Option.{Option}
+use Rattle.std.specs.Prelude.{ℕ, List, Option}
 use Rattle.std.specs.Io.KnownBytes.{Appends, Consumes}
 
 -- that the bytes written before stay, and more or none follow

@@ -1,0 +1,2 @@
+-- Laws of what a call leaves, which the crates above cite too.
+pub mod Moves

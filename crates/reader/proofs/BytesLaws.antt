@@ -31,8 +31,8 @@ pub record IsDigit (b : ℕ) : Type 0 where
 pub digit-is : (b : ℕ) → T (is_digit b) → IsDigit b
 digit-is b t = record { least = leb→le (digit 0) b (T-left (leb (digit 0) b) (leb b (digit 9)) t); most = leb→le b (digit 9) (T-right (leb (digit 0) b) (leb b (digit 9)) t) }
 
-pub is_digit : (b : ℕ) → IsDigit b → is_digit b ≡ true
-is_digit b i = and_both _ _ (le-leb (digit 0) b i.least) (le-leb b (digit 9) i.most)
+pub is_digit_lem : (b : ℕ) → IsDigit b → is_digit b ≡ true
+is_digit_lem b i = and_both _ _ (le-leb (digit 0) b i.least) (le-leb b (digit 9) i.most)
 
 -- what a class says of its byte
 abbrev pub Means : Class → ℕ → Type 0
@@ -99,7 +99,7 @@ pub digit-run : (s : List ℕ) (i d : ℕ) → class_at s i ≡ Digit d → digi
 digit-run s i d e =
     let h = class-here s i (Digit d) e tt in
     let x : IsDigit (digit d) = record { least = omega arith; most = omega arith } in
-    rw (drop-cons s i 0 h.inside, h.byte.1, is_digit (digit d) x, add-one)
+    rw (drop-cons s i 0 h.inside, h.byte.1, is_digit_lem (digit d) x, add-one)
 
 pub no_digit : (s : List ℕ) (i : ℕ) → ((d : ℕ) → class_at s i ≡ Digit d → ⊥) → digit_run (drop i s) ≡ []
 no_digit s i n = ⊎_elim (λ (h : length s ≤ i). rw (drop_of_length-le s h)) inner (le? (length s) i)

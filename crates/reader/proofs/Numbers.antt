@@ -18,7 +18,7 @@ use Rattle.reader.specs.declared.Number.{Number}
 use Rattle.reader.specs.declared.Number.TheVariants.{Value, NoNumber}
 use Rattle.reader.specs.Bytes.{is_digit, digit_run, spelled}
 use Rattle.reader.specs.Scan.{fitting, numeral, number_at}
-use Rattle.reader.proofs.BytesLaws.{IsDigit, digit-is, is_digit}
+use Rattle.reader.proofs.BytesLaws.{IsDigit, digit-is, is_digit_lem}
 use Rattle.reader.proofs.ScanLaws.{spelled-least}
 
 -- ---- digits
@@ -39,7 +39,7 @@ run-split (b ∷ l) =
 
 run-all : (a r : List ℕ) → Digits a → digit_run r ≡ [] → digit_run (a ++ r) ≡ a
 run-all [] r h q = q
-run-all (b ∷ a) r h q = rw (is_digit b h.0) (ap (λ (l : List ℕ). b ∷ l) (run-all a r h.1 q))
+run-all (b ∷ a) r h q = rw (is_digit_lem b h.0) (ap (λ (l : List ℕ). b ∷ l) (run-all a r h.1 q))
 
 -- ---- what digits spell
 

@@ -89,7 +89,7 @@ skims s a u h v = ap₂ skimmed_reading h v ∙ skimmed-reading s
 pub skims-opening : (s : List ℕ) (a : Read) (u : Setup) → a ≡ skimmed s → a ≡ Read.Opening → u ≡ (reading s).setup → opening_or u ≡ reading s
 skims-opening s a u h q v = ap (λ (x : Read). skimmed_reading x u) (sym q) ∙ skims s a u h v
 
-pub skims-plain : (s : List ℕ) (a : Read) → a ≡ skimmed s → OneOf (0 ∷ 2 ∷ []) (tag_of the_type a) → read_as a no_setup ≡ reading s
+pub skims-plain : (s : List ℕ) (a : Read) → a ≡ skimmed s → (a ≡ Read.Opening → ⊥) → read_as a no_setup ≡ reading s
 skims-plain s (Read.Event e) h o = skims s (Read.Event e) (reading s).setup h refl
-skims-plain s Read.Opening h o = absurd (miss (0 ∷ 2 ∷ []) 1 tt o)
+skims-plain s Read.Opening h o = absurd (o refl)
 skims-plain s Read.NoForm h o = skims s Read.NoForm (reading s).setup h refl

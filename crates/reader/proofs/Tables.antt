@@ -32,8 +32,8 @@ ends r = close_bracket ++ (close_bracket ++ r)
 abbrev pub table_before : List ℕ → List ℕ → List ℕ
 table_before cs r = one_blank ++ (open_bracket ++ (clocks_form cs ++ ends r))
 
-table_before : (c : ℕ) (cs r : List ℕ) → table_before (c ∷ cs) r ≡ one_blank ++ (open_bracket ++ (decimal c ++ spaced_before cs (ends r)))
-table_before c cs r =
+table_before-more : (c : ℕ) (cs r : List ℕ) → table_before (c ∷ cs) r ≡ one_blank ++ (open_bracket ++ (decimal c ++ spaced_before cs (ends r)))
+table_before-more c cs r =
     ap (λ (l : List ℕ). one_blank ++ (open_bracket ++ l))
     (append_assoc (decimal c) (further_clocks cs) (ends r) ∙ ap (λ (l : List ℕ). decimal c ++ l) (spaced-before cs (ends r)))
 
@@ -82,7 +82,7 @@ by-table P s at n f p g h = by_first Q s at _ no_table (λ c k m e. further c k 
           bytes =
               d
               ∙ ap (λ (r : List ℕ). one_blank ++ (open_bracket ++ (decimal c ++ r))) (t.bytes ∙ ap (spaced_before x.numbers) i)
-              ∙ sym (table_before c x.numbers (drop e s));
+              ∙ sym (table_before-more c x.numbers (drop e s));
           number = omega (arith, eqb→eq (length x.numbers) (n - 1) q);
           below = (m, t.below);
         })) h) (λ _. h)
@@ -93,7 +93,7 @@ first-there : {A : Type 0} (P : A → Type 0) (s : List ℕ) (at : ℕ) (f : ℕ
     → Left s at (table_before (c ∷ cs) r) → c < field_limit → ((k : ℕ) → Left s k (spaced_before cs (ends r)) → P (f c k)) → P (on_number (first_clock_at s at) f z)
 unfolding first_clock_at
 first-there P s at f z c cs r h m g =
-    word-there Q s at one_blank _ NoNumber _ (subst (Left s at) (table_before c cs r) h)
+    word-there Q s at one_blank _ NoNumber _ (subst (Left s at) (table_before-more c cs r) h)
     (λ a l. word-there Q s a open_bracket (number_at s) NoNumber _ l
     (λ b i. number-there P s b f z c (spaced_before cs (ends r)) i m (no_digit cs (ends r) refl) g))
   where

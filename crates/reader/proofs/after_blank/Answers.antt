@@ -1,4 +1,4 @@
-use Rattle.reader.proofs.BytesLaws.{Here, class-here, not-blank}
+use Rattle.reader.proofs.BytesLaws.{class-here}
 use Rattle.reader.proofs.ScanLaws.{after-byte, away-byte}
 use Rattle.reader.specs.declared.Class.TheVariants.{Blank}
 use Rattle.reader.specs.Bytes.{class_of}
@@ -8,13 +8,10 @@ use Rattle.reader.proofs.after_blank.Goals as goal
 
 pub returns-in_default : goal.returns-in_default
 unfolding class_of
-returns-in_default c = away-byte _ _ _ λ e. not-blank _ c.in-Blank.keys2 (c.class_at.ensures ∙ e)
-
-here : (c : tie.After-enum-told) → Here c.args.s.now c.args.at Blank
-here c = class-here _ _ Blank (sym c.class_at.ensures ∙ c.in-Blank.is) tt
+returns-in_default c = away-byte _ _ _ λ e. c.in_default.not-Blank (c.class_at.ensures ∙ e)
 
 pub overflow_add-result : goal.overflow_add-result
-overflow_add-result c = omega (arith, c.well_formed, here c)
+overflow_add-result c = omega (arith, c.well_formed, (class-here _ _ Blank (sym c.class_at.ensures ∙ c.in-Blank.is) tt))
 
 pub returns : goal.returns
-returns c = after-byte _ _ _ (here c).inside (here c).byte
+returns c = after-byte _ _ _ (class-here _ _ Blank (sym c.class_at.ensures ∙ c.in-Blank.is) tt).inside (class-here _ _ Blank (sym c.class_at.ensures ∙ c.in-Blank.is) tt).byte

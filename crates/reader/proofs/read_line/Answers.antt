@@ -11,4 +11,4 @@ pub returns-else-setup-eq0 : goal.returns-else-setup-eq0
 returns-else-setup-eq0 c = (c.in-Opening.is ∙ ap (λ (x : Reading). x.read) (sym (some-opening _ c.if-setup-eq0.false) ∙ skims-opening _ _ _ c.skim_line-read.ensures c.in-Opening.is c.read_setup-setup.ensures.0), reading-reads _)
 
 pub returns-in_default : goal.returns-in_default
-returns-in_default c = (ap (λ (x : Reading). x.read) (skims-plain _ _ c.skim_line-read.ensures c.in-Opening.keys2), reading-reads _)
+returns-in_default c = (ap (λ (x : Reading). x.read) (skims-plain _ _ c.skim_line-read.ensures c.in_default.not-Opening), reading-reads _)

@@ -1,7 +1,9 @@
 // The archive for C: each export is the library's function of the same name, with the same promise. Every function takes every argument; a refused call
 // has changed nothing that was lent.
 #![tactic(auto)]
+
 ghost use Rattle.std.specs.Prelude.{[], ◌∷◌};
+ghost use Rattle.types.specs.declared.Form.TheVariants as Form;
 ghost use Rattle.types.specs.Runs.{plan_in};
 ghost use Rattle.words.specs.Events.{event_of};
 ghost use Rattle.fever.specs.Clauses.{lent_of, OpensWords, AppliesWords, AppliesEvents, move_of, StepsWords, ReadsWords, WritesEvent, WritesSetup};

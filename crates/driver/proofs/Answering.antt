@@ -96,7 +96,7 @@ one-replied r x = let y : Reply = read_reply r no_setup x in
     ap (λ (t : List ℕ). record { place = place_at y.standing []; text = t }) (append-nil (printed_line y))
 
 pub line-batched : (n : ℕ) (s : List ℕ) (opened : Bool) (st : State) (a : Read) (k : Numbers) (ws out tally network : List ℕ) (r : Served) (after : List ℕ) → a ≡ skimmed s
-    → OneOf (0 ∷ 2 ∷ []) (tag_of ReadType.the_type a) → k ≡ read_numbers a → ws ≡ numbers_put (0 ∷ 0 ∷ 0 ∷ 0 ∷ []) 0 k
+    → (a ≡ Read.Opening → ⊥) → k ≡ read_numbers a → ws ≡ numbers_put (0 ∷ 0 ∷ 0 ∷ 0 ∷ []) 0 k
     → Passes n (advanced opened (events_in ws) (words_answered opened ws st)) out tally network r after → Passes n (replying (line_reply s (leaving opened st))) out tally network r after
 line-batched n s opened st a k ws out tally network r after h o q w p =
     let x : Standing = leaving opened st in
@@ -121,12 +121,12 @@ due false s room r e q p = go (ltb room printed_most) refl (sym q ∙ p)
     go true b k = absurd (unfinished-line e k)
     go false b k = (refl, ltb-false room printed_most b, k)
 
-pub not-due : (late : Bool) (s : List ℕ) (room : ℕ) (r : Next) → r ≡ due_line late s room → OneOf (1 ∷ 2 ∷ 3 ∷ []) (tag_of NextType.the_type r) → NotDue late s room
+pub not-due : (late : Bool) (s : List ℕ) (room : ℕ) (r : Next) → r ≡ due_line late s room → ((e : ℕ) → r ≡ Line e → ⊥) → NotDue late s room
 unfolding due_line
 not-due true s room r q o e p l = refl
 not-due false s room r q o e p l =
     let k : r ≡ Line e = q ∙ sym (cond_no (ltb room printed_most) (next_line s) Unfinished (next_line s) (le-ltb room printed_most l) refl) ∙ p in
-    absurd (miss (1 ∷ 2 ∷ 3 ∷ []) 0 tt (subst (λ (z : Next). OneOf (1 ∷ 2 ∷ 3 ∷ []) (tag_of NextType.the_type z)) k o))
+    absurd (o e k)
 
 -- ---- a turn with a batch
 

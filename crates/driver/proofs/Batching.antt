@@ -55,7 +55,7 @@ printed-first opened a b c d ws (suc k) =
     ∙ append_assoc (line (answer_form (printed_as opened a b c d))) (printed_up_to opened ws k) _
 
 -- the lines printed one behind the other
-module _ {opened : Bool} {ws out : List ℕ} {i at : ℕ} {e : List ℕ} (t : Told (printed_up_to opened ws) out i at e) {most : ℕ} (l : i < most) (h : most * printed_most ≤ length out)
+module _ (opened : Bool) (ws : List ℕ) {out : List ℕ} {i at : ℕ} {e : List ℕ} (t : Told (printed_up_to opened ws) out i at e) {most : ℕ} (l : i < most) (h : most * printed_most ≤ length out)
     {a : Answer} {m : ℕ} {f : List ℕ} (q : a ≡ printed_at opened ws i) (w : Put (line (answer_form a)) (mid_of at (length e - at) e) m f) where
   pub answer-fits : at + m ≤ length out
   answer-fits = told-fits t l h w (answer-length a)

@@ -34,19 +34,19 @@ use Rattle.driver.proofs.Serving.{fed-read}
 -- ---- one line
 
 -- which variants are left
-pub plain-read : (r : Read) → OneOf (0 ∷ 2 ∷ []) (tag_of the_type r) → NoOpening (r ∷ [])
+pub plain-read : (r : Read) → (r ≡ Read.Opening → ⊥) → NoOpening (r ∷ [])
 plain-read (Read.Event e) o = tt
-plain-read Read.Opening o = absurd (miss (0 ∷ 2 ∷ []) 1 tt o)
+plain-read Read.Opening o = absurd (o refl)
 plain-read Read.NoForm o = tt
 
-pub unread : (r : Read) → OneOf (1 ∷ 2 ∷ []) (tag_of the_type r) → four_numbers 0 0 0 0 ≡ read_numbers r
-unread (Read.Event e) o = absurd (miss (1 ∷ 2 ∷ []) 0 tt o)
+pub unread : (r : Read) → ((e : Event) → r ≡ Read.Event e → ⊥) → four_numbers 0 0 0 0 ≡ read_numbers r
+unread (Read.Event e) o = absurd (o e refl)
 unread Read.Opening o = refl
 unread Read.NoForm o = refl
 
 -- a line that was skimmed, and does not begin as an opening
 pub noted : (s : List ℕ) (n : Next) (e : ℕ) (r : Read) (k : Numbers) → n ≡ next_line s → n ≡ Line e → r ≡ skimmed (take e s)
-    → OneOf (0 ∷ 2 ∷ []) (tag_of the_type r) → k ≡ read_numbers r → Notes s (record { used = e + 1; numbers = k })
+    → (r ≡ Read.Opening → ⊥) → k ≡ read_numbers r → Notes s (record { used = e + 1; numbers = k })
 noted s n e r k q p z o h =
     record {
       within = omega (arith, line-inside s n e q p);

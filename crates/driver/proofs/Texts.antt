@@ -88,7 +88,7 @@ one-most : (t : Bool) (p view clock : ℕ) → length (cond t (line (processor_f
 one-most true p view clock = processor-length p view clock
 one-most false p view clock = omega arith
 
-module _ {run : Run} {out : List ℕ} {p at : ℕ} {e : List ℕ} (t : Told (processor_lines run) out p at e) {most : ℕ} (l : p < most) (h : most * printed_most ≤ length out)
+module _ (run : Run) {out : List ℕ} {p at : ℕ} {e : List ℕ} (t : Told (processor_lines run) out p at e) {most : ℕ} (l : p < most) (h : most * printed_most ≤ length out)
     {m : ℕ} {f : List ℕ} (w : Put (processor_text run p) (mid_of at (length e - at) e) m f) where
   pub processor-fits : at + m ≤ length out
   processor-fits = told-fits t l h w (one-most (is_correct run p) p (view_of run p) (clock_of run p))

@@ -7,7 +7,7 @@ use native.Mathlib.Omega.{arith}
 use native.Mathlib.Nat.{lt_of_mul-lt-mul_right}
 use lib.Dec.{T}
 use Rattle.protocol.specs.Params as proto
-use Rattle.protocol.specs.Quorum.{exists-entered}
+use Rattle.protocol.proofs.Quorum.{exists-entered}
 use Rattle.types.specs.declared.Plan.{Plan}
 use Rattle.types.specs.declared.Message.{Message}
 use Rattle.types.specs.declared.Message.TheVariants.{View, Vote, Vc, Qc}

@@ -14,7 +14,8 @@ use Rattle.base.specs.Sets.{member, size}
 use Rattle.protocol.specs.Params as proto
 use Rattle.protocol.specs.Params.{Params}
 use Rattle.protocol.specs.State.{Processors, Tally, nearby}
-use Rattle.protocol.specs.Opening.{Open, open-holds}
+use Rattle.protocol.specs.Opening.{Open}
+use Rattle.protocol.proofs.Opening.{open-holds}
 use Rattle.types.specs.declared.Plan.{Plan}
 use Rattle.types.specs.declared.Run.{Run}
 use Rattle.types.specs.declared.Setup.{Setup}

@@ -26,10 +26,12 @@ use Rattle.base.specs.Sets.{size}
 use Rattle.protocol.specs.Params as proto
 use Rattle.protocol.specs.Params.{Params}
 use Rattle.protocol.specs.State.{nearby}
-use Rattle.protocol.specs.Quorum.{some-correct}
-use Rattle.protocol.specs.Runs.{steps-kept, steps-flag, steps-view-up, steps-clock-up}
+use Rattle.protocol.proofs.Quorum.{some-correct}
+use Rattle.protocol.specs.Runs.{steps-kept, steps-flag}
+use Rattle.protocol.proofs.RunsUp.{steps-view-up, steps-clock-up}
 use Rattle.protocol.specs.Runs as runs
-use Rattle.protocol.specs.End.{settle-holds, Reached, reached}
+use Rattle.protocol.specs.End.{Reached}
+use Rattle.protocol.proofs.End.{settle-holds, reached}
 use Rattle.types.specs.declared.Plan.{Plan}
 use Rattle.types.specs.declared.Event.{Event}
 use Rattle.types.specs.declared.Event.TheVariants.{Deliver, Sign, Show, Settle, Tick}

@@ -7,7 +7,7 @@ use native.Mathlib.Omega.{arith}
 use lib.Dec.{T, eqb, leb, ltb, leb→le, ltb→lt, T_not, not_T}
 use Rattle.base.specs.Tests.{passes?, T-left, T-right, eq→eqb}
 use Rattle.protocol.specs.Params.{Params}
-use Rattle.protocol.specs.Quorum.{some-correct}
+use Rattle.protocol.proofs.Quorum.{some-correct}
 use Rattle.types.specs.declared.Plan.{Plan}
 use Rattle.types.specs.Quantities.{end_time, correct}
 use Rattle.model.specs.State.{State}

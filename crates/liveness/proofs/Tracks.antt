@@ -9,8 +9,9 @@ use lib.ListN.{length}
 use Rattle.protocol.specs.Params.{Params}
 use Rattle.protocol.specs.State.{Processors, Tally}
 use Rattle.protocol.specs.Base.{Base}
-use Rattle.protocol.specs.Runs.{St, st, Steps, none, steps-trans, steps-kept, steps-flag, steps-clock-up}
-use Rattle.protocol.specs.RunKeeps.{steps-holds}
+use Rattle.protocol.specs.Runs.{St, st, Steps, none, steps-trans, steps-kept, steps-flag}
+use Rattle.protocol.proofs.RunsUp.{steps-clock-up}
+use Rattle.protocol.proofs.RunKeeps.{steps-holds}
 use Rattle.types.specs.declared.Plan.{Plan}
 use Rattle.types.specs.declared.Form.{Form}
 use Rattle.types.specs.Quantities.{correct}

@@ -1,18 +1,11 @@
--- The protocol as small transitions, its invariants, and that it is live.
+-- The protocol as small transitions, its invariants, and what a run reaches.
 pub mod Params
 pub mod State
 pub mod Base
-pub mod Quorum
 pub mod Moves
-pub mod HearKeeps
-pub mod EnterKeeps
-pub mod TickKeeps
 pub mod Timed
 pub mod HearTimed
-pub mod EnterTimed
-pub mod TickTimed
 pub mod Pass
-pub mod Target
 pub mod Runs
 pub mod RunKeeps
 pub mod Opening

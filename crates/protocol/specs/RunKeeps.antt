@@ -1,16 +1,9 @@
--- Every step and every run keeps the base invariant and, once settled, the timed one. Assumes nothing.
+-- What every step and every run keeps: the base invariant of a state and, once settled, the timed one. Assumes nothing.
 use Rattle.std.specs.Prelude.{ℕ, T}
 use Rattle.protocol.specs.Params.{Params}
 use Rattle.protocol.specs.Base.{Base}
-use Rattle.protocol.specs.HearKeeps.{hear-keeps}
-use Rattle.protocol.specs.EnterKeeps.{enter-keeps}
-use Rattle.protocol.specs.TickKeeps.{tick-keeps}
-use Rattle.protocol.specs.Timed.{Target, Timed}
-use Rattle.protocol.specs.HearTimed.{hear-timed}
-use Rattle.protocol.specs.EnterTimed.{enter-timed}
-use Rattle.protocol.specs.TickTimed.{tick-timed}
-use Rattle.protocol.specs.Pass.{pass-keeps, pass-timed}
-use Rattle.protocol.specs.Runs.{St, st, Step, hears, enters, passes, ticks-on, Steps, none, more}
+use Rattle.protocol.specs.Timed.{Timed}
+use Rattle.protocol.specs.Runs.{St, st}
 
 -- the base invariant of a state
 abbrev pub Holds : Params → St → Type 0
@@ -19,23 +12,3 @@ Holds π (st P L F now S b) = Base π P L F now S b
 -- the timed invariant of a state that has settled
 abbrev pub OnTime : Params → ℕ → ℕ → ℕ → St → Type 0
 OnTime π M star v (st P L F now S b) = T b × Timed π P L F now S M star v
-
-pub step-holds : {π : Params} {s s' : St} → Step π s s' → Holds π s → Holds π s'
-step-holds (hears q v p h) i = hear-keeps h i
-step-holds (enters p w h) i = enter-keeps h i
-step-holds (passes h) i = pass-keeps h i
-step-holds (ticks-on c h) i = tick-keeps h i
-
-pub steps-holds : (π : Params) {s s' : St} → Steps π s s' → Holds π s → Holds π s'
-steps-holds π none i = i
-steps-holds π (more r x) i = step-holds x (steps-holds π r i)
-
-step-on-time : {π : Params} {M star v : ℕ} → Target π M star v → {s s' : St} → Step π s s' → Holds π s → OnTime π M star v s → OnTime π M star v s'
-step-on-time g (hears q u p h) i c = (c.0, hear-timed h g c.1)
-step-on-time g (enters p w h) i c = (c.0, enter-timed h c.0 i g c.1)
-step-on-time g (passes h) i c = (c.0, pass-timed h c.1)
-step-on-time g (ticks-on k h) i c = (c.0, tick-timed h c.0 i g c.1)
-
-pub steps-on-time : (π : Params) (M star v : ℕ) → Target π M star v → {s s' : St} → Steps π s s' → Holds π s → OnTime π M star v s → OnTime π M star v s'
-steps-on-time π M star v g none i c = c
-steps-on-time π M star v g (more r x) i c = step-on-time g x (steps-holds π r i) (steps-on-time π M star v g r i c)

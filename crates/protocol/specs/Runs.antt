@@ -1,10 +1,9 @@
--- The states, the small transitions as one relation, runs of them, and what a run does to time, views and clocks. Assumes nothing.
-use Rattle.std.specs.Prelude.{◌≡◌, refl, Bool, ℕ, ◌+◌, ◌≤◌, T}
+-- The states, the small transitions as one relation, runs of them, and what a run does to time. Assumes nothing.
+use Rattle.std.specs.Prelude.{◌≡◌, refl, Bool, ℕ, ◌+◌}
 use Rattle.std.proofs.Common.{◌∙◌, arith}
 use Rattle.protocol.specs.Params.{Params}
 use Rattle.protocol.specs.State.{Processors, Tally, Flight}
 use Rattle.protocol.specs.Moves.{Hear, Enter, Pass, Tick, clocked}
-use Rattle.protocol.specs.EnterKeeps.{view_up, clock_up}
 
 -- processors, tally, flight, time, settling time, settled
 pub data St : Type 1 where
@@ -84,27 +83,3 @@ step-flag π (ticks-on c h) = refl
 pub steps-flag : (π : Params) {s s' : St} → Steps π s s' → settled-of s' ≡ settled-of s
 steps-flag π none = refl
 steps-flag π (more r x) = step-flag π x ∙ steps-flag π r
-
--- no correct processor goes back to an earlier view
-step-view-up : (π : Params) {s s' : St} → Step π s s' → (p : ℕ) → T (π.correct p) → view_of s p ≤ view_of s' p
-step-view-up π (hears q v r h) p c = omega arith
-step-view-up π (enters r w h) p c = view_up h p
-step-view-up π (passes h) p c = omega arith
-step-view-up π (ticks-on k h) p c = omega arith
-
-pub steps-view-up : (π : Params) {s s' : St} → Steps π s s' → (p : ℕ) → T (π.correct p) → view_of s p ≤ view_of s' p
-steps-view-up π none p c = omega arith
-steps-view-up π (more r x) p c = omega (arith, steps-view-up π r p c, step-view-up π x p c)
-
--- every correct clock advances with every tick
-step-clock-up : (π : Params) {s s' : St} (x : Step π s s') (p : ℕ) → T (π.correct p) → clock-of s p + step-ticks π x ≤ clock-of s' p
-unfolding step-ticks
-step-clock-up π (hears q v r h) p c = omega arith
-step-clock-up π (enters r w h) p c = omega (arith, clock_up h p)
-step-clock-up π (passes h) p c = omega arith
-step-clock-up π (ticks-on k h) p c = omega (arith, h.clock_up p c)
-
-pub steps-clock-up : (π : Params) {s s' : St} (r : Steps π s s') (p : ℕ) → T (π.correct p) → clock-of s p + ticks_in π r ≤ clock-of s' p
-unfolding ticks_in
-steps-clock-up π none p c = omega arith
-steps-clock-up π (more r x) p c = omega (arith, steps-clock-up π r p c, step-clock-up π x p c)

@@ -5,9 +5,9 @@ use Rattle.base.specs.Tests.{le?, eq?}
 use Rattle.protocol.specs.Params.{Params, lead, next-least, initial-gap}
 use Rattle.protocol.specs.State.{Processors, Tally, Flight, Starts}
 use Rattle.protocol.specs.Base.{Base}
-use Rattle.protocol.specs.Quorum.{exists-entered}
+use Rattle.protocol.proofs.Quorum.{exists-entered}
 use Rattle.protocol.specs.Moves.{Reason, by-clock, by-certificate, Enter}
-use Rattle.protocol.specs.EnterKeeps.{enters-above, clock_up}
+use Rattle.protocol.proofs.EnterKeeps.{enters-above, clock_up}
 use Rattle.protocol.specs.Timed.{Target, Waiting, Timed}
 
 module _ {π : Params} {P P' : Processors} {L : Tally} {F F' : Flight} {now S : ℕ} {b : Bool} {p w : ℕ}

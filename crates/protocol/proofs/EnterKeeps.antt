@@ -6,7 +6,7 @@ use Rattle.base.specs.Count.{count, count-mono}
 use Rattle.protocol.specs.Params.{Params, lead, next, next-above, next-mono}
 use Rattle.protocol.specs.State.{Processors, Tally, Flight, nearby, onward}
 use Rattle.protocol.specs.Base.{BaseProcessors, BaseTally, BaseFlight, BaseTimes, Base, times-kept}
-use Rattle.protocol.specs.Quorum.{exists-entered, quorum-count, entered-clock, near-mono, allowed-before}
+use Rattle.protocol.proofs.Quorum.{exists-entered, quorum-count, entered-clock, near-mono, allowed-before}
 use Rattle.protocol.specs.Moves.{Reason, by-clock, by-certificate, Enter}
 
 module _ {π : Params} {P P' : Processors} {L : Tally} {F F' : Flight} {now p w : ℕ} (h : Enter π P P' L F F' now p w) where

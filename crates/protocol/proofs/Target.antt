@@ -9,7 +9,7 @@ use Rattle.std.proofs.Math.Dec.{T}
 use Rattle.base.specs.Tests.{passes?, le?}
 use Rattle.base.specs.Count.{bit, bit_le, count, count-ext, count-some, count_low}
 use Rattle.protocol.specs.Params.{Params, row, lead, Initial}
-use Rattle.protocol.specs.Quorum.{some-correct}
+use Rattle.protocol.proofs.Quorum.{some-correct}
 use Rattle.protocol.specs.Timed.{Target}
 
 -- a part of the numbers below x misses no more members than it misses numbers

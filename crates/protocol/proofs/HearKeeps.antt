@@ -7,7 +7,7 @@ use Rattle.base.specs.Count.{count, count-mono}
 use Rattle.protocol.specs.Params.{Params, lead}
 use Rattle.protocol.specs.State.{Processors, Tally, Flight, Enough, Starts, Allowed, onward}
 use Rattle.protocol.specs.Base.{BaseTally, BaseFlight, BaseTimes, Base, times-kept}
-use Rattle.protocol.specs.Quorum.{enough-mono}
+use Rattle.protocol.proofs.Quorum.{enough-mono}
 use Rattle.protocol.specs.Moves.{Hear}
 
 module _ {π : Params} {P : Processors} {L L' : Tally} {F F' : Flight} {now S : ℕ} {b q : Bool} {v p : ℕ}

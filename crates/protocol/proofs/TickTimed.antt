@@ -6,7 +6,7 @@ use Rattle.base.specs.Count.{count-mono}
 use Rattle.protocol.specs.Params.{Params, lead}
 use Rattle.protocol.specs.State.{Processors, Tally, Flight, nearby}
 use Rattle.protocol.specs.Base.{Base}
-use Rattle.protocol.specs.Quorum.{all-correct, clock-reached}
+use Rattle.protocol.proofs.Quorum.{all-correct, clock-reached}
 use Rattle.protocol.specs.Moves.{Tick, clocked}
 use Rattle.protocol.specs.Timed.{Target, Waiting, Timed}
 

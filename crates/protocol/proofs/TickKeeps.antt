@@ -4,7 +4,7 @@ use Rattle.std.proofs.Common.{arith}
 use Rattle.protocol.specs.Params.{Params}
 use Rattle.protocol.specs.State.{Processors, Tally, Flight}
 use Rattle.protocol.specs.Base.{BaseProcessors, BaseTally, BaseFlight, BaseTimes, Base}
-use Rattle.protocol.specs.Quorum.{near-mono, allowed-before}
+use Rattle.protocol.proofs.Quorum.{near-mono, allowed-before}
 use Rattle.protocol.specs.Moves.{Tick, clocked}
 
 module _ {π : Params} {P : Processors} {c : ℕ → ℕ} {L : Tally} {F : Flight} {now S : ℕ} {b : Bool}

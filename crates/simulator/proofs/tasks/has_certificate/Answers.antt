@@ -1,0 +1,16 @@
+use Rattle.model.specs.Checks.{exists}
+use Rattle.model.specs.Moves.{needed}
+use Rattle.base.specs.Choice.{cond_yes, cond_no}
+use Rattle.base.specs.Sets.{size}
+use lib.Dec.{leb}
+use Prim.Native.Nat.{ℕ, ◌+◌}
+use mathlib.Core.Path.{◌∙◌, ap, ap₂, sym}
+use Rattle.simulator.proofs.tasks.has_certificate.Goals as goal
+
+pub returns-then-led : goal.returns-then-led
+unfolding exists
+returns-then-led c = λ cs vs. cond_yes _ _ _ _ (sym c.led.ensures ∙ c.if-led.true) c.is_marked.ensures
+
+pub returns : goal.returns
+unfolding exists
+returns c = λ cs vs. cond_no _ _ _ _ (sym c.led.ensures ∙ c.if-led.false) (ap (λ (x : ℕ). leb x (c.size.result + c.size-2.result)) c.signers_needed.ensures ∙ ap₂ (λ (x y : ℕ). leb (needed c.args.stage c.args.head.plan) (x + y)) c.size.ensures (c.size-2.ensures ∙ ap size c.entered.ensures))

@@ -1,0 +1,37 @@
+use Rattle.simulator.proofs.Striding.{strides-none, strides-also, strides-rest, strides-ready}
+use Rattle.simulator.proofs.Once.{ticks-ended, run-ended, run-done}
+use Rattle.simulator.proofs.Fitness.{fit_of, room_of}
+use Rattle.simulator.specs.Inner.{ran_to}
+use Rattle.model.specs.Events.{ticks}
+use Rattle.model.specs.State.{State, state_of, run_from}
+use native.Mathlib.Omega.{arith}
+use Prim.Native.Nat.{ℕ, ◌-◌}
+use mathlib.Core.List.{[]}
+use mathlib.Core.Path.{◌≡◌, refl, subst}
+use Rattle.simulator.proofs.ticks.run_ticks.Goals as goal
+
+pub loop-count-init : goal.loop-count-init
+loop-count-init c =
+    let s : State = state_of (run_from c.args.head c.args.clocks.now c.args.views.now) c.args.tally.now c.args.network.now in
+    let fit = fit_of s c.requires.1 in
+    ((omega arith), strides-none s fit (room_of s c.requires.1), refl, refl)
+
+pub advance-t-requires : goal.advance-t-requires
+advance-t-requires c = (strides-ready _ _ _ c.requires.1 c.loop-count.invariant.1, omega (arith, c.loop-count-test.true))
+
+pub returns-then-t-gt0 : goal.returns-then-t-gt0
+returns-then-t-gt0 c =
+    let s₀ : State = state_of (run_from c.args.head c.args.clocks.now c.args.views.now) c.args.tally.now c.args.network.now in
+    let s : State = state_of (run_from c.loop-count.at c.loop-count.clocks c.loop-count.views) c.loop-count.tally c.loop-count.network in
+    run-ended c.args.m c.loop-count.count _ s₀ _ c.stop.result _ _
+    (ticks-ended c.args.m c.loop-count.count _ s₀ s _ c.loop-count-test.true (strides-rest c.args.m c.loop-count.count s₀ s c.loop-count.invariant.0 c.loop-count.invariant.1) (c.advance-t.ensures.ended c.if-t-gt0.true) c.if-t-gt0.true)
+    (rw c.stop.ensures.0 refl) (c.stop.ensures.1 [] [] [] [])
+
+pub loop-count-preserved : goal.loop-count-preserved
+loop-count-preserved c = (omega (arith, (c.advance-t.ensures.number (omega (arith, c.if-t-gt0.false))).1, c.loop-count-test.true), strides-also _ _ _ _ _ c.loop-count.invariant.1 (c.advance-t.ensures.went (omega (arith, c.if-t-gt0.false))), omega (arith, c.loop-count.invariant.2, c.tally-1), omega (arith, c.loop-count.invariant.3, c.network-1))
+
+pub returns : goal.returns
+returns c =
+    let s₀ : State = state_of (run_from c.args.head c.args.clocks.now c.args.views.now) c.args.tally.now c.args.network.now in
+    let e : c.loop-count.count ≡ c.args.m = omega arith in
+    run-done c.args.m c.loop-count.count s₀ c.loop-count.at _ _ _ _ c.requires.0 e (subst (λ (k : ℕ). ticks k s₀ ≡ ran_to (state_of (run_from c.loop-count.at c.loop-count.clocks c.loop-count.views) c.loop-count.tally c.loop-count.network) c.loop-count.count 0) e c.loop-count.invariant.1.ran)

@@ -15,7 +15,7 @@ returns-then-next-last-clause-resumes g c =
     let made = c.generate_more-next.ensures in
     λ first h. record {
       leads = leads-more _ _ _ first (inv.0 first h) c.loop-last-test.true inv.3 made;
-      over = still-over _ _ _ _ (omega (arith, c.requires, inv.3)) made c.if-next-last.true
+      over = still-over _ _ _ _ (omega (arith, c.requires, inv.3)) made c.if-next-last.true;
     }
 
 pub returns-then-next-last-clause-grows : goal.returns-then-next-last-clause-grows
@@ -24,10 +24,11 @@ returns-then-next-last-clause-grows g c = grows-trans _ _ _ c.loop-last.invarian
 pub loop-last-preserved : goal.loop-last-preserved
 loop-last-preserved g c =
     let inv = c.loop-last.invariant in
-    let lent = c.generate_more-next.auto in
-    (λ first h. leads-more _ _ _ first (inv.0 first h) c.loop-last-test.true inv.3 c.generate_more-next.ensures,
-     omega (arith, lent.tally, inv.1),
-     omega (arith, lent.network, inv.2),
-     omega (arith, lent.out, inv.3),
-     search rules,
-     grows-trans _ _ _ inv.5 c.write_whole.ensures.grows)
+    let lent = c.generate_more-next.auto in (
+      λ first h. leads-more _ _ _ first (inv.0 first h) c.loop-last-test.true inv.3 c.generate_more-next.ensures,
+      omega (arith, lent.tally, inv.1),
+      omega (arith, lent.network, inv.2),
+      omega (arith, lent.out, inv.3),
+      search rules,
+      grows-trans _ _ _ inv.5 c.write_whole.ensures.grows,
+    )

@@ -27,6 +27,7 @@ use Rattle.printout.specs.Printout.{Standing, Reply, read_reply, reply, printed_
 use Rattle.printout.specs.Clauses.{Place, place_at, Advance, behind, fed}
 use Rattle.printout.proofs.Feeding.{fed-append}
 use Rattle.driver.specs.declared.Noted.{Noted}
+use Rattle.types.specs.declared.Event.{Event}
 use Rattle.driver.specs.Inner.{replying}
 use Rattle.driver.specs.Batches.{read_numbers, gathered, NoOpening, replied, Notes, Gathers}
 use Rattle.driver.proofs.Serving.{fed-read}

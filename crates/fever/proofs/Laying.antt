@@ -32,16 +32,16 @@ module _ (numbers clocks views sums d : List ℕ) (some : length numbers ≡ clo
   abbrev words : List ℕ
   words = numbers ++ (clocks ++ (views ++ sums))
 
-  run_length : length words ≡ run_length
-  run_length = omega (arith, length-append numbers (clocks ++ (views ++ sums)), length-append clocks (views ++ sums), length-append views sums)
+  run_length_lem : length words ≡ run_length
+  run_length_lem = omega (arith, length-append numbers (clocks ++ (views ++ sums)), length-append clocks (views ++ sums), length-append views sums)
 
   run_room : Room d 0 words
-  run_room = record { fits = omega (arith, run_length) }
+  run_room = record { fits = omega (arith, run_length_lem) }
 
   tables-laid : (e f g h : List ℕ) (a b c k : ℕ) → Stamped d 0 numbers a e → Stamped e a clocks b f → Stamped f b views c g → Stamped g c sums k h
       → h ≡ words ++ drop run_length d
   tables-laid e f g h a b c k x y z w =
-      laid d h words k run_length run_length (written_then (clocks ++ (views ++ sums)) x (written_then (views ++ sums) y (written_then sums z (λ _. w))) run_room)
+      laid d h words k run_length run_length_lem (written_then (clocks ++ (views ++ sums)) x (written_then (views ++ sums) y (written_then sums z (λ _. w))) run_room)
 
 -- the numbers of a run, with the settled word at hand
 abbrev numbers_with : Run → ℕ → List ℕ

@@ -40,10 +40,10 @@ reads-line line d x r e l h k q =
     }
 
 pub reads-event : (line : List ℕ) (a : Read) (v : Event) → a ≡ skimmed line → a ≡ Read.Event v → event_reading v ≡ reading line
-reads-event line a v h q = skims-plain line (Read.Event v) (sym q ∙ h) (inl refl)
+reads-event line a v h q = skims-plain line (Read.Event v) (sym q ∙ h) λ (e : Read.Event v ≡ Read.Opening). cc
 
 pub reads_none : (line : List ℕ) (a : Read) → a ≡ skimmed line → a ≡ Read.NoForm → no_form ≡ reading line
-reads_none line a h q = skims-plain line Read.NoForm (sym q ∙ h) (inr refl)
+reads_none line a h q = skims-plain line Read.NoForm (sym q ∙ h) λ (e : Read.NoForm ≡ Read.Opening). cc
 
 -- ---- writing
 

@@ -1,7 +1,8 @@
 // The simulate program: a schedule on standard input, its printout on standard output.
 #![tactic(auto)]
-use libc::{STDIN_FILENO, STDOUT_FILENO};
 
-fn main() {
-    stream::run(STDIN_FILENO, STDOUT_FILENO);
+use std::io;
+
+fn main(rt: HostRuntime) -> io::Result<()> {
+    stream::run(&mut rt.stdin(), &mut rt.stdout())
 }

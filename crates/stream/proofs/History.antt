@@ -52,16 +52,16 @@ opening-history u h x l = go (accepted (opening u x.state).answer) refl
     go true q = record { running = or-second x.opened true refl; opens = rw q tt; state = refl }
     go false q = unopened-history h x _ _ (or-none x.opened false (λ z. z)) (refused-opening-stays u x.state q) l
 
-read_history : (r : Read) (u : Setup) (h : History) (x : Standing) → HistoryLeads h x → HistoryLeads (read_history r u x h) (read_reply r u x).standing
-read_history (Read.Event e) u h x l = event-history e h x l
-read_history Read.Opening u h x l = opening-history u h x l
-read_history Read.NoForm u h x l = l
+read-history : (r : Read) (u : Setup) (h : History) (x : Standing) → HistoryLeads h x → HistoryLeads (read_history r u x h) (read_reply r u x).standing
+read-history (Read.Event e) u h x l = event-history e h x l
+read-history Read.Opening u h x l = opening-history u h x l
+read-history Read.NoForm u h x l = l
 
 lines-history : (cs : List Cut) (h : History) (x : Standing) → HistoryLeads h x → HistoryLeads (history_from h x cs) (standing_after x cs)
 lines-history [] h x l = l
 lines-history (c ∷ cs) h x l =
     let r : Reading = cut_read reading c in
-    lines-history cs (read_history r.read r.setup x h) (reply r x).standing (read_history r.read r.setup h x l)
+    lines-history cs (read_history r.read r.setup x h) (reply r x).standing (read-history r.read r.setup h x l)
 
 pub input-history : (input : List ℕ) → HistoryLeads (last_run input) (standing_after at_start (input_lines input))
 unfolding last_run

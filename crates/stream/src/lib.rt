@@ -1,16 +1,23 @@
-// The simulate program and the traffic program between two open files. What is read and what is printed are the driver's; here bytes are moved, and a
-// report is printed.
+// The simulate program and the traffic program between a reader and a writer. What is read and what is printed are the driver's; here bytes are moved, and
+// a report is printed. An error is one that the reader or the writer gave, or tells of a writer that takes no more.
 #![tactic(auto)]
-ghost use Rattle.std.specs.Prelude.{◌≡◌, cond, ◌+◌, ◌-◌, ◌≤◌, length, take, drop, replicate};
+
+ghost use Rattle.std.specs.Prelude.{◌≡◌, cond, ◌+◌, ◌-◌, ◌≤◌, length, take, drop, replicate, IfOk};
 ghost use Rattle.lines.specs.Clauses.{Prints};
 ghost use Rattle.lines.specs.Printout.{printed_most, totals_most};
 ghost use Rattle.std.proofs.Math.Seq.{paste};
 ghost use Rattle.printout.specs.Printout.{standing_of, tally_lent, network_lent};
 ghost use Rattle.printout.specs.Traffic.{report_text};
+ghost use Rattle.transfer.specs.Moves.{Grows, Shrinks};
 ghost use Rattle.stream.specs.Threads.{Threads, Reaches};
 
 use lines::Written;
 use printout::Session;
+use std::io;
+use std::io::{Read, Write};
+
+// The bytes of the window and of the buffer for what is printed.
+const BUFFER_BYTES: usize = 65536;
 
 // The session, whether bytes of a line that is too long were passed over, and a number of bytes: used, or left unused at the start of the window.
 #[derive(Clone, Copy)]
@@ -45,18 +52,19 @@ fn shown(reporting: bool, printed: usize) -> usize
 }
 
 // Every line that ends within the bytes is answered, and the answers written, unless there is to be a report.
-fn answer_all(
+fn answer_all<W: Write>(
     session: Session,
     late: bool,
     bytes: &[u8],
     tally: &mut [u64],
     network: &mut [u64],
     out: &mut [u8],
-    to: i32,
+    to: &mut W,
     reporting: bool,
-) -> Progress
-    ensures { Threads (standing_of session tally.old network.old) late bytes.now out.old
-        tally.new network.new result }
+) -> io::Result<Progress>
+    ensures threads { IfOk result (Threads (standing_of session tally.old network.old) late bytes.now out.old
+        tally.new network.new) }
+    ensures grows { Grows (W.contents to.old) (W.contents to.new) }
 {
     let mut state = session;
     let mut passed = late;
@@ -64,47 +72,49 @@ fn answer_all(
     while used < bytes.len() {
         let served = driver::answer_lines(state, passed, &bytes[used..], tally, network, out);
         let printed = shown(reporting, served.printed);
-        io::write_all(to, &out[..printed]);
+        transfer::write_whole(to, &out[..printed])?;
         state = served.session;
         passed = served.late;
         used += served.used;
         if served.used == 0 {
-            return Progress {
+            return Ok(Progress {
                 session: state,
                 late: passed,
                 bytes: used,
-            };
+            });
         }
     }
-    Progress {
+    Ok(Progress {
         session: state,
         late: passed,
         bytes: used,
-    }
+    })
 }
 
 // One read, behind the unused bytes.
-fn read_behind(from: i32, window: &mut [u8], unused: usize) -> usize
+fn read_behind<R: Read>(from: &mut R, window: &mut [u8], unused: usize) -> io::Result<usize>
     requires { unused ≤ length window.old }
-    ensures { (unused + result ≤ length window.new) × (take unused window.new ≡ take unused window.old) }
+    ensures within { IfOk result (λ got. unused + got ≤ length window.new) }
+    ensures kept { take unused window.new ≡ take unused window.old }
+    ensures shrinks { Shrinks (R.remaining from.old) (R.remaining from.new) }
 {
-    let free: &mut [u8] = &mut window[unused..];
-    let got = libc::read(from, free);
-    io::count(got, free)
+    from.read(&mut window[unused..])
 }
 
 // From the program's start reads to the end. No input uses up the turns.
-fn answer_input(
-    from: i32,
-    to: i32,
+fn answer_input<R: Read, W: Write>(
+    from: &mut R,
+    to: &mut W,
     tally: &mut [u64],
     network: &mut [u64],
     window: &mut [u8],
     out: &mut [u8],
     reporting: bool,
-) -> Progress
+) -> io::Result<Progress>
     requires { (tally.old ≡ replicate tally_lent 0) × (network.old ≡ replicate network_lent 0) × (printed_most ≤ length out.old) }
-    ensures { Reaches tally.new network.new window.new result }
+    ensures reaches { IfOk result (Reaches tally.new network.new window.new) }
+    ensures shrinks { Shrinks (R.remaining from.old) (R.remaining from.new) }
+    ensures grows { Grows (W.contents to.old) (W.contents to.new) }
 {
     let mut session = Session::unopened();
     let mut late = false;
@@ -112,13 +122,13 @@ fn answer_input(
     let mut turns = u64::MAX;
     while 0 < turns {
         turns -= 1;
-        let got = read_behind(from, window, unused);
+        let got = read_behind(from, window, unused)?;
         if got == 0 {
-            return Progress {
+            return Ok(Progress {
                 session: session,
                 late: late,
                 bytes: unused,
-            };
+            });
         }
         let filled = unused + got;
         let answered = answer_all(
@@ -130,32 +140,43 @@ fn answer_input(
             out,
             to,
             reporting,
-        );
+        )?;
         session = answered.session;
         late = answered.late;
         unused = keep(window, answered.bytes, filled);
     }
-    Progress {
+    Ok(Progress {
         session: session,
         late: late,
         bytes: unused,
-    }
+    })
 }
 
 // A text that was printed at the start of the bytes is written.
-fn write_text(text: Written, out: &[u8], to: i32) {
+fn write_text<W: Write>(text: Written, out: &[u8], to: &mut W) -> io::Result<()>
+    ensures { Grows (W.contents to.old) (W.contents to.new) }
+{
     let Written::Bytes(printed) = text else {
-        return;
+        return Ok(());
     };
     if printed <= out.len() {
-        io::write_all(to, &out[..printed]);
+        return transfer::write_whole(to, &out[..printed]);
     }
+    Ok(())
 }
 
 // What comes at the end is written.
-fn close_input(session: Session, late: bool, rest: &[u8], out: &mut [u8], to: i32) {
+fn close_input<W: Write>(
+    session: Session,
+    late: bool,
+    rest: &[u8],
+    out: &mut [u8],
+    to: &mut W,
+) -> io::Result<()>
+    ensures { Grows (W.contents to.old) (W.contents to.new) }
+{
     let end = driver::finish(session, late, rest, out);
-    write_text(end, out, to);
+    write_text(end, out, to)
 }
 
 // The report of the run that is open; nothing where none is.
@@ -176,17 +197,28 @@ fn print_report(session: Session, tally: &[u64], network: &[u64], out: &mut [u8]
 }
 
 // The report is written.
-fn report_input(session: Session, tally: &[u64], network: &[u64], out: &mut [u8], to: i32) {
+fn report_input<W: Write>(
+    session: Session,
+    tally: &[u64],
+    network: &[u64],
+    out: &mut [u8],
+    to: &mut W,
+) -> io::Result<()>
+    ensures { Grows (W.contents to.old) (W.contents to.new) }
+{
     let text = print_report(session, tally, network, out);
-    write_text(text, out, to);
+    write_text(text, out, to)
 }
 
 // Reads a schedule to its end, and writes its printout or the report of its traffic.
-fn serve(from: i32, to: i32, reporting: bool) {
+fn serve<R: Read, W: Write>(from: &mut R, to: &mut W, reporting: bool) -> io::Result<()>
+    ensures shrinks { Shrinks (R.remaining from.old) (R.remaining from.new) }
+    ensures grows { Grows (W.contents to.old) (W.contents to.new) }
+{
     let mut tally = [0u64; printout::TALLY_LENT];
     let mut network = [0u64; printout::NETWORK_LENT];
-    let mut window = io::large_buffer();
-    let mut out = io::large_buffer();
+    let mut window = [0u8; BUFFER_BYTES];
+    let mut out = [0u8; BUFFER_BYTES];
     let answered = answer_input(
         from,
         to,
@@ -195,22 +227,27 @@ fn serve(from: i32, to: i32, reporting: bool) {
         &mut window,
         &mut out,
         reporting,
-    );
+    )?;
     let session = answered.session;
     if reporting {
-        report_input(session, &tally, &network, &mut out, to);
-        return;
+        return report_input(session, &tally, &network, &mut out, to);
     }
     let unused = answered.bytes;
-    close_input(session, answered.late, &window[..unused], &mut out, to);
+    close_input(session, answered.late, &window[..unused], &mut out, to)
 }
 
 // Reads a schedule to its end and writes its printout.
-pub fn run(from: i32, to: i32) {
-    serve(from, to, false);
+pub fn run<R: Read, W: Write>(from: &mut R, to: &mut W) -> io::Result<()>
+    ensures shrinks { Shrinks (R.remaining from.old) (R.remaining from.new) }
+    ensures grows { Grows (W.contents to.old) (W.contents to.new) }
+{
+    serve(from, to, false)
 }
 
 // Reads a schedule to its end and writes the report of the run that is then open.
-pub fn report(from: i32, to: i32) {
-    serve(from, to, true);
+pub fn report<R: Read, W: Write>(from: &mut R, to: &mut W) -> io::Result<()>
+    ensures shrinks { Shrinks (R.remaining from.old) (R.remaining from.new) }
+    ensures grows { Grows (W.contents to.old) (W.contents to.new) }
+{
+    serve(from, to, true)
 }

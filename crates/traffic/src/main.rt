@@ -1,7 +1,8 @@
 // The traffic program: a schedule on standard input, the report of the run open at its end on standard output.
 #![tactic(auto)]
-use libc::{STDIN_FILENO, STDOUT_FILENO};
 
-fn main() {
-    stream::report(STDIN_FILENO, STDOUT_FILENO);
+use std::io;
+
+fn main(rt: HostRuntime) -> io::Result<()> {
+    stream::report(&mut rt.stdin(), &mut rt.stdout())
 }

@@ -1,10 +1,11 @@
 // Prints what each line of its input is read as, and whether that is written as the same bytes.
 #![tactic(auto)]
-ghost use Rattle.std.specs.Prelude.{◌≡◌, true, ◌<◌, ◌≤◌, length, take};
+
+ghost use Rattle.std.specs.Prelude.{◌≡◌, true, ◌<◌, ◌≤◌, length, take, IfOk};
 ghost use Rattle.lines.specs.Clauses.{line};
 
-use libc::{STDIN_FILENO, STDOUT_FILENO};
 use lines::{Next, Read, Written};
+use std::io;
 use types::{Event, Message, Setup};
 
 // The bytes of input that it takes.
@@ -13,56 +14,56 @@ const INPUT_BYTES: usize = 131072;
 // Room for the longest form and its newline.
 const LINE_BYTES: usize = 1461;
 
-fn say(text: &[u8]) {
-    io::write_all(STDOUT_FILENO, text);
+fn say(rt: &impl Print, text: &[u8]) -> io::Result<()> {
+    rt.write_all(text)
 }
 
-fn say_number(n: u64) {
-    say(b" ");
-    io::print_decimal(STDOUT_FILENO, n);
+fn say_number(rt: &impl Print, n: u64) -> io::Result<()> {
+    print!(rt; " {n}")
 }
 
 // Kind, view and processor.
-fn say_message(word: &[u8], message: Message) {
-    say(word);
-    say_number(message.kind());
-    say_number(message.view());
-    say_number(message.processor());
+fn say_message(rt: &impl Print, word: &[u8], message: Message) -> io::Result<()> {
+    say(rt, word)?;
+    say_number(rt, message.kind())?;
+    say_number(rt, message.view())?;
+    say_number(rt, message.processor())
 }
 
-fn say_event(event: Event) {
+fn say_event(rt: &impl Print, event: Event) -> io::Result<()> {
     match event {
-        Event::Deliver(m) => say_message(b"deliver", m),
-        Event::Sign(m) => say_message(b"sign", m),
-        Event::Show(m) => say_message(b"show", m),
-        Event::Settle => say(b"settle"),
+        Event::Deliver(m) => say_message(rt, b"deliver", m),
+        Event::Sign(m) => say_message(rt, b"sign", m),
+        Event::Show(m) => say_message(rt, b"show", m),
+        Event::Settle => say(rt, b"settle"),
         Event::Tick(m) => {
-            say(b"tick");
-            say_number(m);
+            say(rt, b"tick")?;
+            say_number(rt, m)
         }
     }
 }
 
 // All of them, those from n on too.
-fn say_clocks(clocks: &[u64]) {
+fn say_clocks(rt: &impl Print, clocks: &[u64]) -> io::Result<()> {
     let mut i = 0;
     while i < clocks.len() {
-        say_number(clocks[i]);
+        say_number(rt, clocks[i])?;
         i += 1;
     }
+    Ok(())
 }
 
-fn say_setup(setup: Setup) {
-    say(b"open");
+fn say_setup(rt: &impl Print, setup: Setup) -> io::Result<()> {
+    say(rt, b"open")?;
     let plan = setup.plan;
-    say_number(plan.n);
-    say_number(plan.delta);
-    say_number(plan.gamma);
-    say_number(plan.views);
-    say_number(plan.k);
-    say_number(setup.faulty);
+    say_number(rt, plan.n)?;
+    say_number(rt, plan.delta)?;
+    say_number(rt, plan.gamma)?;
+    say_number(rt, plan.views)?;
+    say_number(rt, plan.k)?;
+    say_number(rt, setup.faulty)?;
     let clocks = setup.clocks;
-    say_clocks(&clocks);
+    say_clocks(rt, &clocks)
 }
 
 // Whether the first k bytes of out are the form and a newline.
@@ -79,87 +80,83 @@ fn is_line(out: &[u8], k: usize, form: &[u8]) -> bool
     if out[end] != b'\n' {
         return false;
     }
-    check::same(&out[..end], form)
+    &out[..end] == form
 }
 
 // The first k bytes, if there are as many.
-fn say_first(out: &[u8], k: usize) {
+fn say_first(rt: &impl Print, out: &[u8], k: usize) -> io::Result<()> {
     if out.len() < k {
-        return;
+        return Ok(());
     }
-    say(&out[..k]);
+    say(rt, &out[..k])
 }
 
 // What writing answered: as many bytes of the line that was read, or the line that it wrote, if that is another.
-fn say_written(answer: Written, out: &[u8], line: &[u8]) {
+fn say_written(rt: &impl Print, answer: Written, out: &[u8], line: &[u8]) -> io::Result<()> {
     let Written::Bytes(k) = answer else {
-        say(b" not written\n");
-        return;
+        return say(rt, b" not written\n");
     };
     if is_line(out, k, line) {
-        say(b" written");
-        say_number(k as u64);
-        say(b"\n");
-        return;
+        say(rt, b" written")?;
+        say_number(rt, k as u64)?;
+        return say(rt, b"\n");
     }
-    say(b" written otherwise: ");
-    say_first(out, k);
+    say(rt, b" written otherwise: ")?;
+    say_first(rt, out, k)
 }
 
-fn say_refused() {
-    say(b"refused 1\n");
+fn say_refused(rt: &impl Print) -> io::Result<()> {
+    say(rt, b"refused 1\n")
 }
 
 // The answer is an event, an opening, or anything else: check 1.
-fn tell_line(line: &[u8]) {
+fn tell_line(rt: &impl Print, line: &[u8]) -> io::Result<()> {
     let read = reader::read_line(line);
     let mut out = [0u8; LINE_BYTES];
     if let Read::Event(e) = read {
-        say_event(e);
+        say_event(rt, e)?;
         let answer = writer::write_event(e, &mut out);
-        say_written(answer, &out, line);
-        return;
+        return say_written(rt, answer, &out, line);
     }
     let Read::Opening = read else {
-        say_refused();
-        return;
+        return say_refused(rt);
     };
     let setup = reader::read_setup(line);
-    say_setup(setup);
+    say_setup(rt, setup)?;
     let answer = writer::write_setup(setup, &mut out);
-    say_written(answer, &out, line);
+    say_written(rt, answer, &out, line)
 }
 
 // Tells the next line, and how many bytes it took.
-fn tell_next(rest: &[u8]) -> usize
+fn tell_next(rt: &impl Print, rest: &[u8]) -> io::Result<usize>
     requires { 0 < length rest.now }
-    ensures { (1 ≤ result) × (result ≤ length rest.now) }
+    ensures { IfOk result (λ taken. (1 ≤ taken) × (taken ≤ length rest.now)) }
 {
     let next = lines::next_line(rest);
     if let Next::Line(end) = next {
-        tell_line(&rest[..end]);
-        return end + 1;
+        tell_line(rt, &rest[..end])?;
+        return Ok(end + 1);
     }
-    say_refused();
+    say_refused(rt)?;
     if let Next::Long(end) = next {
-        return end + 1;
+        return Ok(end + 1);
     }
-    rest.len()
+    Ok(rest.len())
 }
 
-fn tell_all(input: &[u8]) {
+fn tell_all(rt: &impl Print, input: &[u8]) -> io::Result<()> {
     let mut at = 0;
     while at < input.len() {
-        at += tell_next(&input[at..]);
+        at += tell_next(rt, &input[at..])?;
     }
+    Ok(())
 }
 
-fn main() {
+fn main(rt: HostRuntime) -> io::Result<()> {
     let mut input = [0u8; INPUT_BYTES];
-    let n = io::read_full(STDIN_FILENO, &mut input);
+    let n = transfer::read_full(&mut rt.stdin(), &mut input)?;
     if n == INPUT_BYTES {
-        say(b"too much input\n");
-        return;
+        return say(&rt, b"too much input\n");
     }
-    tell_all(&input[..n]);
+    tell_all(&rt, &input[..n])
 }

@@ -1,12 +1,12 @@
 -- How many ticks bring no clock to an initial view: what the words give, and that no clock of a steady run arrives. Assumes nothing.
-use Rattle.std.proofs.Common.{◌≡◌, ℕ, zero, suc, ◌+◌, ◌-◌, ◌<◌, ◌≤◌, min, Bool, true, false, cond, ◌||◌, ltb, leb, sym, ap, ◌∙◌, ⊎_elim, add-one, arith, ltb-false, le-ltb, leb-false}
+use Rattle.std.proofs.Common.{◌≡◌, ℕ, zero, suc, ◌+◌, ◌-◌, ◌<◌, ◌≤◌, min, Bool, true, false, cond, ◌||◌, ltb, leb, sym, refl, ap, ◌∙◌, ⊎_elim, add-one, arith, ltb-false, le-ltb, leb-false}
 use borrow.Author.Tests.{lt-leb}
 use Rattle.base.specs.Tests.{le?}
 use Rattle.base.specs.Choice.{cond_yes, or-neither, or_parts}
 use Rattle.types.specs.declared.Plan.{Plan}
 use Rattle.types.specs.declared.Run.{Run}
 use Rattle.types.specs.Quantities.{next_initial, clock_time, end_time, correct}
-use Rattle.types.specs.PlanFunctions.{clock_time_word, arrival_time}
+use Rattle.types.specs.PlanFunctions.{next_initial_word, clock_time_word}
 use Rattle.model.specs.State.{clock_of, view_of, is_correct}
 use Rattle.model.specs.Checks.{clock_outside, at_end}
 use Rattle.liveness.proofs.Answers.{no-yes}
@@ -28,8 +28,10 @@ module _ (plan : Plan) (ok : Within plan) (clock view : ℕ) (inside : clock_out
   view_low = ⊎_elim (λ (l : plan.views ≤ view). no-yes (sym (past-views plan clock view l) ∙ inside)) (λ (l : view < plan.views). l) (le? plan.views view)
 
   -- where the next initial view's clock time is, in words
-  pub next-time : arrival_time plan view ≡ clock_time plan (next_initial plan view)
-  next-time = ap (clock_time_word plan) (next_word plan ok view view_low) ∙ time-word plan ok (next_initial plan view) (next-within plan ok view view_low)
+  pub next-time : (next time : ℕ) → next ≡ next_initial_word plan view → time ≡ clock_time_word plan next → time ≡ clock_time plan (next_initial plan view)
+  next-time next time e f =
+      let n : next ≡ next_initial plan view = e ∙ next_word plan ok view view_low in
+      f ∙ ap (clock_time_word plan) n ∙ time-word plan ok (next_initial plan view) (next-within plan ok view view_low)
 
   pub next_small : clock_time plan (next_initial plan view) ≤ end_time plan
   next_small = next-before-end plan ok view view_low
@@ -44,9 +46,10 @@ module _ (plan : Plan) (ok : Within plan) (clock view : ℕ) (inside : clock_out
 -- ---- one processor after another
 
 -- a correct one, as the code asks it
-pub rest-correct : (plan : Plan) (faulty p clock view most arrival x : ℕ) → correct plan faulty p ≡ true → arrival ≡ arrival_time plan view
-    → x ≡ min (arrival - 1 - clock) most → x ≡ rest_for plan faulty p clock view most
-rest-correct plan faulty p clock view most arrival x c a e = cond_yes (correct plan faulty p) x _ most c (e ∙ ap (λ (t : ℕ). min (t - 1 - clock) most) a)
+pub rest-correct : (plan : Plan) (faulty p clock view most next arrival x : ℕ) → correct plan faulty p ≡ true → next ≡ next_initial_word plan view
+    → arrival ≡ clock_time_word plan next → x ≡ min (arrival - 1 - clock) most → x ≡ rest_for plan faulty p clock view most
+rest-correct plan faulty p clock view most next arrival x c n a e = cond_yes (correct plan faulty p) x _ most c
+    (e ∙ ap (λ (t : ℕ). min (t - 1 - clock) most) (a ∙ ap (clock_time_word plan) n))
 
 few-for : (b : Bool) (x most : ℕ) → cond b (min x most) most ≤ most
 few-for true x most = omega arith
@@ -66,7 +69,7 @@ module _ (r : Run) (most : ℕ) where
       (λ (b : k ≤ n). omega (
         arith,
         below-falls k n b,
-        few-for (is_correct r n) (arrival_time r.plan (view_of r n) - 1 - clock_of r n) (rest_below r most n),
+        few-for (is_correct r n) (clock_time_word r.plan (next_initial_word r.plan (view_of r n)) - 1 - clock_of r n) (rest_below r most n),
       ))
       (λ (b : n < k). let e : k ≡ suc n = omega arith in rw e (omega arith))
       (le? k n)
@@ -87,7 +90,7 @@ module _ (r : Run) (steady : Steady r) (most : ℕ) where
       → min (clock_time r.plan (next_initial r.plan (view_of r p)) - 1 - clock_of r p) (rest_below r most p) ≡ rest_below r most (suc p)
   unfolding rest_below
   at_one p c = cond_yes (is_correct r p) _ _ (rest_below r most p) c (ap (λ (t : ℕ). min (t - 1 - clock_of r p) (rest_below r most p))
-      (sym (next-time r.plan steady.plan (clock_of r p) (view_of r p) (steady.inside p c))))
+      (sym (next-time r.plan steady.plan (clock_of r p) (view_of r p) (steady.inside p c) _ _ refl refl)))
 
   below-rests : (k p : ℕ) → p < k → is_correct r p ≡ true → clock_of r p + rest_below r most k < clock_time r.plan (next_initial r.plan (view_of r p))
   below-rests k p l c =

@@ -10,7 +10,7 @@ use Rattle.types.specs.declared.Run.{Run}
 use Rattle.types.specs.declared.Processor.{Processor}
 use Rattle.types.specs.declared.Input.TheVariants.{Tick}
 use Rattle.types.specs.declared.Sends.TheVariants.{Nothing}
-use Rattle.types.specs.Quantities.{next_initial, clock_time, end_time}
+use Rattle.types.specs.Quantities.{end_time}
 use Rattle.types.specs.PlanFunctions.{next_initial_word, clock_time_word}
 use Rattle.model.specs.State.{State, with_run, clock_of, view_of, is_correct, room_in}
 use Rattle.model.specs.Moves.{stay}
@@ -93,7 +93,7 @@ pub quiet-reacts : (plan : Plan) (c : Processor) → processor_unsound plan c �
 quiet-reacts plan c e next time is-next is-time l =
     let x = sound plan c e in
     let inside : clock_outside plan c.clock c.view ≡ false = (or_parts (plan_outside plan) (clock_outside plan c.clock c.view) e).1 in
-    let t : time ≡ clock_time plan (next_initial plan c.view) = is-time ∙ ap (clock_time_word plan) is-next ∙ next-time plan x.within c.clock c.view inside in
+    let t = next-time plan x.within c.clock c.view inside next time is-next is-time in
     let m : moving_by plan c Tick ≡ moving plan c.number (c.clock + 1) c.view stay =
     ap (moving plan c.number (c.clock + 1) c.view) (no-arrival plan c.clock c.view x.reached (omega arith)) in
     let g : c.clock + 1 < end_time plan = omega (arith, next_small plan x.within c.clock c.view inside) in

@@ -1,5 +1,6 @@
 // For C: the search for newlines, which the comparison and the benchmark call.
 #![tactic(auto)]
+
 ghost use Rattle.std.specs.Prelude.{◌≡◌};
 ghost use Rattle.lines.specs.Splitting.{before_newline};
 ghost use Rattle.lines.specs.Search.{reported};

@@ -18,7 +18,6 @@ use Rattle.liveness.proofs.Counted.{report-is-history, report-adds}
 use Rattle.liveness.proofs.Judging.{or-none}
 use Rattle.liveness.proofs.Promises.{list_law, reachable-sound, refused-opening-stays}
 use Rattle.lines.specs.declared.Read.{Read}
-use Rattle.lines.specs.declared.Read.TheVariants as Read
 use Rattle.lines.specs.Clauses.{Reading}
 use Rattle.lines.specs.Splitting.{Cut, input_lines, cut_read}
 use Rattle.reader.specs.Lines.{reading}

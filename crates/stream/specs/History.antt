@@ -6,7 +6,6 @@ use Rattle.model.specs.State.{State, accepted}
 use Rattle.model.specs.Opening.{opening}
 use Rattle.model.specs.Traffic.{history_totals}
 use Rattle.lines.specs.declared.Read.{Read}
-use Rattle.lines.specs.declared.Read.TheVariants as Read
 use Rattle.lines.specs.Printout.{totals_text}
 use Rattle.lines.specs.Splitting.{Cut, input_lines, cut_read}
 use Rattle.reader.specs.Lines.{reading}

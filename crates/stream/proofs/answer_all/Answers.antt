@@ -10,7 +10,7 @@ returns-in_err-write_whole-clause-grows g c = grows-trans _ _ _ c.loop-used.inva
 pub returns-then-served-eq0-clause-threads : goal.returns-then-served-eq0-clause-threads
 returns-then-served-eq0-clause-threads g c =
     going-threads _ _ _ _ _ _ _ _ _ (going_more _ _ _ _ _ _ _ _ _ _ _ _ _ c.loop-used.invariant.0 c.answer_lines-served.ensures)
-      (λ h. going-stops _ _ _ _ _ _ _ _ _ c.answer_lines-served.ensures c.if-served-eq0.true (omega (arith, h, c.loop-used.invariant.3)))
+    (λ h. going-stops _ _ _ _ _ _ _ _ _ c.answer_lines-served.ensures c.if-served-eq0.true (omega (arith, h, c.loop-used.invariant.3)))
 
 pub returns-then-served-eq0-clause-grows : goal.returns-then-served-eq0-clause-grows
 returns-then-served-eq0-clause-grows g c = grows-trans _ _ _ c.loop-used.invariant.4 c.write_whole.ensures.grows
@@ -18,12 +18,13 @@ returns-then-served-eq0-clause-grows g c = grows-trans _ _ _ c.loop-used.invaria
 pub loop-used-preserved : goal.loop-used-preserved
 loop-used-preserved g c =
     let inv = c.loop-used.invariant in
-    let lent = c.answer_lines-served.auto in
-    (going_more _ _ _ _ _ _ _ _ _ _ _ _ _ inv.0 c.answer_lines-served.ensures,
-     omega (arith, lent.tally, inv.1),
-     omega (arith, lent.network, inv.2),
-     omega (arith, lent.out, inv.3),
-     grows-trans _ _ _ inv.4 c.write_whole.ensures.grows)
+    let lent = c.answer_lines-served.auto in (
+      going_more _ _ _ _ _ _ _ _ _ _ _ _ _ inv.0 c.answer_lines-served.ensures,
+      omega (arith, lent.tally, inv.1),
+      omega (arith, lent.network, inv.2),
+      omega (arith, lent.out, inv.3),
+      grows-trans _ _ _ inv.4 c.write_whole.ensures.grows,
+    )
 
 pub returns-clause-threads : goal.returns-clause-threads
 returns-clause-threads g c = going-threads _ _ _ _ _ _ _ _ _ c.loop-used.invariant.0 (λ h. stops-all _ _ c.loop-used-test.false)

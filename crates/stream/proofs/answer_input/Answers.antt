@@ -23,11 +23,12 @@ pub loop-turns-preserved : goal.loop-turns-preserved
 loop-turns-preserved g c =
     let inv = c.loop-turns.invariant in
     let lent = c.answer_all.auto in
-    let kept = c.keep-unused.ensures in
-    (reaches_more _ _ _ _ _ _ _ _ _ _ _ _ _ inv.0 c.in_ok-got.ensures.within c.requires.2 inv.4 c.in_ok-answered.ensures.threads kept.0 kept.1 c.keep-unused.auto.window,
-     omega (arith, lent.tally, inv.1),
-     omega (arith, lent.network, inv.2),
-     omega (arith, c.keep-unused.auto.window, c.read_behind.auto.window, inv.3),
-     omega (arith, lent.out, inv.4),
-     shrinks-trans _ _ _ inv.5 c.read_behind.ensures.shrinks,
-     grows-trans _ _ _ inv.6 c.answer_all.ensures.grows)
+    let kept = c.keep-unused.ensures in (
+      reaches_more _ _ _ _ _ _ _ _ _ _ _ _ _ inv.0 c.in_ok-got.ensures.within c.requires.2 inv.4 c.in_ok-answered.ensures.threads kept.0 kept.1 c.keep-unused.auto.window,
+      omega (arith, lent.tally, inv.1),
+      omega (arith, lent.network, inv.2),
+      omega (arith, c.keep-unused.auto.window, c.read_behind.auto.window, inv.3),
+      omega (arith, lent.out, inv.4),
+      shrinks-trans _ _ _ inv.5 c.read_behind.ensures.shrinks,
+      grows-trans _ _ _ inv.6 c.answer_all.ensures.grows,
+    )

@@ -1,6 +1,5 @@
 use Rattle.stream.proofs.Keeping.{moved_none, moved_more, moved_all}
 use native.Mathlib.Omega.{arith}
-use Prim.Native.Nat.{◌-◌}
 use mathlib.Core.Path.{refl}
 use Rattle.stream.proofs.keep.Goals as goal
 

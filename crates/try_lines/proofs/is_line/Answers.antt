@@ -11,6 +11,6 @@ returns c =
     let last : suc (k - 1) ≡ k = omega (arith, c.if-k-eq0.false) in
     let inside : k - 1 < length out = omega (arith, c.if-out-k.false, c.if-k-eq0.false) in
     λ t.
-      let same : take (k - 1) out ≡ form = (bytes_eq-Decides _ _).0 (sym c.eq.ensures ∙ t) in
-      subst (λ (i : ℕ). take i out ≡ line form) last
-        (take-suc out (k - 1) 0 inside ∙ ap₂ (λ (a : List ℕ) (b : ℕ). a ++ b ∷ []) same c.if-out-end-ne10.false)
+    let same : take (k - 1) out ≡ form = (bytes_eq-Decides _ _).0 (sym c.eq.ensures ∙ t) in
+    subst (λ (i : ℕ). take i out ≡ line form) last
+    (take-suc out (k - 1) 0 inside ∙ ap₂ (λ (a : List ℕ) (b : ℕ). a ++ b ∷ []) same c.if-out-end-ne10.false)

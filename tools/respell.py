@@ -3,8 +3,8 @@
 
 usage: python3 tools/respell.py [--list]      at the top of the repository, once
 
-Functions and variables are in snake case, `perLeader` is `per_leader`, and so are the fields of records, `view-low` is `view_low`. In the name of a lemma
-a dash joins two names, as in std. Types and modules keep theirs, and so does what Rattle names after the sources.
+Functions and variables are in snake case, `perLeader` is `per_leader`, and so are the fields of records and constructors, `view-low` is `view_low`. In the
+name of a lemma a dash joins two names, as in std. Types and modules keep theirs, and so does what Rattle names after the sources.
 The pages of docs/ and README.md follow. `specs/Contracts.antt` becomes `specs/Clauses.antt`, since Rattle makes a module of the first name.
 --list prints the names and changes nothing.
 """
@@ -36,6 +36,8 @@ SPECIAL = {
     "to-correct": "for_correct",
     "state-of": "tracked_state",
     "time-of": "time_told",
+    "clock-of": "clock_told",
+    "by-clock": "by_own_clock",
 }
 WORD = re.compile(r"[^\s(){}\[\],;.:\"`]+")
 CAMEL = re.compile(r"^[a-z][\w'-]*[a-z0-9][A-Z][\w'-]*$|^[a-z][a-z0-9]*[A-Z][\w'-]*$")
@@ -85,7 +87,7 @@ def named():
                 continue
             found.update(w for w in WORD.findall(re.sub(r"--.*", "", line)) if CAMEL.match(w))
     names = {w: snake(w) for w in found}
-    names.update({w: w.replace("-", "_") for w in fields() if "-" in w and not w.startswith("-")})
+    names.update({w: w.replace("-", "_") for w in fields() | functions() if "-" in w and not w.startswith("-")})
     return names | SPECIAL, kit
 
 
@@ -123,9 +125,32 @@ def fields():
     return found
 
 
+def functions():
+    """The functions that unfold, and the constructors of data."""
+    found = set()
+    for p in sources():
+        if is_function(p):
+            continue
+        inside = False
+        with open(p, encoding="utf-8") as f:
+            for line in f:
+                m = re.match(r"^\s*(?:pub\s+)?(?:abbrev|unfoldable)\s+(?:pub\s+)?([^\s(){}\[\]:,;.]+)", line)
+                if m:
+                    found.add(m.group(1))
+                if re.match(r"^\s*(pub\s+)?data\s", line):
+                    inside = True
+                elif re.match(r"^\S", line):
+                    inside = False
+                m = re.match(r"^\s+([^\s(){}\[\]:,;.]+)\s*:\s", line)
+                if inside and m:
+                    found.add(m.group(1))
+    return found
+
+
 def main(argv):
     names, kit = named()
     dotted = fields()
+    unfolding = dotted | functions()
     if argv == ["--list"]:
         known = set()
         for p in sources():
@@ -156,7 +181,7 @@ def main(argv):
     for p in files:
         with open(p, encoding="utf-8") as f:
             text = f.read()
-        turned = turn(clauses(text), names, dotted)
+        turned = turn(clauses(text), names, dotted if is_function(p) else unfolding)
         if turned != text:
             with open(p, "w", encoding="utf-8") as f:
                 f.write(turned)

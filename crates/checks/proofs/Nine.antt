@@ -86,18 +86,18 @@ module _ (s : State) where
   unfolding unsound_for_good
   by-tail = stop6 limits clocks room messages settling tail
 
-  abbrev plan-out : Bool
-  plan-out = plan_outside s.run.plan
+  abbrev plan_out : Bool
+  plan_out = plan_outside s.run.plan
 
-  abbrev faulty-out : Bool
-  faulty-out = faulty_outside s.run.plan s.run.faulty
+  abbrev faulty_out : Bool
+  faulty_out = faulty_outside s.run.plan s.run.faulty
 
-  abbrev buffers-out : Bool
-  buffers-out = buffers_outside s
+  abbrev buffers_out : Bool
+  buffers_out = buffers_outside s
 
   -- the plan is within its limits
-  pub plan-passes : limits ≡ false → plan-out ≡ false
-  plan-passes e = (or_parts plan-out faulty-out (or_parts (plan-out || faulty-out) buffers-out e).0).0
+  pub plan-passes : limits ≡ false → plan_out ≡ false
+  plan-passes e = (or_parts plan_out faulty_out (or_parts (plan_out || faulty_out) buffers_out e).0).0
 
 -- ---- and the time
 

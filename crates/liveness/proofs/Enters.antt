@@ -36,17 +36,17 @@ module _ (r : Run) (t : List ℕ) (ok : Planned r.plan r.faulty) {P : Processors
   abbrev π : Params
   π = params r.plan r.faulty ok
 
-  abbrev pub clocks-to : List ℕ
-  clocks-to = set r.clocks p (entry_clock r.plan (clock_of r p) w)
+  abbrev pub clocks_to : List ℕ
+  clocks_to = set r.clocks p (entry_clock r.plan (clock_of r p) w)
 
-  abbrev pub views-to : List ℕ
-  views-to = set r.views p w
+  abbrev pub views_to : List ℕ
+  views_to = set r.views p w
 
   -- the processors afterwards
   abbrev pub entrants : Processors
   entrants = record {
-    clock = λ q. get_or clocks-to q 0;
-    view = λ q. get_or views-to q 0;
+    clock = λ q. get_or clocks_to q 0;
+    view = λ q. get_or views_to q 0;
     entered = λ u q. P.entered u q || (eqb u w && eqb q p);
   }
 
@@ -56,7 +56,7 @@ module _ (r : Run) (t : List ℕ) (ok : Planned r.plan r.faulty) {P : Processors
   row_long : slot w entered_word < length t
   row_long = omega (arith, books.rows)
 
-  pub enter-books : Books r.plan clocks-to views-to (added t w entered_word p) entrants L
+  pub enter-books : Books r.plan clocks_to views_to (added t w entered_word p) entrants L
   enter-books = record {
     clocks_long = rw (length-set r.clocks p (entry_clock r.plan (clock_of r p) w)) books.clocks_long;
     views_long = rw (length-set r.views p w) books.views_long;
@@ -74,19 +74,19 @@ module _ (r : Run) (t : List ℕ) (ok : Planned r.plan r.faulty) {P : Processors
   module _ (now : ℕ) (xs ys : List Sent) (kept : (m : Message) (s : ℕ) → In m s ys → In m s xs)
       (gone : (m : Message) (s : ℕ) → In m s xs → In m s ys ⊎ ((d : Bool) × (u : ℕ) × (m ≡ certificate d u p) × (onward d u ≤ w)))
       (why : Reason π P L p w) where
-    abbrev pub sent-to : List Message
-    sent-to = to_correct r.plan r.faulty (entry_messages r.plan p w)
+    abbrev pub sent_to : List Message
+    sent_to = to_correct r.plan r.faulty (entry_messages r.plan p w)
 
     -- what is sent is p's signatures of the stages that take place at w, to a correct leader
-    sent_is : (m : Message) (s : ℕ) → In m s (stamped now sent-to)
+    sent_is : (m : Message) (s : ℕ) → In m s (stamped now sent_to)
         → (d : Bool) × (m ≡ signature d w p) × (s ≡ now) × T (is_correct r (lead r.plan w)) × At r.plan d w
     sent_is m s i =
-        let a = in-stamped m s now sent-to i in
+        let a = in-stamped m s now sent_to i in
         let b = elem-correct r m (entry_messages r.plan p w) a.1 in
         let e = entry-sent r.plan m w p b.0 in
         (e.0, e.1, a.0, subst (λ (x : ℕ). T (is_correct r x)) (ap (meant r.plan) e.1 ∙ signature-meant r.plan e.0 w p) b.1, e.2)
 
-    pub entered : Enter π P entrants L (flight xs) (flight (ys ++ stamped now sent-to)) now p w
+    pub entered : Enter π P entrants L (flight xs) (flight (ys ++ stamped now sent_to)) now p w
     unfolding proto.lead proto.row
     entered = record {
       for_a_correct = c;
@@ -101,18 +101,18 @@ module _ (r : Run) (t : List ℕ) (ok : Planned r.plan r.faulty) {P : Processors
       entered_old = λ u q x. or_left (P.entered u q) (eqb u w && eqb q p) x;
       entered_new = λ u q x. ⊎_elim (λ y. inl y) (λ y. inr (eqb→eq u w (T-left (eqb u w) _ y), eqb→eq q p (T-right (eqb u w) _ y)))
           (or_cases (P.entered u q) (eqb u w && eqb q p) x);
-      sent = λ d l i. elem-right (sent_as (signature d w p) now) ys (stamped now sent-to) (stamped-in (signature d w p) now sent-to
+      sent = λ d l i. elem-right (sent_as (signature d w p) now) ys (stamped now sent_to) (stamped-in (signature d w p) now sent_to
           (correct-elem r (signature d w p) (entry_messages r.plan p w) (entry-sends r.plan d w p (from-starts r.plan r.faulty ok d w i))
           (subst (λ (x : ℕ). T (is_correct r x)) (sym (signature-meant r.plan d w p)) l)));
-      signature_old = λ d u q s x. ⊎_elim (λ y. elem-left (sent_as (signature d u q) s) ys (stamped now sent-to) y)
+      signature_old = λ d u q s x. ⊎_elim (λ y. elem-left (sent_as (signature d u q) s) ys (stamped now sent_to) y)
           (λ y. absurd (apart d y.0 u y.1 q p y.2)) (gone (signature d u q) s x);
       signature_new = λ d u q s x. ⊎_elim (λ y. inl (kept (signature d u q) s y))
           (λ y. let a = sent_is (signature d u q) s y in let e = signature_is d a.0 u w q p a.1 in
           inr (e.1, e.2, a.2, a.3, to-starts r.plan r.faulty ok d w (subst (λ (b : Bool). At r.plan b w) (sym e.0) a.4)))
-          (elem-cases (sent_as (signature d u q) s) ys (stamped now sent-to) x);
-      certificate_old = λ d u q s x. ⊎_elim (λ y. inl (elem-left (sent_as (certificate d u q) s) ys (stamped now sent-to) y))
+          (elem-cases (sent_as (signature d u q) s) ys (stamped now sent_to) x);
+      certificate_old = λ d u q s x. ⊎_elim (λ y. inl (elem-left (sent_as (certificate d u q) s) ys (stamped now sent_to) y))
           (λ y. let e = certificate-is d y.0 u y.1 q p y.2 in inr (e.2, rw (e.0, e.1) y.3)) (gone (certificate d u q) s x);
       certificate_new = λ d u q s x. ⊎_elim (λ y. kept (certificate d u q) s y)
           (λ y. let a = sent_is (certificate d u q) s y in absurd (apart a.0 d w u p q (sym a.1)))
-          (elem-cases (sent_as (certificate d u q) s) ys (stamped now sent-to) x);
+          (elem-cases (sent_as (certificate d u q) s) ys (stamped now sent_to) x);
     }

@@ -72,19 +72,19 @@ module _ (s : State) (ok : Planned s.run.plan s.run.faulty) (x : Tracked s.run.p
     was-there = found_in found
 
     -- the run without it, and its network
-    abbrev after-it : ℕ
-    after-it = s.run.held - 1
+    abbrev after_it : ℕ
+    after_it = s.run.held - 1
 
-    abbrev traffic-after : Traffic
-    traffic-after = traffic_delivered s.run.traffic m (wait_of s m)
+    abbrev traffic_after : Traffic
+    traffic_after = traffic_delivered s.run.traffic m (wait_of s m)
 
-    abbrev network-after : List ℕ
-    network-after = removed s.form s.network s.run.held (place_of s m)
+    abbrev network_after : List ℕ
+    network_after = removed s.form s.network s.run.held (place_of s m)
 
-    wire-after : Wire s.form network-after after-it left
+    wire-after : Wire s.form network_after after_it left
     wire-after = wire-removed x.wire found
 
-    length-after : length network-after ≡ length s.network
+    length-after : length network_after ≡ length s.network
     length-after = length_without x.wire found
 
   signature-leads : (q : Bool) (w p : ℕ) (is_held : T (not_held s (signature q w p)) → ⊥) → (p < plan.n) × (w < plan.views)
@@ -94,7 +94,7 @@ module _ (s : State) (ok : Planned s.run.plan s.run.faulty) (x : Tracked s.run.p
   signature-leads q w p is_held n fits =
       let m : Message = signature q w p in
       let there = was-there m is_held in
-      hear-leads s ok x (after-it m is_held) (traffic-after m is_held) (network-after m is_held) (left m is_held) (wire-after m is_held) (length-after m is_held) (kept-left m is_held)
+      hear-leads s ok x (after_it m is_held) (traffic_after m is_held) (network_after m is_held) (left m is_held) (wire-after m is_held) (length-after m is_held) (kept-left m is_held)
       q w p n.1 n.0 (gone_one m is_held) (inr ((found m is_held).time, there)) (x.holds.flight.signed q w p (found m is_held).time there).1 fits
 
   -- a certificate in flight exists
@@ -109,14 +109,14 @@ module _ (s : State) (ok : Planned s.run.plan s.run.faulty) (x : Tracked s.run.p
       let m : Message = Vc w p in
       let is_held : T (not_held s m) → ⊥ = c.input.1.1.0 in
       let b = backed-exists false w p (found m is_held).time (was-there m is_held) in
-      view-certificate-leads s ok x (after-it m is_held) (traffic-after m is_held) (network-after m is_held) (left m is_held) (wire-after m is_held) (length-after m is_held)
+      view-certificate-leads s ok x (after_it m is_held) (traffic_after m is_held) (network_after m is_held) (left m is_held) (wire-after m is_held) (length-after m is_held)
       (kept-left m is_held)
       w p b.1 (not-not (initial plan w) c.input.1.0) b.0 (gone_one m is_held) c.outcome.0 c.outcome.1.0
   deliver-leads (Qc w p) c =
       let m : Message = Qc w p in
       let is_held : T (not_held s m) → ⊥ = c.input.1.1.0 in
       let b = backed-exists true w p (found m is_held).time (was-there m is_held) in
-      quorum-certificate-leads s ok x (after-it m is_held) (traffic-after m is_held) (network-after m is_held) (left m is_held) (wire-after m is_held) (length-after m is_held)
+      quorum-certificate-leads s ok x (after_it m is_held) (traffic_after m is_held) (network_after m is_held) (left m is_held) (wire-after m is_held) (length-after m is_held)
       (kept-left m is_held)
       w p b.1 b.0 (gone_one m is_held) c.outcome.0 c.outcome.1.0
 

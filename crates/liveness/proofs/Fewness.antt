@@ -27,7 +27,7 @@ use Rattle.model.specs.Traffic.{posted_first, posted_during, ever_posted, same_s
 use Rattle.liveness.specs.Traffic.{FewForView}
 use Rattle.liveness.proofs.Judging.{Passes}
 use Rattle.liveness.proofs.Link.{Planned}
-use Rattle.liveness.proofs.FirstEntries.{blank-tally, blank-length, blank-word, views-positive}
+use Rattle.liveness.proofs.FirstEntries.{blank_tally, blank-length, blank-word, views-positive}
 use Rattle.liveness.proofs.Tracks.{Tracked}
 use Rattle.liveness.proofs.Opens.{planned, tally-long}
 use Rattle.liveness.proofs.Dues.{due-most}
@@ -41,9 +41,9 @@ use Rattle.liveness.proofs.Promises.{follows_event, opened-so, c₀, tracked₀}
 first-pays : (u : Setup) (before : State) → Passes (opening_checks u before)
     → Paid u.plan (blank u before).tally (opened u before).tally (posted_first u before)
 unfolding opened blank made
-first-pays u before c = entries-pays (first_entry u) (blank_run u) (blank-tally u before.tally ok long)
+first-pays u before c = entries-pays (first_entry u) (blank_run u) (blank_tally u before.tally ok long)
     (omega (arith, long, blank-length u before.tally ok long))
-    (λ p. by_cond (Fresh u.plan (blank-tally u before.tally ok long) p) (correct u.plan u.faulty p) (into 0) stay
+    (λ p. by_cond (Fresh u.plan (blank_tally u before.tally ok long) p) (correct u.plan u.faulty p) (into 0) stay
     (λ t. (positive, λ x. member-none p (rw (blank-word u before.tally ok long 0 entered_word positive (omega arith)) at x))) (λ t. tt))
     u.plan.n (omega arith)
   where

@@ -57,14 +57,14 @@ module _ (u : Setup) (t : List ℕ) (ok : Planned u.plan u.faulty) (long : row_w
   abbrev pub r : Run
   r = blank_run u
 
-  abbrev pub blank-tally : List ℕ
-  blank-tally = replicate (row_words * plan.views) 0 ++ drop (row_words * plan.views) t
+  abbrev pub blank_tally : List ℕ
+  blank_tally = replicate (row_words * plan.views) 0 ++ drop (row_words * plan.views) t
 
-  pub blank-length : length blank-tally ≡ length t
+  pub blank-length : length blank_tally ≡ length t
   blank-length = length-append (replicate (row_words * plan.views) 0) (drop (row_words * plan.views) t)
       ∙ omega (arith, length-replicate {A = ℕ} (row_words * plan.views) 0, length-drop (row_words * plan.views) t, long)
 
-  pub blank-word : (w j : ℕ) → w < plan.views → j < 4 → word blank-tally w j ≡ 0
+  pub blank-word : (w j : ℕ) → w < plan.views → j < 4 → word blank_tally w j ≡ 0
   blank-word w j l h =
       get_or-append (replicate (row_words * plan.views) 0) (drop (row_words * plan.views) t) 0 (slot w j)
       (omega (arith, length-replicate {A = ℕ} (row_words * plan.views) 0))
@@ -90,7 +90,7 @@ module _ (u : Setup) (t : List ℕ) (ok : Planned u.plan u.faulty) (long : row_w
     pub sent_few : length d.sent ≤ 2 * k
     pub sent_of : (e : Bool) (q : ℕ) → q < k → T (correct plan faulty q) → T (correct plan faulty (lead plan 0)) → Elem (signature e 0 q) d.sent
 
-  mid_first : Mid 0 (still r blank-tally)
+  mid_first : Mid 0 (still r blank_tally)
   mid_first = record {
     clocks_same = refl;
     views_same = refl;
@@ -173,7 +173,7 @@ module _ (u : Setup) (t : List ℕ) (ok : Planned u.plan u.faulty) (long : row_w
     unfolding taking
     mid_more = by_cond (λ (e : Entry). Mid (suc k) (also d (taking r' d.tally k e))) (correct plan faulty k) (into 0) stay goes waits
 
-  pub mid_all : (k : ℕ) → Mid k (entries (first_entry u) r blank-tally k)
+  pub mid_all : (k : ℕ) → Mid k (entries (first_entry u) r blank_tally k)
   unfolding entries
   mid_all zero = mid_first
-  mid_all (suc k) = mid_more k (entries (first_entry u) r blank-tally k) (mid_all k)
+  mid_all (suc k) = mid_more k (entries (first_entry u) r blank_tally k) (mid_all k)

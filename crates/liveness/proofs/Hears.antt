@@ -67,20 +67,20 @@ module _ (q : Bool) (r : Run) (t : List ℕ) (ok : Planned r.plan r.faulty) {P :
   abbrev signers : ℕ
   signers = insert (word t w (heard_word q)) p
 
-  abbrev pub formed-here : Bool
-  formed-here = forms q r t w p
+  abbrev pub formed_here : Bool
+  formed_here = forms q r t w p
 
-  abbrev with-signer : List ℕ
-  with-signer = added t w (heard_word q) p
+  abbrev with_signer : List ℕ
+  with_signer = added t w (heard_word q) p
 
-  abbrev pub tally-to : List ℕ
-  tally-to = cond formed-here (added with-signer w marks_word (mark_bit q)) with-signer
+  abbrev pub tally_to : List ℕ
+  tally_to = cond formed_here (added with_signer w marks_word (mark_bit q)) with_signer
 
   -- the leaders' tally afterwards
   abbrev pub hearers : Tally
   hearers = record {
     heard = λ d u x. L.heard d u x || (eqb u w && (eqb (heard_word d) (heard_word q) && eqb x p));
-    formed = λ d u. L.formed d u || (formed-here && (eqb u w && eqb (mark_bit d) (mark_bit q)));
+    formed = λ d u. L.formed d u || (formed_here && (eqb u w && eqb (mark_bit d) (mark_bit q)));
   }
 
   row_long : slot w marks_word < length t
@@ -89,29 +89,29 @@ module _ (q : Bool) (r : Run) (t : List ℕ) (ok : Planned r.plan r.faulty) {P :
   word-long : slot w (heard_word q) < length t
   word-long = omega (arith, books.rows, heard-low q)
 
-  pub length_to : length tally-to ≡ length t
-  length_to = length-heard t q w p formed-here
+  pub length_to : length tally_to ≡ length t
+  length_to = length-heard t q w p formed_here
 
   -- the words but the marks are those with the signer
-  word-to : (u j : ℕ) → j < marks_word → word tally-to u j ≡ word with-signer u j
-  word-to u j l = by_cond (λ (x : List ℕ). word x u j ≡ word with-signer u j) formed-here (added with-signer w marks_word (mark_bit q)) with-signer
-      (λ f. added-other with-signer w marks_word (mark_bit q) u j (omega arith)) (λ f. refl)
+  word-to : (u j : ℕ) → j < marks_word → word tally_to u j ≡ word with_signer u j
+  word-to u j l = by_cond (λ (x : List ℕ). word x u j ≡ word with_signer u j) formed_here (added with_signer w marks_word (mark_bit q)) with_signer
+      (λ f. added-other with_signer w marks_word (mark_bit q) u j (omega arith)) (λ f. refl)
 
-  marks-to : (d : Bool) (u : ℕ) → member (word tally-to u marks_word) (mark_bit d) ≡
-      (member (word t u marks_word) (mark_bit d) || (formed-here && (eqb u w && eqb (mark_bit d) (mark_bit q))))
-  marks-to d u = go formed-here
+  marks-to : (d : Bool) (u : ℕ) → member (word tally_to u marks_word) (mark_bit d) ≡
+      (member (word t u marks_word) (mark_bit d) || (formed_here && (eqb u w && eqb (mark_bit d) (mark_bit q))))
+  marks-to d u = go formed_here
     where
-      same : word with-signer u marks_word ≡ word t u marks_word
+      same : word with_signer u marks_word ≡ word t u marks_word
       same = added-other t w (heard_word q) p u marks_word (omega (arith, heard-low q))
 
-      go : (f : Bool) → member (word (cond f (added with-signer w marks_word (mark_bit q)) with-signer) u marks_word) (mark_bit d)
+      go : (f : Bool) → member (word (cond f (added with_signer w marks_word (mark_bit q)) with_signer) u marks_word) (mark_bit d)
           ≡ (member (word t u marks_word) (mark_bit d) || (f && (eqb u w && eqb (mark_bit d) (mark_bit q))))
       go true =
-          added-member with-signer w marks_word (mark_bit q) (omega arith) (rw (length-added t w (heard_word q) p) row_long) u marks_word (mark_bit d) (omega arith)
+          added-member with_signer w marks_word (mark_bit q) (omega arith) (rw (length-added t w (heard_word q) p) row_long) u marks_word (mark_bit d) (omega arith)
           ∙ ap (λ (x : ℕ). member x (mark_bit d) || (eqb u w && eqb (mark_bit d) (mark_bit q))) same
       go false = ap (λ (x : ℕ). member x (mark_bit d)) same ∙ sym (or-none (member (word t u marks_word) (mark_bit d)) false (λ x. x))
 
-  pub hear-books : Books r.plan r.clocks r.views tally-to P hearers
+  pub hear-books : Books r.plan r.clocks r.views tally_to P hearers
   hear-books = record {
     clocks_long = books.clocks_long;
     views_long = books.views_long;
@@ -124,7 +124,7 @@ module _ (q : Bool) (r : Run) (t : List ℕ) (ok : Planned r.plan r.faulty) {P :
         ap (λ (b : Bool). b || (eqb u w && (eqb (heard_word d) (heard_word q) && eqb x p))) (books.heard d u x l)
         ∙ sym (ap (λ (y : ℕ). member y x) (word-to u (heard_word d) (heard-low d).1)
         ∙ added-member t w (heard_word q) p (omega (arith, heard-low q)) word-long u (heard_word d) x (omega (arith, heard-low d)));
-    formed = λ d u l. ap (λ (b : Bool). b || (formed-here && (eqb u w && eqb (mark_bit d) (mark_bit q)))) (books.formed d u l) ∙ sym (marks-to d u);
+    formed = λ d u l. ap (λ (b : Bool). b || (formed_here && (eqb u w && eqb (mark_bit d) (mark_bit q)))) (books.formed d u l) ∙ sym (marks-to d u);
     sets_below = λ u j l h. rw (word-to u j h) (added-below t w (heard_word q) p (omega (arith, heard-low q)) word-long r.plan.n u j (omega arith)
         p-low (books.sets_below u j l h));
   }
@@ -132,25 +132,25 @@ module _ (q : Bool) (r : Run) (t : List ℕ) (ok : Planned r.plan r.faulty) {P :
   -- the signers are counted as they are in the protocol
   counted : count r.plan.n (hearers.heard q w) ≡ size signers
   counted =
-      let e : word tally-to w (heard_word q) ≡ signers = word-to w (heard_word q) (heard-low q).1 ∙ added-same t w (heard_word q) p word-long in
+      let e : word tally_to w (heard_word q) ≡ signers = word-to w (heard_word q) (heard-low q).1 ∙ added-same t w (heard_word q) p word-long in
       count-ext r.plan.n (hearers.heard q w) (member signers) (λ x l. hear-books.heard q w x w-low ∙ ap (λ (y : ℕ). member y x) e)
       ∙ sym (size-count r.plan.n signers (insert-below r.plan.n (word t w (heard_word q)) p p-low
       (books.sets_below w (heard_word q) w-low (heard-low q).1)))
 
-  forms-many : T formed-here → needed q r.plan ≤ size signers
+  forms-many : T formed_here → needed q r.plan ≤ size signers
   unfolding ripe
   forms-many f =
       leb→le _ _ (T-left (leb (needed q r.plan) (size signers)) _
       (T-left (leb (needed q r.plan) (size signers) && not (member (word t w marks_word) (mark_bit q))) _ f))
 
-  forms-first : T formed-here → T (L.formed q w) → ⊥
+  forms-first : T formed_here → T (L.formed q w) → ⊥
   unfolding ripe
   forms-first f x = T_not (member (word t w marks_word) (mark_bit q))
       (T-right (leb (needed q r.plan) (size signers)) _ (T-left
       (leb (needed q r.plan) (size signers) && not (member (word t w marks_word) (mark_bit q))) _ f))
       (rw (books.formed q w w-low) at x)
 
-  forms-if : needed q r.plan ≤ size signers → (T (L.formed q w) → ⊥) → T (q || leb (view_of r (lead r.plan w)) w) → T formed-here
+  forms-if : needed q r.plan ≤ size signers → (T (L.formed q w) → ⊥) → T (q || leb (view_of r (lead r.plan w)) w) → T formed_here
   unfolding ripe
   forms-if m no' v =
       T_and (leb (needed q r.plan) (size signers) && not (member (word t w marks_word) (mark_bit q))) _
@@ -165,9 +165,9 @@ module _ (q : Bool) (r : Run) (t : List ℕ) (ok : Planned r.plan r.faulty) {P :
       go true a = tt
       go false a = let l : view_of r (lead r.plan w) ≤ w = rw (books.view (proto.lead π w), lead_is r.plan r.faulty ok w) at a in le→leb _ _ l
 
-  mark_made : T formed-here → T (hearers.formed q w)
-  mark_made f = or_right (L.formed q w) (formed-here && (eqb w w && eqb (mark_bit q) (mark_bit q)))
-      (T_and formed-here _ f (T_and (eqb w w) _ (eq→eqb w w refl) (eq→eqb (mark_bit q) (mark_bit q) refl)))
+  mark_made : T formed_here → T (hearers.formed q w)
+  mark_made f = or_right (L.formed q w) (formed_here && (eqb w w && eqb (mark_bit q) (mark_bit q)))
+      (T_and formed_here _ f (T_and (eqb w w) _ (eq→eqb w w refl) (eq→eqb (mark_bit q) (mark_bit q) refl)))
 
   -- ys is what is left of the messages in flight, xs, without the signature
   module _ (now : ℕ) (xs ys : List Sent) (kept : (m : Message) (s : ℕ) → In m s ys → In m s xs)
@@ -177,12 +177,12 @@ module _ (q : Bool) (r : Run) (t : List ℕ) (ok : Planned r.plan r.faulty) {P :
     all_of = to_correct r.plan r.faulty (to_each q w r.plan.n)
 
     abbrev pub sent_of : List Message
-    sent_of = cond formed-here all_of []
+    sent_of = cond formed_here all_of []
 
     -- what is sent is the certificate, to correct processors
-    sent_is : (m : Message) (s : ℕ) → In m s (stamped now sent_of) → T formed-here × (s ≡ now) × ((x : ℕ) × (m ≡ certificate q w x) × T (is_correct r x))
+    sent_is : (m : Message) (s : ℕ) → In m s (stamped now sent_of) → T formed_here × (s ≡ now) × ((x : ℕ) × (m ≡ certificate q w x) × T (is_correct r x))
     sent_is m s i =
-        let a = in-chosen m s now formed-here all_of i in
+        let a = in-chosen m s now formed_here all_of i in
         let b = in-stamped m s now all_of a.1 in
         let c = elem-correct r m (to_each q w r.plan.n) b.1 in
         let e = each-got q w r.plan.n m c.0 in
@@ -204,17 +204,17 @@ module _ (q : Bool) (r : Run) (t : List ℕ) (ok : Planned r.plan r.faulty) {P :
           (or_cases (L.heard d u x) (eqb u w && (eqb (heard_word d) (heard_word q) && eqb x p)) y);
       heard_now = or_right (L.heard q w p) (eqb w w && (eqb (heard_word q) (heard_word q) && eqb p p))
           (T_and (eqb w w) _ (eq→eqb w w refl) (T_and (eqb (heard_word q) (heard_word q)) _ (eq→eqb (heard_word q) (heard_word q) refl) (eq→eqb p p refl)));
-      formed_old = λ d u y. or_left (L.formed d u) (formed-here && (eqb u w && eqb (mark_bit d) (mark_bit q))) y;
+      formed_old = λ d u y. or_left (L.formed d u) (formed_here && (eqb u w && eqb (mark_bit d) (mark_bit q))) y;
       formed_new = λ d u y. ⊎_elim (λ z. inl z)
-          (λ z. let z' = T-right formed-here _ z in
+          (λ z. let z' = T-right formed_here _ z in
           inr (
             stage-of-mark d q (T-right (eqb u w) _ z'),
             eqb→eq u w (T-left (eqb u w) _ z'),
             needed-enough r.plan r.faulty ok q _
-                (rw counted (forms-many (T-left formed-here _ z))),
+                (rw counted (forms-many (T-left formed_here _ z))),
           ))
-          (or_cases (L.formed d u) (formed-here && (eqb u w && eqb (mark_bit d) (mark_bit q))) y);
-      formed_now = λ e a. ⊎_elim (λ z. or_left (L.formed q w) (formed-here && (eqb w w && eqb (mark_bit q) (mark_bit q))) z)
+          (or_cases (L.formed d u) (formed_here && (eqb u w && eqb (mark_bit d) (mark_bit q))) y);
+      formed_now = λ e a. ⊎_elim (λ z. or_left (L.formed q w) (formed_here && (eqb w w && eqb (mark_bit q) (mark_bit q))) z)
           (λ z. mark_made (forms-if (rw counted at (enough-needed r.plan r.faulty ok q _ e)) z (allowed-here a))) (passes? (L.formed q w));
       signature_old = λ d u x s y. ⊎_elim (λ z. inl (elem-left (sent_as (signature d u x) s) ys (stamped now sent_of) z)) (λ z. inr (signature_is d q u w x p z))
           (gone (signature d u x) s y);
@@ -227,8 +227,8 @@ module _ (q : Bool) (r : Run) (t : List ℕ) (ok : Planned r.plan r.faulty) {P :
           (λ z. let a = sent_is (certificate d u x) s z in let e = certificate-is d q u w x a.2.0 a.2.1 in
           inr (e.0, e.1, a.1, rw e.2 a.2.2, forms-first a.0, mark_made a.0))
           (elem-cases (sent_as (certificate d u x) s) ys (stamped now sent_of) y);
-      sent = λ no' f x c. elem-right (sent_as (certificate q w x) now) ys (stamped now sent_of) (chosen-in (certificate q w x) now now formed-here all_of
-          (⊎_elim (λ z. absurd (no' z)) (λ z. T-left formed-here _ z) (or_cases (L.formed q w) (formed-here && (eqb w w && eqb (mark_bit q) (mark_bit q))) f))
+      sent = λ no' f x c. elem-right (sent_as (certificate q w x) now) ys (stamped now sent_of) (chosen-in (certificate q w x) now now formed_here all_of
+          (⊎_elim (λ z. absurd (no' z)) (λ z. T-left formed_here _ z) (or_cases (L.formed q w) (formed_here && (eqb w w && eqb (mark_bit q) (mark_bit q))) f))
           (stamped-in (certificate q w x) now all_of (correct-elem r (certificate q w x) (to_each q w r.plan.n)
           (each-gets q w r.plan.n x (correct_below r.plan r.faulty x c))
           (subst (λ (y : ℕ). T (is_correct r y)) (sym (certificate-meant r.plan q w x)) c))));

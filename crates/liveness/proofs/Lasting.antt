@@ -47,21 +47,21 @@ pub record Taken (r : Run) (h : Held) : Type 0 where
 
 module _ (r : Run) (h : Held) where
   -- its tests, as far as each goes
-  abbrev to-view : Bool
-  to-view = kind_outside h.kind || no_view r.plan h.view
+  abbrev to_view : Bool
+  to_view = kind_outside h.kind || no_view r.plan h.view
 
-  abbrev to-processor : Bool
-  to-processor = to-view || no_processor r.plan h.processor
+  abbrev to_processor : Bool
+  to_processor = to_view || no_processor r.plan h.processor
 
   abbrev reached : Bool
   reached = is_correct r (addressee r.plan h.kind h.view h.processor)
 
-  abbrev to-reach : Bool
-  to-reach = to-processor || not reached
+  abbrev to_reach : Bool
+  to_reach = to_processor || not reached
 
   of-taken : Taken r h → T (held_unsound r.plan r.faulty r.time h) → ⊥
   of-taken x =
-      nor to-reach (ltb r.time h.sent) (nor to-processor (not reached) (nor to-view (no_processor r.plan h.processor)
+      nor to_reach (ltb r.time h.sent) (nor to_processor (not reached) (nor to_view (no_processor r.plan h.processor)
       (nor (kind_outside h.kind) (no_view r.plan h.view) (nor (ltb h.kind kind_least) (ltb kind_most h.kind)
       (λ t. let g : h.kind < kind_least = ltb→lt _ _ t in omega (arith, x.kind.0))
       (λ t. let g : kind_most < h.kind = ltb→lt _ _ t in omega (arith, x.kind.1)))
@@ -72,9 +72,9 @@ module _ (r : Run) (h : Held) where
 
   taken_of : (T (held_unsound r.plan r.faulty r.time h) → ⊥) → Taken r h
   taken_of sound =
-      let a = neither to-reach (ltb r.time h.sent) sound in
-      let b = neither to-processor (not reached) a.0 in
-      let c = neither to-view (no_processor r.plan h.processor) b.0 in
+      let a = neither to_reach (ltb r.time h.sent) sound in
+      let b = neither to_processor (not reached) a.0 in
+      let c = neither to_view (no_processor r.plan h.processor) b.0 in
       let d = neither (kind_outside h.kind) (no_view r.plan h.view) c.0 in
       let k = neither (ltb h.kind kind_least) (ltb kind_most h.kind) d.0 in
       record {

@@ -31,7 +31,7 @@ use Rattle.liveness.proofs.Forms.{least-twice}
 use Rattle.liveness.proofs.Flight.{stamped}
 use Rattle.liveness.proofs.Sending.{signature, signature_is, apart, in-stamped, stamped-in}
 use Rattle.liveness.proofs.Link.{Planned, params, correct_below, flight, Wire, wire-posted, length-posted, Books}
-use Rattle.liveness.proofs.FirstEntries.{zeros, blank-tally, views-positive, Mid, mid_all}
+use Rattle.liveness.proofs.FirstEntries.{zeros, blank_tally, views-positive, Mid, mid_all}
 use Rattle.liveness.proofs.Tracks.{Tracked}
 use Rattle.liveness.proofs.Judging.{Passes, by-judged, neither, nor, not-ltb, not-leb, Lengths, lengths-within}
 
@@ -93,7 +93,7 @@ module _ (u : Setup) (s : State) (c : Passes (opening_checks u s)) where
   -- ---- all have entered
 
   abbrev all : Change
-  all = entries (first_entry u) r (blank-tally u s.tally ok tally-long) plan.n
+  all = entries (first_entry u) r (blank_tally u s.tally ok tally-long) plan.n
 
   m : Mid u s.tally ok tally-long plan.n all
   m = mid_all u s.tally ok tally-long plan.n

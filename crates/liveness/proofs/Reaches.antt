@@ -11,7 +11,7 @@ use Rattle.base.specs.Members.{elem-left, elem-cases}
 use Rattle.base.specs.Tests.{T-right, T_and, le?, by_cond}
 use Rattle.protocol.specs.Params.{Params}
 use Rattle.protocol.specs.State.{onward, Exists}
-use Rattle.protocol.specs.Moves.{Reason, by-certificate}
+use Rattle.protocol.specs.Moves.{Reason, by_certificate}
 use Rattle.protocol.specs.Runs.{none, more, hears, enters, passes}
 use Rattle.types.specs.declared.Plan.{Plan}
 use Rattle.types.specs.declared.Message.{Message}
@@ -25,7 +25,7 @@ use Rattle.liveness.proofs.TallyLaws.{length-added}
 use Rattle.liveness.proofs.Flight.{Sent, In, stamped, sent_as}
 use Rattle.liveness.proofs.Sending.{signature, apart, certificate-is, At}
 use Rattle.liveness.proofs.Link.{Planned, params, to-starts, Wire, wire-posted, length-posted}
-use Rattle.liveness.proofs.Enters.{entrants, enter-books, sent-to, entered}
+use Rattle.liveness.proofs.Enters.{entrants, enter-books, sent_to, entered}
 use Rattle.liveness.proofs.Soundness.{Inside}
 use Rattle.liveness.proofs.Clocks.{view_low, entered_inside}
 use Rattle.liveness.proofs.Hears.{length_to, hearers, hear-books, sent_of, heard}
@@ -102,7 +102,7 @@ module _ (s : State) (ok : Planned s.run.plan s.run.faulty) (x : Tracked s.run.p
       unfolding taking made entering
       enter-leads above not_end fits =
           arrives plan faulty ok x (made s₁ (taken (into u))) refl refl refl
-          (ys ++ stamped s.run.time (sent-to s₁.run s.tally ok x.books p u c low s.run.time x.messages ys kept lost why))
+          (ys ++ stamped s.run.time (sent_to s₁.run s.tally ok x.books p u c low s.run.time x.messages ys kept lost why))
           (entrants s₁.run s.tally ok x.books p u c low) x.tally
           (wire-posted wire s.run.time _ fits)
           (enter-books s₁.run s.tally ok x.books p u c low)
@@ -126,7 +126,7 @@ module _ (s : State) (ok : Planned s.run.plan s.run.faulty) (x : Tracked s.run.p
           lost m t i = ⊎_elim (λ y. inl y) (λ y. inr (q, w, y, omega arith)) (gone m t i)
 
           why : Reason π x.processors x.tally p (onward q w)
-          why = by-certificate q w refl (omega (arith, x.books.view p)) (to-starts plan faulty ok q w at) exists-here
+          why = by_certificate q w refl (omega (arith, x.books.view p)) (to-starts plan faulty ok q w at) exists-here
 
       pass-leads : onward q w ≤ view_of s.run p → Safely stay
       unfolding taking

@@ -37,25 +37,25 @@ module _ (s : State) where
   any_unsound = some (message_unsound s) s.run.held
 
   -- its tests, as far as each goes
-  abbrev to-clocks : Bool
-  to-clocks = limits_broken s || clocks_unsound s
+  abbrev to_clocks : Bool
+  to_clocks = limits_broken s || clocks_unsound s
 
   abbrev to_room : Bool
-  to_room = to-clocks || held_too_many s
+  to_room = to_clocks || held_too_many s
 
-  abbrev to-messages : Bool
-  to-messages = to_room || any_unsound
+  abbrev to_messages : Bool
+  to_messages = to_room || any_unsound
 
-  abbrev to-settling : Bool
-  to-settling = to-messages || settling_unsound s
+  abbrev to_settling : Bool
+  to_settling = to_messages || settling_unsound s
 
   pub good_of : (T (unsound_for_good s) → ⊥) → SoundRun s
   unfolding unsound_for_good
   good_of no' =
-      let t = neither to-settling (tail_not_zero s) no' in
-      let st = neither to-messages (settling_unsound s) t.0 in
+      let t = neither to_settling (tail_not_zero s) no' in
+      let st = neither to_messages (settling_unsound s) t.0 in
       let ms = neither to_room any_unsound st.0 in
-      let r = neither to-clocks (held_too_many s) ms.0 in
+      let r = neither to_clocks (held_too_many s) ms.0 in
       let c = neither (limits_broken s) (clocks_unsound s) r.0 in
       record {
         limits = c.0;
@@ -69,7 +69,7 @@ module _ (s : State) where
   pub of_good : SoundRun s → unsound_for_good s ≡ false
   unfolding unsound_for_good
   of_good x = T_false _
-      (nor to-settling (tail_not_zero s) (nor to-messages (settling_unsound s) (nor to_room any_unsound (nor to-clocks (held_too_many s)
+      (nor to_settling (tail_not_zero s) (nor to_messages (settling_unsound s) (nor to_room any_unsound (nor to_clocks (held_too_many s)
       (nor (limits_broken s) (clocks_unsound s) x.limits
       (λ t. let r = some-gives outside s.run.plan.n t in
       x.clocks r.0 (T-left (is_correct s.run r.0) _ r.2) (T-right (is_correct s.run r.0) _ r.2)))

@@ -12,8 +12,8 @@ use Rattle.base.specs.ScanLaws.{some-by}
 use Rattle.protocol.specs.Params as proto
 use Rattle.protocol.specs.Params.{Params}
 use Rattle.protocol.specs.State.{Processors}
-use Rattle.protocol.specs.Moves.{Reason, by-clock, Tick, clocked}
-use Rattle.protocol.specs.Runs.{st, Steps, none, more, enters, ticks-on}
+use Rattle.protocol.specs.Moves.{Reason, by_own_clock, Tick, clocked}
+use Rattle.protocol.specs.Runs.{st, Steps, none, more, enters, ticks_on}
 use Rattle.types.specs.declared.Plan.{Plan}
 use Rattle.types.specs.declared.Message.{Message}
 use Rattle.types.specs.declared.Run.{Run}
@@ -23,7 +23,7 @@ use Rattle.model.specs.Moves.{Change, changed, still, also, Entry, stay, into, b
 use Rattle.model.specs.Checks.{overdue_at, overdue, reaches_end, overfull}
 use Rattle.liveness.proofs.Flight.{sent_as, Sent, In, stamped, stands_at}
 use Rattle.liveness.proofs.Link.{Planned, params, correct_below, to-initial, flight, Wire, wire-posted, length-posted, Books, not-ended}
-use Rattle.liveness.proofs.Enters.{entrants, enter-books, sent-to, entered}
+use Rattle.liveness.proofs.Enters.{entrants, enter-books, sent_to, entered}
 use Rattle.liveness.proofs.TickLaws.{length-clocks}
 use Rattle.liveness.proofs.Soundness.{InsideRun}
 use Rattle.liveness.proofs.Clocks.{Arrived, arrived, stands, in_row, up as advanced-up}
@@ -111,7 +111,7 @@ module _ (s : State) (ok : Planned s.run.plan s.run.faulty) (x : Tracked s.run.p
       formed = x.books.formed;
       sets_below = x.books.sets_below;
     };
-    way = more none (ticks-on (λ p. clock_of a p) passed);
+    way = more none (ticks_on (λ p. clock_of a p) passed);
   }
 
   -- processor k moves
@@ -133,11 +133,11 @@ module _ (s : State) (ok : Planned s.run.plan s.run.faulty) (x : Tracked s.run.p
       above = lt_of_mul-lt-mul_right plan.gamma (omega (arith, at_time, up k ck, (inside k ck).low))
 
       why : Reason π m.P x.tally k w
-      why = by-clock (to-initial plan faulty ok w (T-right (eqb (clock_of a k % plan.gamma) 0) _ standing))
+      why = by_own_clock (to-initial plan faulty ok w (T-right (eqb (clock_of a k % plan.gamma) 0) _ standing))
           (omega (arith, m.books.view k, v.view_kept k (omega arith), above)) (m.books.clock k ∙ v.clock_kept k (omega arith) ∙ at_time)
 
       abbrev sent_now : List Message
-      sent_now = sent-to r c.tally ok m.books k w ck low now m.messages m.messages (λ m' t i. i) (λ m' t i. inl i) why
+      sent_now = sent_to r c.tally ok m.books k w ck low now m.messages m.messages (λ m' t i. i) (λ m' t i. inl i) why
 
       goes : Mid (also c (entering r c.tally k w))
       unfolding entering

@@ -83,7 +83,7 @@ module _ (plan : Plan) (faulty : ℕ) (ok : Planned plan faulty) where
       (books-to : Books plan s'.run.clocks s'.run.views s'.tally P L)
       (way-to : Steps π (tracked_state s x) (st P L (flight messages-to) s'.run.time s'.run.gst s'.run.settled))
       (ready-to : Ready plan faulty s'.run.clocks s'.run.views) (below-to : Below plan faulty s'.run.clocks)
-      (tally-to : length s'.tally ≡ length s.tally) (network-to : length s'.network ≡ length s.network) where
+      (tally_to : length s'.tally ≡ length s.tally) (network-to : length s'.network ≡ length s.network) where
     still_early : (p : ℕ) → T (correct plan faulty p) → s'.run.time ≤ clock_of s'.run p
     still_early p c =
         omega (arith, x.early p c, (steps-kept π way-to).0, steps-clock-up π way-to p c, x.books.clock p, books-to.clock p)
@@ -103,9 +103,9 @@ module _ (plan : Plan) (faulty : ℕ) (ok : Planned plan faulty) where
         below = below-to;
         early = still_early;
         unsettled = λ t. (steps-kept π way-to).1 ∙ x.unsettled (subst (λ (b : Bool). T (not b)) (steps-flag π way-to) t);
-        limits = (λ i. limits_for (form-to i) (plan-to i) (faulty-to i) (tally-to i) (network-to i)) ∙ x.limits;
+        limits = (λ i. limits_for (form-to i) (plan-to i) (faulty-to i) (tally_to i) (network-to i)) ∙ x.limits;
       };
       way = way-to;
-      tally_length = tally-to;
+      tally_length = tally_to;
       network_length = network-to;
     }

@@ -107,9 +107,9 @@ module _ (x : Point) (once : ℕ) (is : once ≡ next_seed x.seed) where
       let m : twice ≡ next_seed (next_seed x.seed) = again ∙ ap next_seed is in
       rw (d, sym m, sym q) refl
 
-  pub step-ticks : (e : Event) → delivers_by once x.state.run.held ≡ false → e ≡ ticking x.state → record { event = e; seed = once; steps = 1 } ≡ step_turn x
+  pub step_ticks : (e : Event) → delivers_by once x.state.run.held ≡ false → e ≡ ticking x.state → record { event = e; seed = once; steps = 1 } ≡ step_turn x
   unfolding chosen
-  step-ticks e n q = let d : delivers x ≡ false = rw (sym is) n in rw (d, sym is, sym q) refl
+  step_ticks e n q = let d : delivers x ≡ false = rw (sym is) n in rw (d, sym is, sym q) refl
 
 -- ---- a turn
 

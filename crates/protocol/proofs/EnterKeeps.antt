@@ -7,7 +7,7 @@ use Rattle.protocol.specs.Params.{Params, lead, next, next-above, next-mono}
 use Rattle.protocol.specs.State.{Processors, Tally, Flight, nearby, onward}
 use Rattle.protocol.specs.Base.{BaseProcessors, BaseTally, BaseFlight, BaseTimes, Base, times-kept}
 use Rattle.protocol.proofs.Quorum.{exists-entered, quorum-count, entered-clock, near-mono, allowed-before}
-use Rattle.protocol.specs.Moves.{Reason, by-clock, by-certificate, Enter}
+use Rattle.protocol.specs.Moves.{Reason, by_own_clock, by_certificate, Enter}
 
 module _ {π : Params} {P P' : Processors} {L : Tally} {F F' : Flight} {now p w : ℕ} (h : Enter π P P' L F F' now p w) where
   open π use {n, t, gamma, correct, gamma_positive}
@@ -17,8 +17,8 @@ module _ {π : Params} {P P' : Processors} {L : Tally} {F F' : Flight} {now p w 
   enters-above = go h.why
     where
       go : Reason π P L p w → P.view p < w
-      go (by-clock e l g) = l
-      go (by-certificate q u e l st x) = l
+      go (by_own_clock e l g) = l
+      go (by_certificate q u e l st x) = l
 
   -- what holds of p and of the others holds of all
   by-processor : (Q : ℕ → Type 0) → Q p → ((r : ℕ) → r ≢ p → Q r) → (r : ℕ) → Q r
@@ -74,12 +74,12 @@ module _ {π : Params} {P P' : Processors} {L : Tally} {F F' : Flight} {now p w 
         as_before l = near-from p (P.clock p) (i.processors.near p c) l
 
         go : P.clock p < w * gamma → Reason π P L p w → t < count n (nearby π P' (P'.clock p))
-        go l (by-clock e g x) = as_before (omega (arith, h.clock_to))
-        go l (by-certificate false u e g st x) =
+        go l (by_own_clock e g x) = as_before (omega (arith, h.clock_to))
+        go l (by_certificate false u e g st x) =
             let r = exists-entered i.tally false u x in
             let at-w : w * gamma ≤ P.clock r.0 = rw e (entered-clock i.processors u r.0 r.1) in
             near-from p (P.clock r.0) (i.processors.near r.0 (i.processors.entered_correct u r.0 r.1)) (omega (arith, h.clock_to))
-        go l (by-certificate true u e g st x) =
+        go l (by_certificate true u e g st x) =
             near-from p (w * gamma)
             (omega (arith, quorum-count i.tally u x, count-mono n (P.entered u) (nearby π P (w * gamma)) each))
             (omega (arith, h.clock_to))

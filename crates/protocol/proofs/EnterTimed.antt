@@ -6,7 +6,7 @@ use Rattle.protocol.specs.Params.{Params, lead, next-least, initial-gap}
 use Rattle.protocol.specs.State.{Processors, Tally, Flight, Starts}
 use Rattle.protocol.specs.Base.{Base}
 use Rattle.protocol.proofs.Quorum.{exists-entered}
-use Rattle.protocol.specs.Moves.{Reason, by-clock, by-certificate, Enter}
+use Rattle.protocol.specs.Moves.{Reason, by_own_clock, by_certificate, Enter}
 use Rattle.protocol.proofs.EnterKeeps.{enters-above, clock_up}
 use Rattle.protocol.specs.Timed.{Target, Waiting, Timed}
 
@@ -24,11 +24,11 @@ module _ {π : Params} {P P' : Processors} {L : Tally} {F F' : Flight} {now S : 
     not_beyond = go h.why
       where
         go : Reason π P L p w → w ≤ v
-        go (by-clock e l x) =
+        go (by_own_clock e l x) =
             ⊎_elim (λ y. y)
             (λ y. absurd (omega (arith, mul-le-mul_right gamma (initial-gap π v w g.initial e y), a.not_late p h.for_a_correct, roomy))) (le? w v)
-        go (by-certificate false u e l st x) = let r = exists-entered i.tally false u x in omega (arith, entered_below u r.0 r.1)
-        go (by-certificate true u e l st x) =
+        go (by_certificate false u e l st x) = let r = exists-entered i.tally false u x in omega (arith, entered_below u r.0 r.1)
+        go (by_certificate true u e l st x) =
             let r = exists-entered i.tally true u x in
             let ne : u ≢ v = λ (y : u ≡ v). ⊎_elim (λ formed. nq (rw y at formed.1)) (λ faulty. faulty.0 (rw y g.led)) x in
             omega (arith, entered_below u r.0 r.1)

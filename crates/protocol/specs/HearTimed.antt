@@ -5,7 +5,7 @@ use Rattle.base.specs.Tests.{le?}
 use Rattle.protocol.specs.Params.{Params}
 use Rattle.protocol.specs.State.{Processors, Tally, Flight}
 use Rattle.protocol.specs.Moves.{Hear}
-use Rattle.protocol.specs.Timed.{Target, Waiting, Timed, formed-by}
+use Rattle.protocol.specs.Timed.{Target, Waiting, Timed, formed_by}
 
 module _ {π : Params} {P : Processors} {L L' : Tally} {F F' : Flight} {now : ℕ} {q : Bool} {u p : ℕ} (h : Hear π P L L' F F' now q u p) where
   open π use {gamma, delta, correct}
@@ -40,9 +40,9 @@ module _ {π : Params} {P : Processors} {L L' : Tally} {F F' : Flight} {now : �
     quorum_sent_by = sent-by;
   }
     where
-      bound : Waiting π P L F now S M star v → now ≤ S + formed-by π
+      bound : Waiting π P L F now S M star v → now ≤ S + formed_by π
       bound a = omega (arith, a.star_on, a.not_late star g.star_correct, g.close)
 
-      sent-by : (r s : ℕ) → F'.certificate true v r s → s ≤ S + formed-by π
+      sent-by : (r s : ℕ) → F'.certificate true v r s → s ≤ S + formed_by π
       sent-by r s x = ⊎_elim (λ y. c.quorum_sent_by r s y)
           (λ e. omega (arith, e.2, bound (c.waiting (unformed-before true v (e.0, e.1) e.4)))) (h.certificate_new true v r s x)

@@ -37,8 +37,8 @@ pub record Hear (π : Params) (P : Processors) (L L' : Tally) (F F' : Flight) (n
 
 -- Why the processor p enters w: its clock stands there, or a certificate that exists and leads to w reaches it.
 pub data Reason (π : Params) (P : Processors) (L : Tally) (p w : ℕ) : Type 0 where
-  by-clock : Initial π w → P.view p < w → P.clock p ≡ w * π.gamma → Reason π P L p w
-  by-certificate : (q : Bool) (u : ℕ) → w ≡ onward q u → P.view p < w → Starts π q u → Exists π P L q u → Reason π P L p w
+  by_own_clock : Initial π w → P.view p < w → P.clock p ≡ w * π.gamma → Reason π P L p w
+  by_certificate : (q : Bool) (u : ℕ) → w ≡ onward q u → P.view p < w → Starts π q u → Exists π P L q u → Reason π P L p w
 
 -- The correct processor p enters w; certificates for it that lead no further may leave the flight.
 pub record Enter (π : Params) (P P' : Processors) (L : Tally) (F F' : Flight) (now p w : ℕ) : Type 0 where

@@ -8,8 +8,8 @@ abbrev pub wait : Params → ℕ
 wait π = π.k * (π.f + 1) * π.gamma
 
 -- how long after settling the target's quorum certificate is formed
-abbrev pub formed-by : Params → ℕ
-formed-by π = wait π + π.gamma + 3 * π.delta
+abbrev pub formed_by : Params → ℕ
+formed_by π = wait π + π.gamma + 3 * π.delta
 
 -- M: the largest correct clock at settling; star: a processor that had it
 pub record Target (π : Params) (M star v : ℕ) : Type 0 where
@@ -47,4 +47,4 @@ pub record Timed (π : Params) (P : Processors) (L : Tally) (F : Flight) (now S 
   -- the deadlines, while v's quorum certificate is not formed
   pub waiting : (T (L.formed true v) → ⊥) → Waiting π P L F now S M star v
   -- a quorum certificate for v in flight was sent in time
-  pub quorum_sent_by : (p s : ℕ) → F.certificate true v p s → s ≤ S + formed-by π
+  pub quorum_sent_by : (p s : ℕ) → F.certificate true v p s → s ≤ S + formed_by π

@@ -36,11 +36,11 @@ module _ (s : State) (sound : unsound s ≡ false) where
   pub sound-run : SoundRun s
   sound-run = sound-of s (fails (unsound s) sound)
 
-  abbrev to-faulty : Bool
-  to-faulty = plan_outside s.run.plan || faulty_outside s.run.plan s.run.faulty
+  abbrev to_faulty : Bool
+  to_faulty = plan_outside s.run.plan || faulty_outside s.run.plan s.run.faulty
 
-  limits-parts : (T to-faulty → ⊥) × (T (buffers_outside s) → ⊥)
-  limits-parts = neither to-faulty (buffers_outside s) sound-run.limits
+  limits-parts : (T to_faulty → ⊥) × (T (buffers_outside s) → ⊥)
+  limits-parts = neither to_faulty (buffers_outside s) sound-run.limits
 
   pub fit_of : Fit s.run
   fit_of =

@@ -49,13 +49,13 @@ module _ (s : State) (long : s.run.plan.n ≤ length s.run.clocks) where
   once-ends e f = stays_at s 17 (cond_no (late s) (refused s 17) (refused s 16) _ e
       (cond_yes (reaches_end (advanced s).run (arrivals (advanced s))) (refused s 17) (refused s 17) _ (tick-reaches s long ∙ f) refl)) (none-went s 17 (omega arith))
 
-  module _ (e : late s ≡ false) (f : ends s ≡ false) (sent : ℕ) (is-sent : sent ≡ length (arrived_below s s.run.plan.n).sent) where
+  module _ (e : late s ≡ false) (f : ends s ≡ false) (sent : ℕ) (is_sent : sent ≡ length (arrived_below s s.run.plan.n).sent) where
     pub once-full : room_in s < s.run.held + sent → TickedTo s s 18
     unfolding tick_once overdue arrivals
     once-full l = stays_at s 18 (cond_no (late s) (refused s 18) (refused s 16) _ e
         (cond_no (reaches_end (advanced s).run (arrivals (advanced s))) (refused s 18) (refused s 17) _ (tick-reaches s long ∙ f)
         (cond_yes (overfull (advanced s) (arrivals (advanced s))) (refused s 18) (refused s 18) _
-        (ap (λ (n : ℕ). ltb (room_in s) (s.run.held + n)) (sym is-sent) ∙ lt-ltb _ _ l) refl))) (none-went s 18 (omega arith))
+        (ap (λ (n : ℕ). ltb (room_in s) (s.run.held + n)) (sym is_sent) ∙ lt-ltb _ _ l) refl))) (none-went s 18 (omega arith))
 
     pub once-done : s.run.held + sent ≤ room_in s → (s' : State) → s' ≡ made (advanced s) (arrivals (advanced s)) → Went s (made (advanced s) (arrivals (advanced s)))
         → TickedTo s s' 0
@@ -64,7 +64,7 @@ module _ (s : State) (long : s.run.plan.n ≤ length s.run.clocks) where
         let x : ticked s ≡ tick_once s = cond_no (late s) (ticked s) (refused s 16) _ e
         (cond_no (reaches_end (advanced s).run (arrivals (advanced s))) (ticked s) (refused s 17) _ (tick-reaches s long ∙ f)
         (cond_no (overfull (advanced s) (arrivals (advanced s))) (ticked s) (refused s 18) (ticked s)
-        (ap (λ (n : ℕ). ltb (room_in s) (s.run.held + n)) (sym is-sent) ∙ le-ltb _ _ l) refl)) in
+        (ap (λ (n : ℕ). ltb (room_in s) (s.run.held + n)) (sym is_sent) ∙ le-ltb _ _ l) refl)) in
         record {
           state = is ∙ ap (λ (a : After). a.state) x;
           number = ap (λ (a : After). check_of a.answer) x;

@@ -122,8 +122,8 @@ leap-strides s ready whole d q =
 -- ---- one advance
 
 module _ (s : State) (ready : Ready s) (most : ℕ) where
-  abbrev plan-fits : Within s.run.plan
-  plan-fits = within s.run.plan ready.fit.plan
+  abbrev plan_fits : Within s.run.plan
+  plan_fits = within s.run.plan ready.fit.plan
 
   -- a message is overdue
   pub advance-late : (count : ℕ) → Waits s most 0 → 0 < most → Advances s most s count 16
@@ -150,15 +150,15 @@ module _ (s : State) (ready : Ready s) (most : ℕ) where
     below_end p c = omega (
       arith,
       rests.quiet p c,
-      next_small s.run.plan plan-fits (clock_of s.run p) (view_of s.run p) (ready.fit.clocks p c),
-      end-most s.run.plan plan-fits,
+      next_small s.run.plan plan_fits (clock_of s.run p) (view_of s.run p) (ready.fit.clocks p c),
+      end-most s.run.plan plan_fits,
     )
 
     leap-fits : Fits s.run quiet
     leap-fits =
         let q = some-correct s.run ready.fit in
         record {
-          processors = plan-fits.n_at_most;
+          processors = plan_fits.n_at_most;
           time = omega (arith, ready.time, below_end q.0 q.1);
           clocks = λ p c. omega (arith, below_end p c);
         }

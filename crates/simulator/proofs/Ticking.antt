@@ -41,14 +41,14 @@ module _ (s : State) where
   -- one processor more, in either pass
   module _ (long : s.run.plan.n ≤ length s.run.clocks) (k : ℕ) (low : k < s.run.plan.n) (x : Reaction)
       (arrives : Arrives s.run.plan s.run.faulty (seat s.run k) x) (goes_on : x.ends ≡ false) where
-    abbrev is-processor : x.processor ≡ (turn entry (advanced s).run s.tally k).processor
-    is-processor = same-processor s long k low x arrives goes_on
+    abbrev is_processor : x.processor ≡ (turn entry (advanced s).run s.tally k).processor
+    is_processor = same-processor s long k low x arrives goes_on
 
-    abbrev is-sent : messages_of k x.sends ≡ (turn entry (advanced s).run s.tally k).sent
-    is-sent = same_sent s long k low x arrives goes_on
+    abbrev is_sent : messages_of k x.sends ≡ (turn entry (advanced s).run s.tally k).sent
+    is_sent = same_sent s long k low x arrives goes_on
 
     pub sent-length : length (arrived_below s (k + 1)).sent ≡ length (arrived_below s k).sent + length (sent_by s.run.plan s.run.faulty k x.sends)
-    sent-length = entered.sent-length entry (advanced s).run s.tally k x is-processor is-sent
+    sent-length = entered.sent-length entry (advanced s).run s.tally k x is_processor is_sent
 
     pub next-turn : (next : Run) → next ≡ with_views (arrived_below s k).views (with_clocks (clocks_on s.run k) s.run)
         → with_views (set next.views k x.processor.view) (with_clocks (set next.clocks k x.processor.clock) next)
@@ -56,10 +56,10 @@ module _ (s : State) where
     next-turn next e =
         ap (λ (y : Run). with_views (set y.views k x.processor.view) (with_clocks (set y.clocks k x.processor.clock) y)) e
         ∙ ap₂ (λ (v c : List ℕ). with_views v (with_clocks c s.run))
-        (sym (entered.views-more entry (advanced s).run s.tally k x is-processor is-sent)) (sym (clocks-more s long k low x arrives goes_on))
+        (sym (entered.views-more entry (advanced s).run s.tally k x is_processor is_sent)) (sym (clocks-more s long k low x arrives goes_on))
 
     pub tally-turn : (t t' : List ℕ) → t ≡ (arrived_below s k).tally → t' ≡ entered_by t k x.sends → t' ≡ (arrived_below s (k + 1)).tally
-    tally-turn = entered.tally-turn entry (advanced s).run s.tally k x is-processor is-sent
+    tally-turn = entered.tally-turn entry (advanced s).run s.tally k x is_processor is_sent
 
     -- its messages have packed words, in a fit run of which no clock comes to the end
     pub arrival-packs : Fit s.run → Whole s.run → some (ends_at s.run) s.run.plan.n ≡ false
@@ -67,18 +67,18 @@ module _ (s : State) where
     arrival-packs fit whole on =
         let ok = planned-of s.run.plan s.run.faulty fit.plan fit.faulty in
         let a = arrived s ok whole.clocks whole.views (inside-fit s.run fit) (fails _ (tick-reaches s long ∙ on)) (k + 1) in
-        entered.entry-packs entry (advanced s).run s.tally k x is-processor is-sent
+        entered.entry-packs entry (advanced s).run s.tally k x is_processor is_sent
         (sends-pack (advanced s).run s.tally (arrived_below s (k + 1)) ok a.sends)
 
     module _ (before : List ℕ) (room : s.run.held + length (arrived_below s s.run.plan.n).sent ≤ capacity Packed before) (time held : ℕ) (ws : List ℕ)
         (posts : Posts (arrived_below s k).sent s.run.held time before held ws) where
       pub arrival-fits : held + length (sent_by s.run.plan s.run.faulty k x.sends) ≤ capacity Packed ws
-      arrival-fits = entered.entry-fits entry (advanced s).run s.tally k x is-processor is-sent s.run.plan.n s.run.held time held
+      arrival-fits = entered.entry-fits entry (advanced s).run s.tally k x is_processor is_sent s.run.plan.n s.run.held time held
           before ws low room posts
 
       pub posts-turn : (held' : ℕ) (ws' : List ℕ) → Posts (sent_by s.run.plan s.run.faulty k x.sends) held time ws held' ws'
           → Posts (arrived_below s (k + 1)).sent s.run.held time before held' ws'
-      posts-turn = entered.posts-turn entry (advanced s).run s.tally k x is-processor is-sent s.run.plan.n s.run.held time held
+      posts-turn = entered.posts-turn entry (advanced s).run s.tally k x is_processor is_sent s.run.plan.n s.run.held time held
           before ws low room posts
 
   -- who enters in a tick enters an initial view

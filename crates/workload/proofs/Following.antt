@@ -134,8 +134,8 @@ module _ (u : Setup) (before : State) (table : length u.clocks ≡ table_clocks)
   reached : T (accepted (opening u before).answer)
   reached = rw a tt
 
-  plan-fits : Planned u.plan u.faulty
-  plan-fits = planned u before (opened-so u before reached).0
+  plan_fits : Planned u.plan u.faulty
+  plan_fits = planned u before (opened-so u before reached).0
 
   setup-line : SetupLine (setup_form u) u
   setup-line =
@@ -159,7 +159,7 @@ module _ (u : Setup) (before : State) (table : length u.clocks ≡ table_clocks)
     opened_there =
         ap (λ (v : Reading). reply v x) (line-back (setup_form u) (inr (u, setup-line)))
         ∙ ap (λ (v : After). record { standing = leaving (x.opened || accepted v.answer) v.state; answer = v.answer })
-        (trimmed-opens u x.state (omega (arith, plan-fits.n_at_most, table)))
+        (trimmed-opens u x.state (omega (arith, plan_fits.n_at_most, table)))
         ∙ ap (λ (o : Bool). record { standing = leaving o (opening u x.state).state; answer = (opening u x.state).answer })
         (or-second x.opened (accepted (opening u x.state).answer) accepts_there)
 

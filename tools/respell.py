@@ -87,7 +87,7 @@ def named():
                 continue
             found.update(w for w in WORD.findall(re.sub(r"--.*", "", line)) if CAMEL.match(w))
     names = {w: snake(w) for w in found}
-    names.update({w: w.replace("-", "_") for w in fields() | functions() if "-" in w and not w.startswith("-")})
+    names.update({w: w.replace("-", "_") for w in set.union(*declared()) if "-" in w and not w.startswith("-")})
     return names | SPECIAL, kit
 
 
@@ -105,52 +105,33 @@ def turn(text, names, dotted):
     return WORD.sub(one, text)
 
 
-def fields():
-    """The fields with a dash of the records that this repository declares."""
-    found = set()
+def declared():
+    """The fields of the records that this repository declares; and its functions that unfold, with the constructors of its data."""
+    fields, functions = set(), set()
     for p in sources():
         if is_function(p):
             continue
-        inside = False
+        inside = None
         with open(p, encoding="utf-8") as f:
             for line in f:
-                if re.match(r"^\s*(pub\s+)?record\s", line):
-                    inside = True
-                elif inside and re.match(r"^\S", line) and line.strip():
-                    inside = False
-                if inside:
-                    m = re.match(r"^\s+(?:pub\s+)?([^\s(){}\[\]:,;.]+(?:\s+[^\s(){}\[\]:,;.]+)*)\s*:\s", line)
-                    if m:
-                        found.update(m.group(1).split())
-    return found
-
-
-def functions():
-    """The functions that unfold, and the constructors of data."""
-    found = set()
-    for p in sources():
-        if is_function(p):
-            continue
-        inside = False
-        with open(p, encoding="utf-8") as f:
-            for line in f:
+                block = re.match(r"^\s*(?:pub\s+)?(record|data)\s", line)
+                if block:
+                    inside = fields if block.group(1) == "record" else functions
+                elif re.match(r"^\S", line):
+                    inside = None
                 m = re.match(r"^\s*(?:pub\s+)?(?:abbrev|unfoldable)\s+(?:pub\s+)?([^\s(){}\[\]:,;.]+)", line)
                 if m:
-                    found.add(m.group(1))
-                if re.match(r"^\s*(pub\s+)?data\s", line):
-                    inside = True
-                elif re.match(r"^\S", line):
-                    inside = False
-                m = re.match(r"^\s+([^\s(){}\[\]:,;.]+)\s*:\s", line)
-                if inside and m:
-                    found.add(m.group(1))
-    return found
+                    functions.add(m.group(1))
+                m = re.match(r"^\s+(?:pub\s+)?([^\s(){}\[\]:,;.]+(?:\s+[^\s(){}\[\]:,;.]+)*)\s*:\s", line)
+                if m and inside is not None:
+                    inside.update(m.group(1).split())
+    return fields, functions
 
 
 def main(argv):
     names, kit = named()
-    dotted = fields()
-    unfolding = dotted | functions()
+    dotted, functions = declared()
+    unfolding = dotted | functions
     if argv == ["--list"]:
         known = set()
         for p in sources():

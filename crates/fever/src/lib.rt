@@ -20,13 +20,7 @@ use types::{Form, Plan};
 use words::Numbers;
 
 // A setup is opened.
-#[unsafe(no_mangle)]
-pub extern "C" fn fever_open(
-    setup: &[u64],
-    run: &mut [u64],
-    tally: &mut [u64],
-    network: &mut [u64],
-) -> u64
+pub fn fever_open(setup: &[u64], run: &mut [u64], tally: &mut [u64], network: &mut [u64]) -> u64
     ensures { OpensWords setup.now (lent_of run.old tally.old network.old) result
         (lent_of run.new tally.new network.new) }
 {
@@ -45,8 +39,7 @@ pub extern "C" fn fever_open(
 }
 
 // An event is applied.
-#[unsafe(no_mangle)]
-pub extern "C" fn fever_apply(
+pub fn fever_apply(
     run: &mut [u64],
     form: u64,
     kind: u64,
@@ -77,8 +70,7 @@ pub extern "C" fn fever_apply(
 }
 
 // Events are applied one after the other, and each one's words become its answer.
-#[unsafe(no_mangle)]
-pub extern "C" fn fever_apply_all(
+pub fn fever_apply_all(
     run: &mut [u64],
     tally: &mut [u64],
     network: &mut [u64],
@@ -102,8 +94,7 @@ pub extern "C" fn fever_apply_all(
 }
 
 // One processor takes an input.
-#[unsafe(no_mangle)]
-pub extern "C" fn fever_step(
+pub fn fever_step(
     n: u64,
     delta: u64,
     gamma: u64,
@@ -126,8 +117,7 @@ pub extern "C" fn fever_step(
 }
 
 // A line, without its newline, is read.
-#[unsafe(no_mangle)]
-pub extern "C" fn fever_read_line(line: &[u8], words: &mut [u64]) -> u64
+pub fn fever_read_line(line: &[u8], words: &mut [u64]) -> u64
     ensures { ReadsWords line.now words.old result words.new }
 {
     if words.len() < layout::READING_WORDS {
@@ -152,14 +142,7 @@ fn count_bytes(written: Written) -> u64
 }
 
 // The line of an event is written.
-#[unsafe(no_mangle)]
-pub extern "C" fn fever_write_event(
-    form: u64,
-    kind: u64,
-    view: u64,
-    processor: u64,
-    out: &mut [u8],
-) -> u64
+pub fn fever_write_event(form: u64, kind: u64, view: u64, processor: u64, out: &mut [u8]) -> u64
     ensures { WritesEvent (event_of form kind view processor) out.old result out.new }
 {
     let event = words::event_of(form, kind, view, processor);
@@ -167,8 +150,7 @@ pub extern "C" fn fever_write_event(
 }
 
 // The line of a setup is written.
-#[unsafe(no_mangle)]
-pub extern "C" fn fever_write_setup(setup: &[u64], out: &mut [u8]) -> u64
+pub fn fever_write_setup(setup: &[u64], out: &mut [u8]) -> u64
     ensures { WritesSetup setup.now out.old result out.new }
 {
     if setup.len() < layout::SETUP_WORDS {
@@ -178,8 +160,7 @@ pub extern "C" fn fever_write_setup(setup: &[u64], out: &mut [u8]) -> u64
 }
 
 // A load is made, from its opening on.
-#[unsafe(no_mangle)]
-pub extern "C" fn fever_generate(
+pub fn fever_generate(
     setup: &[u64],
     run: &mut [u64],
     tally: &mut [u64],
@@ -213,8 +194,7 @@ pub extern "C" fn fever_generate(
 }
 
 // A load goes on where it stands.
-#[unsafe(no_mangle)]
-pub extern "C" fn fever_generate_more(
+pub fn fever_generate_more(
     run: &mut [u64],
     tally: &mut [u64],
     network: &mut [u64],
@@ -247,13 +227,7 @@ pub extern "C" fn fever_generate_more(
 }
 
 // A run's traffic is told.
-#[unsafe(no_mangle)]
-pub extern "C" fn fever_traffic(
-    run: &[u64],
-    tally: &[u64],
-    network: &[u64],
-    report: &mut [u64],
-) -> u64
+pub fn fever_traffic(run: &[u64], tally: &[u64], network: &[u64], report: &mut [u64]) -> u64
     ensures { ReportsTraffic (lent_of run.now tally.now network.now) report.old result report.new }
 {
     if run.len() < layout::RUN_WORDS {
@@ -299,8 +273,7 @@ fn carry_words(
 }
 
 // A run held in four words a message is carried over to two.
-#[unsafe(no_mangle)]
-pub extern "C" fn fever_pack(run: &[u64], tally: &[u64], network: &[u64], target: &mut [u64]) -> u64
+pub fn fever_pack(run: &[u64], tally: &[u64], network: &[u64], target: &mut [u64]) -> u64
     ensures { CarriesWords Form.Wide Form.Packed (lent_of run.now tally.now network.now) target.old result
         target.new }
 {
@@ -308,13 +281,7 @@ pub extern "C" fn fever_pack(run: &[u64], tally: &[u64], network: &[u64], target
 }
 
 // And back.
-#[unsafe(no_mangle)]
-pub extern "C" fn fever_unpack(
-    run: &[u64],
-    tally: &[u64],
-    network: &[u64],
-    target: &mut [u64],
-) -> u64
+pub fn fever_unpack(run: &[u64], tally: &[u64], network: &[u64], target: &mut [u64]) -> u64
     ensures { CarriesWords Form.Packed Form.Wide (lent_of run.now tally.now network.now) target.old result
         target.new }
 {

@@ -36,10 +36,8 @@ pub enum Next {
 // The most bytes of a line, without its newline.
 const LINE_MOST: usize = 4800;
 
-// How many bytes stand before the first newline; all where there is none. Looked for in words, and singly in the remainder. Exported for the comparison and
-// the benchmark.
-#[unsafe(no_mangle)]
-pub extern "C" fn before_newline(bytes: &[u8]) -> usize
+// How many bytes stand before the first newline; all where there is none. Looked for in words, and singly in the remainder.
+pub fn before_newline(bytes: &[u8]) -> usize
     ensures { result ≡ before_newline bytes.now }
 {
     let mut i = search::words_before(bytes);

@@ -26,9 +26,8 @@ fn newlines_in(word: u64) -> u64
     !(carried | other | LOW_BITS)
 }
 
-// Whether one of the eight bytes of a word is a newline. Exported for the comparison.
-#[unsafe(no_mangle)]
-pub extern "C" fn has_newline(word: u64) -> bool
+// Whether one of the eight bytes of a word is a newline.
+pub fn has_newline(word: u64) -> bool
     ensures { result ≡ reported word }
 {
     newlines_in(word) != 0

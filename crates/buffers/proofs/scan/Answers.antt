@@ -6,7 +6,7 @@ use mathlib.Core.Path.{sym}
 use Rattle.buffers.proofs.scan.Goals as goal
 
 pub loop-i-init : goal.loop-i-init
-loop-i-init c = ((omega arith), first-none _)
+loop-i-init c = (omega arith, first-none _)
 
 pub returns-then-network-i : goal.returns-then-network-i
 returns-then-network-i c = sym (first-yes (begins_with c.args.network.now c.args.x) c.args.h c.loop-i.i c.loop-i.invariant.1 (eq-eqb _ _ c.if-network-i.true) c.loop-i-test.true)

@@ -5,7 +5,7 @@ use mathlib.Core.Path.{sym}
 use Rattle.checks.proofs.count_support.Goals as goal
 
 pub loop-q-init : goal.loop-q-init
-loop-q-init c = ((omega arith), sym (count-start (support_at c.args.setup.plan c.args.setup.faulty c.args.setup.clocks c.args.c)))
+loop-q-init c = (omega arith, sym (count-start (support_at c.args.setup.plan c.args.setup.faulty c.args.setup.clocks c.args.c)))
 
 pub overflow_add-k : goal.overflow_add-k
 overflow_add-k c = omega (arith, c.support-k.ensures.1, count-le c.loop-q.q (support_at c.args.setup.plan c.args.setup.faulty c.args.setup.clocks c.args.c))

@@ -13,7 +13,7 @@ use Rattle.simulator.proofs.Lasting.{lasts}
 use Rattle.simulator.proofs.apply_words.Goals as goal
 
 pub loop-i-init : goal.loop-i-init
-loop-i-init c = ((omega arith), refl, refl, refl, first-turn _ _, c.requires.0, c.requires.1)
+loop-i-init c = (omega arith, refl, refl, refl, first-turn _ _, c.requires.0, c.requires.1)
 
 pub loop-i-preserved : goal.loop-i-preserved
 loop-i-preserved c =

@@ -7,7 +7,7 @@ use Rattle.simulator.proofs.moves.broadcast.Goals as goal
 
 pub loop-q-init : goal.loop-q-init
 unfolding to_each to_correct
-loop-q-init c = ((omega arith), posts-none _ _ _, refl)
+loop-q-init c = (omega arith, posts-none _ _ _, refl)
 
 pub send-h-requires : goal.send-h-requires
 send-h-requires c = (c.requires.0, rw c.certificate_of.ensures (each_fits c.args.plan c.args.faulty c.args.stage c.args.w _ _ _ _ c.requires.1 _ _ _ c.loop-q.invariant.1 c.loop-q-test.true), rw c.certificate_of.ensures (certificate-packs c.args.plan c.args.faulty c.args.stage c.args.w c.loop-q.q c.requires.3 (omega (arith, c.loop-q-test.true, c.requires.2))))

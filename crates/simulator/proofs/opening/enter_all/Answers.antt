@@ -7,7 +7,7 @@ use Rattle.simulator.proofs.opening.enter_all.Goals as goal
 
 pub loop-q-init : goal.loop-q-init
 unfolding entries
-loop-q-init c = ((omega arith), refl, posts-none _ _ _, refl, refl)
+loop-q-init c = (omega arith, refl, posts-none _ _ _, refl, refl)
 
 pub enter-held-requires : goal.enter-held-requires
 enter-held-requires c = (c.requires.0, omega (arith, c.requires.1, c.loop-q-test.true), rw c.first_sends-sends.ensures (first_fits c.args.setup c.args.tally.now _ _ _ _ c.loop-q-test.true c.requires.2 c.loop-q.invariant.2), rw c.first_sends-sends.ensures (first-packs _ _ _ (omega (arith, c.requires.1, c.loop-q-test.true))))

@@ -17,7 +17,7 @@ use Rattle.simulator.proofs.ticks.arrive_all.Goals as goal
 
 pub loop-q-init : goal.loop-q-init
 unfolding entries clocks_on
-loop-q-init c = ((omega arith), refl, refl, posts-none _ _ _, refl, refl)
+loop-q-init c = (omega arith, refl, refl, posts-none _ _ _, refl, refl)
 
 pub arrive-x-requires : goal.arrive-x-requires
 arrive-x-requires c =

@@ -15,7 +15,7 @@ use Rattle.simulator.proofs.ticks.foretell.Goals as goal
 
 pub loop-q-init : goal.loop-q-init
 unfolding entries
-loop-q-init c = ((omega arith), λ t ws. refl, (omega arith))
+loop-q-init c = (omega arith, λ t ws. refl, (omega arith))
 
 pub overflow_add-sent : goal.overflow_add-sent
 overflow_add-sent c = omega (arith, c.loop-q.invariant.2, c.loop-q-test.true, (within c.args.head.plan c.requires.fit.plan).n_at_most, c.count_entry-sent.ensures, sent_few c.args.head.plan c.args.head.faulty c.loop-q.q c.arrive-x.result.sends)

@@ -14,7 +14,7 @@ pub loop-count-init : goal.loop-count-init
 loop-count-init c =
     let s : State = state_of (run_from c.args.head c.args.clocks.now c.args.views.now) c.args.tally.now c.args.network.now in
     let fit = fit_of s c.requires.1 in
-    ((omega arith), strides-none s fit (room_of s c.requires.1), refl, refl)
+    (omega arith, strides-none s fit (room_of s c.requires.1), refl, refl)
 
 pub advance-t-requires : goal.advance-t-requires
 advance-t-requires c = (strides-ready _ _ _ c.requires.1 c.loop-count.invariant.1, omega (arith, c.loop-count-test.true))

@@ -37,7 +37,7 @@ pub overflow_sub-last : goal.overflow_sub-last
 overflow_sub-last c = omega (arith, end-positive c.args.head.plan c.requires c.end_time-last.result c.end_time-last.ensures)
 
 pub loop-q-init : goal.loop-q-init
-loop-q-init c = ((omega arith), λ v. some-start (ends_at (run_from c.args.head c.args.clocks.now v)))
+loop-q-init c = (omega arith, λ v. some-start (ends_at (run_from c.args.head c.args.clocks.now v)))
 
 pub returns-then-correct : goal.returns-then-correct
 returns-then-correct c = λ v. sym (some-here (ends_at (run_from c.args.head c.args.clocks.now v)) _ c.loop-q.q c.loop-q-test.true (and_both _ _ (sym c.correct.ensures ∙ c.if-correct.true) (ends_next c.args.head.plan c.requires c.end_time-last.result c.end_time-last.ensures _ c.if-last-clocks.true)))

@@ -13,25 +13,19 @@ pub const BITS: u64 = 64;
 pub fn member(s: u64, p: u64) -> bool
     ensures { result ≡ member s p }
 {
-    if BITS <= p {
-        return false;
-    }
-    (s >> p) % 2 == 1
+    p < BITS && (s >> p) % 2 == 1
 }
 
 // s with p; a number that no set can hold is left out.
 pub fn insert(s: u64, p: u64) -> u64
     ensures { result ≡ insert_word s p }
 {
-    if BITS <= p {
-        return s;
-    }
-    s | (1u64 << p)
+    if p < BITS { s | (1u64 << p) } else { s }
 }
 
 // How many are in s.
 pub fn size(s: u64) -> u64
     ensures { result ≡ size s }
 {
-    u64::count_ones(s) as u64
+    u64::from(s.count_ones())
 }

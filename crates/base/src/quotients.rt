@@ -29,9 +29,10 @@ fn factors(d: u64) -> u64
     ensures { result ≡ factors_of d }
 {
     if d < SECOND {
-        return FIRST_FACTORS;
+        FIRST_FACTORS
+    } else {
+        SECOND_FACTORS
     }
-    SECOND_FACTORS
 }
 
 // The factor of d.
@@ -46,13 +47,7 @@ fn factor(d: u64) -> u64
 fn by_factor(a: u64, d: u64) -> bool
     ensures { result ≡ true → FactorTells a d }
 {
-    if NUMBERS <= a {
-        return false;
-    }
-    if d < DIVISOR_LEAST {
-        return false;
-    }
-    d <= DIVISOR_MOST
+    a < NUMBERS && (DIVISOR_LEAST..=DIVISOR_MOST).contains(&d)
 }
 
 // a divided by d, rounded down; by 0 it is 0.
@@ -60,10 +55,8 @@ pub fn quotient(a: u64, d: u64) -> u64
     ensures { result ≡ a / d }
 {
     if by_factor(a, d) {
-        return a * factor(d) / UNIT;
+        a * factor(d) / UNIT
+    } else {
+        a.checked_div(d).unwrap_or(0)
     }
-    if d == 0 {
-        return 0;
-    }
-    a / d
 }

@@ -1,5 +1,4 @@
 -- Why the functions of the two buffers meet their contracts.
-pub mod TallyWords
 pub mod NetworkWords
 pub mod PackedWords
 pub mod Firsts

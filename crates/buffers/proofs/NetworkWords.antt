@@ -1,20 +1,21 @@
 -- Words stored in a row, words that move down by a message's, and what both leave. Assumes nothing.
-use mathlib.Core.Path.{◌≡◌, refl, sym, ap, ap₂, ◌∙◌, subst}
+use mathlib.Core.Path.{◌≡◌, refl, sym, ap, ap₂, ◌∙◌}
 use mathlib.Core.List.{List, [], ◌∷◌, ◌++◌}
+use Rattle.std.proofs.Common.{append_assoc}
 use Prim.Native.Nat.{ℕ, suc, ◌+◌, ◌-◌, ◌*◌, ◌≤◌, ◌<◌}
 use native.Mathlib.Omega.{arith}
-use native.Mathlib.Nat.{mul-suc}
 use native.Mathlib.Numerals.{add-one}
-use lib.ListN.{length, get_or, take, drop, set, length-drop, get_or-eq_default}
-use lib.Seq.{take-add, drop_at, length-take-le, drop-drop, slice, paste, paste-suc, paste-zero, length_paste_head, get_or-append-add, get_or-drop, sets-eq, take-paste, drop-paste}
+use lib.ListN.{length, take, drop, set, replicate, length-drop, length-replicate}
+use lib.Seq.{take-add, drop_at, length-take-le, drop-drop, slice, paste, sets-eq, take-paste, drop-paste}
+use borrow.Rule.Slice.PartMut.{put_mid}
+use Rattle.std.specs.List.{copy_within}
+use Rattle.std.proofs.lemmas.List.Edits.{paste_all}
+use Rattle.std.proofs.lemmas.Slice.{put_mid-paste}
 use Rattle.types.specs.declared.Message.{Message}
-use Rattle.types.specs.declared.Form.{Form}
 use Rattle.types.specs.declared.Form.TheVariants.{Wide, Packed}
 use Rattle.types.specs.Quantities.{width}
 use Rattle.types.specs.Messages.{kind_of, view_in, processor_in}
-use Rattle.model.specs.State.{packed_word, held_at, posted, removed, capacity}
-use Rattle.model.specs.FormLaws.{words-of-room}
-use Rattle.buffers.specs.Network.{time_place, moved}
+use Rattle.model.specs.State.{packed_word, posted, removed}
 
 -- four stores in a row
 pub four : (ws : List ℕ) (a k v p t : ℕ) → a + width Wide ≤ length ws
@@ -44,53 +45,14 @@ posted-packed ws h m sent l =
     let e : width Packed * (h + 1) ≡ width Packed * h + width Packed = omega arith in
     rw e (two ws (width Packed * h) (packed_word (kind_of m) (view_in m) (processor_in m)) sent l)
 
--- beyond the last place that is whole there is no sending time
-pub sent-beyond : (form : Form) (ws : List ℕ) (i : ℕ) → capacity form ws ≤ i → 0 ≡ (held_at form ws i).sent
-sent-beyond Wide ws i l = sym (get_or-eq_default ws 0 (omega arith))
-sent-beyond Packed ws i l = sym (get_or-eq_default ws 0 (omega arith))
-
-pub sent-at : (form : Form) (ws : List ℕ) (i : ℕ) → get_or ws (time_place form i) 0 ≡ (held_at form ws i).sent
-sent-at Wide ws i = refl
-sent-at Packed ws i = refl
-
--- a place that is whole has room for its words
-pub place-whole : (form : Form) (ws : List ℕ) (i : ℕ) → i < capacity form ws → width form * i + width form ≤ length ws
-place-whole form ws i l = subst (λ (k : ℕ). k ≤ length ws) (mul-suc (width form) i) (words-of-room form (suc i) (length ws) (omega arith))
-
-pub time-inside : (form : Form) (i : ℕ) → time_place form i < width form * i + width form
-time-inside Wide i = omega arith
-time-inside Packed i = omega arith
-
-pub moved_none : (ws : List ℕ) (a : ℕ) → ws ≡ moved ws a 0
-unfolding moved
-moved_none ws a = paste-zero ws a (drop (a + width Packed) ws)
-
--- a turn of the loop that moves words down
-pub moved_more : (ws : List ℕ) (a k : ℕ) → a + k + width Packed < length ws
-    → set (moved ws a k) (a + k) (get_or (moved ws a k) (a + k + width Packed) 0) ≡ moved ws a (k + 1)
-unfolding moved
-moved_more ws a k h =
-    let s : List ℕ = drop (a + width Packed) ws in
-    let l : length s ≡ length ws - (a + width Packed) = length-drop (a + width Packed) ws in
-    let n : length (take a ws ++ take k s) ≡ a + k = length_paste_head ws a s k (omega arith) (omega arith) in
-    let g : get_or (paste ws a s k) (a + k + width Packed) 0 ≡ get_or s k 0 =
-    ap (λ (x : ℕ). get_or (paste ws a s k) (x + width Packed) 0) (sym n)
-    ∙ get_or-append-add (take a ws ++ take k s) (drop (a + k) ws) (width Packed) 0
-    ∙ get_or-drop (a + k) ws (width Packed) 0
-    ∙ ap (λ (x : ℕ). get_or ws x 0) (omega arith) ∙ sym (get_or-drop (a + width Packed) ws k 0) in
-    ap (λ (x : ℕ). set (paste ws a s k) (a + k) x) g
-    ∙ paste-suc ws a s k 0 (omega arith) (omega arith)
-    ∙ ap (λ (x : ℕ). paste ws a s x) (sym (add-one k))
-
 -- a part in the middle, the other way round
 slice-take : (m n : ℕ) (l : List ℕ) → m ≤ length l → slice m (m + n) l ≡ take n (drop m l)
 slice-take m n l h = ap (drop m) (take-add m n l) ∙ drop_at (take m l) (take n (drop m l)) m (length-take-le m l h)
 
--- what moving down to place a and clearing the place behind leave, e being the end of what is held
+-- what moving n words down to place a and clearing the two places behind them leave, e being the end of what is held
 closed : (ws : List ℕ) (a n e : ℕ) → a + width Packed + n ≡ e → e ≤ length ws
-    → take (a + n) (moved ws a n) ++ (0 ∷ 0 ∷ []) ++ drop (a + n + width Packed) (moved ws a n)
+    → take (a + n) (paste ws a (drop (a + width Packed) ws) n) ++ (0 ∷ 0 ∷ []) ++ drop (a + n + width Packed) (paste ws a (drop (a + width Packed) ws) n)
     ≡ take a ws ++ slice (a + width Packed) e ws ++ (0 ∷ 0 ∷ []) ++ drop e ws
-unfolding moved
 closed ws a n e q m =
     let s : List ℕ = drop (a + width Packed) ws in
     let d : length s ≡ length ws - (a + width Packed) = length-drop (a + width Packed) ws in
@@ -104,12 +66,18 @@ closed ws a n e q m =
     ∙ drop-drop (width Packed) (a + n) ws ∙ ap (λ (x : ℕ). drop x ws) z in
     ap₂ (λ (x y : List ℕ). x ++ (0 ∷ 0 ∷ []) ++ y) t u
 
-pub moved-cleared : (ws : List ℕ) (h i : ℕ) → i < h → width Packed * h ≤ length ws
-    → take (width Packed * i + width Packed * (h - i - 1)) (moved ws (width Packed * i) (width Packed * (h - i - 1)))
-    ++ (0 ∷ 0 ∷ [])
-    ++ drop (width Packed * i + width Packed * (h - i - 1) + width Packed) (moved ws (width Packed * i) (width Packed * (h - i - 1)))
-    ≡ removed Packed ws h i
+-- up: the words behind message i moved down over it; zs: the part of two words behind them, cleared
+pub closed_up : (ws up zs : List ℕ) (h i k : ℕ) → i < h → width Packed * h ≤ length ws
+    → up ≡ copy_within ws (width Packed * i + width Packed) (width Packed * h) (width Packed * i) → k ≡ width Packed → zs ≡ replicate k 0
+    → put_mid (width Packed * h - width Packed) k up zs ≡ removed Packed ws h i
 unfolding removed
-moved-cleared ws h i l k =
+closed_up ws up zs h i k l m x y z =
+    let n : ℕ = width Packed * h - (width Packed * i + width Packed) in
+    let last : ℕ = width Packed * h - width Packed in
+    let b : width Packed * h - width Packed ≡ width Packed * i + n = omega arith in
     let e : width Packed * (i + 1) ≡ width Packed * i + width Packed = omega arith in
-    rw e (closed ws (width Packed * i) (width Packed * (h - i - 1)) (width Packed * h) (omega arith) k)
+    let r : k ≡ length (replicate {A = ℕ} k 0) = sym (length-replicate {A = ℕ} k 0) in
+    put_mid-paste last k up zs (replicate k 0) k z refl r
+    ∙ paste_all up last (replicate k 0) k r
+    ∙ sym (append_assoc (take last up) (replicate k 0) (drop (last + k) up))
+    ∙ rw (y, x, b, e) (closed ws (width Packed * i) n (width Packed * h) (omega arith) m)

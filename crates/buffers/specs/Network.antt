@@ -1,13 +1,12 @@
 -- The network as it is written, for every number of messages held and every place.
-use Rattle.std.specs.Prelude.{◌≡◌, refl, Bool, true, cond, ◌&&◌, List, [], ◌∷◌, ℕ, ◌+◌, ◌*◌, ◌^◌, ◌≤◌, ◌<◌, eqb, leb, ltb, get_or, drop}
+use Rattle.std.specs.Prelude.{◌≡◌, refl, Bool, true, cond, ◌&&◌, List, [], ◌∷◌, ℕ, ◌+◌, ◌*◌, ◌^◌, ◌≤◌, ◌<◌, eqb, leb, ltb, get_or}
 use Rattle.std.proofs.Common.{sym, lt-ltb, le-leb}
-use Rattle.std.proofs.Math.Seq.{paste}
 use Rattle.base.specs.Choice.{cond_yes, and_both}
 use Rattle.base.specs.Scan.{first}
 use Rattle.types.specs.declared.Message.{Message}
 use Rattle.types.specs.declared.Form.{Form}
 use Rattle.types.specs.declared.Form.TheVariants.{Wide, Packed}
-use Rattle.types.specs.Quantities.{n_most, width}
+use Rattle.types.specs.Quantities.{n_most}
 use Rattle.types.specs.Messages.{view_in, processor_in}
 use Rattle.model.specs.State.{capacity, posted, removed}
 use Rattle.model.specs.Checks.{is_at}
@@ -58,7 +57,3 @@ begins_with ws x i = eqb (get_or ws (2 * i) 0) x
 abbrev pub time_place : Form → ℕ → ℕ
 time_place Wide i = 4 * i + 3
 time_place Packed i = 2 * i + 1
-
--- n words moved down by a message's words, to place a: the messages behind it close up
-unfoldable pub moved : List ℕ → ℕ → ℕ → List ℕ
-moved ws a n = paste ws a (drop (a + width Packed) ws) n

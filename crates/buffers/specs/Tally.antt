@@ -2,11 +2,7 @@
 use Rattle.std.specs.Prelude.{◌≡◌, refl, cond, List, ℕ, ◌<◌, ltb}
 use Rattle.std.proofs.Common.{sym, lt-ltb}
 use Rattle.base.specs.Choice.{cond_yes}
-use Rattle.model.specs.State.{slot, added}
-
--- where word j of view w stands in a tally of so many words; beyond its end that is the end
-abbrev pub place : ℕ → ℕ → ℕ → ℕ
-place len w j = cond (ltb (slot w j) len) (slot w j) len
+use Rattle.model.specs.State.{added}
 
 -- word j of view w with bit p set, where a word of 64 bits has that bit
 abbrev pub added_word : List ℕ → ℕ → ℕ → ℕ → List ℕ

@@ -1,4 +1,6 @@
 -- The messages of a sound run, laid down one behind the other in a target of zeros. Assumes nothing.
+use Rattle.std.proofs.Common.{Ok, Err}
+use Rattle.std.specs.Prelude.{None, Option, Some}
 use mathlib.Core.Path.{◌≡◌, refl, sym, ap, ◌∙◌, subst}
 use mathlib.Core.Bool.{true, false}
 use mathlib.Core.List.{List, [], ◌∷◌, ◌++◌, append-nil}
@@ -17,8 +19,6 @@ use Rattle.types.specs.Quantities.{width}
 use Rattle.model.specs.State.{State, held_as, held_words, held_in, room_in, capacity, posted}
 use Rattle.model.specs.Checks.{network_outside, unsound}
 use Rattle.model.specs.Carrying.{target_outside, laid_out, carried_words, carried_over}
-use Rattle.buffers.specs.declared.Stored.{Stored}
-use Rattle.buffers.specs.declared.Stored.TheVariants.{Holds, Unknown}
 use Rattle.buffers.specs.Kinds.{stored}
 use Rattle.buffers.specs.KindLaws.{kind-inside, stored-holds, stored-unknown}
 use Rattle.buffers.specs.Network.{is-sayable, appended-fits}
@@ -83,15 +83,15 @@ module _ (to : Form) (s : State) where
           let e : length (so_far k (left k)) ≡ n = length_so_far k (left k) ∙ omega (arith, inside) in
           subst (λ (x : ℕ). k < x / width to) (sym e) (omega (arith, room))
 
-      one : (x : Stored) → stored s.form s.network k ≡ x → laid_behind to (so_far k (left k)) k (held_in s k).sent x ≡ so_far (suc k) (left (suc k))
-      one (Holds m) e =
+      one : (x : Option Message) → stored s.form s.network k ≡ x → laid_behind to (so_far k (left k)) k (held_in s k).sent x ≡ so_far (suc k) (left (suc k))
+      one (Some m) e =
           let h : held_in s k ≡ held_as (held_in s k).sent m = stored-holds s.form s.network k m e in
           let t : Taken s.run (held_as (held_in s k).sent m) = subst (Taken s.run) h taken in
           appended-fits to (so_far k (left k)) k (held_in s k).sent m fits
           (is-sayable to m (omega (arith, t.view, planned.views_at_most)) (omega (arith, t.processor, planned.n_at_most)))
           ∙ ap (λ (z : ℕ). posted to (so_far k z) k (held_in s k).sent (m ∷ [])) apart
           ∙ posted-next k (left (suc k)) (held_in s k).sent m h
-      one Unknown e = absurd (no-yes (sym (stored-unknown s.form s.network k (omega (arith, here)) e) ∙ kind-inside (held_in s k).kind taken.kind))
+      one None e = absurd (no-yes (sym (stored-unknown s.form s.network k (omega (arith, here)) e) ∙ kind-inside (held_in s k).kind taken.kind))
 
     all : (k : ℕ) → k ≤ s.run.held → carried_first s.form to s.network (replicate n 0) k ≡ so_far k (left k)
     all zero low = let e : n ≡ left 0 = omega arith in ap (λ (z : ℕ). replicate z 0) e
@@ -101,16 +101,16 @@ module _ (to : Form) (s : State) where
 -- ---- by the answer
 
 module _ (to : Form) (s : State) (target : List ℕ) where
-  pub six : target_outside to s.run.plan s.run.held (length target) ≡ true → Carries to s target 6 target
+  pub six : target_outside to s.run.plan s.run.held (length target) ≡ true → Carries to s target (Err 6) target
   unfolding carried_over
   six e = rw e (refl, refl)
 
-  pub nine : target_outside to s.run.plan s.run.held (length target) ≡ false → unsound s ≡ true → Carries to s target 9 target
+  pub nine : target_outside to s.run.plan s.run.held (length target) ≡ false → unsound s ≡ true → Carries to s target (Err 9) target
   unfolding carried_over
   nine e q = rw (e, q) (refl, refl)
 
   pub carried : target_outside to s.run.plan s.run.held (length target) ≡ false → unsound s ≡ false → (zeros after : List ℕ) → zeros ≡ zeroed target (length target)
-      → after ≡ carried_first s.form to s.network zeros s.run.held → Carries to s target 0 after
+      → after ≡ carried_first s.form to s.network zeros s.run.held → Carries to s target (Ok tt) after
   unfolding carried_over
   carried e q zeros after z a = rw (e, q) (refl, words)
     where

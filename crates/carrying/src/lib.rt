@@ -6,31 +6,26 @@ ghost use Rattle.model.specs.State.{state_in, run_from};
 ghost use Rattle.model.specs.Carrying.{target_outside};
 ghost use Rattle.carrying.specs.Carries.{carried_one, carried_first, Carries};
 
-use buffers::Stored;
 use types::{Form, Head};
 
-// The checks that refuse a target and an unsound run, and what stands in their place where there is none.
+// The checks that refuse a target and an unsound run.
 const TARGET_OUTSIDE: u64 = 6;
 
 const UNSOUND: u64 = 9;
-
-const NO_CHECK: u64 = 0;
 
 // Whether check 6 refuses the target, or the held messages do not fit in it.
 pub fn target_outside(to: Form, head: Head, target: &[u64]) -> bool
     ensures { result ≡ target_outside to head.plan head.held (length target.now) }
 {
-    if checks::network_outside(to, head.plan, target.len()) {
-        return true;
-    }
-    buffers::capacity(to, target) < head.held
+    checks::network_outside(to, head.plan, target.len())
+        || buffers::capacity(to, target) < head.held
 }
 
 // Message i goes behind the first i of the target; words that are no message do not.
 fn carry_one(from: Form, to: Form, network: &[u64], target: &mut [u64], i: usize)
     ensures { target.new ≡ carried_one from to network.now target.old i }
 {
-    let Stored::Holds(message) = buffers::decode(from, network, i) else {
+    let Some(message) = buffers::decode(from, network, i) else {
         return;
     };
     buffers::append(to, target, i, message, buffers::sent(from, network, i));
@@ -40,14 +35,12 @@ fn carry_one(from: Form, to: Form, network: &[u64], target: &mut [u64], i: usize
 fn carry_all(from: Form, to: Form, held: usize, network: &[u64], target: &mut [u64])
     ensures { target.new ≡ carried_first from to network.now target.old held }
 {
-    let mut i = 0;
-    while i < held {
+    for i in 0..held {
         carry_one(from, to, network, target, i);
-        i += 1;
     }
 }
 
-// A run carried over from one network to another, which is then 0 behind the messages: 0, or check 6 of the target or 9 of the run, and then nothing
+// A run carried over from one network to another, which is then 0 behind the messages. Where check 6 of the target or 9 of the run refuses it, nothing
 // is written.
 pub fn carry(
     from: Form,
@@ -58,17 +51,17 @@ pub fn carry(
     tally: &[u64],
     network: &[u64],
     target: &mut [u64],
-) -> u64
+) -> Result<(), u64>
     ensures { Carries to (state_in from (run_from head clocks.now views.now) tally.now network.now)
         target.old result target.new }
 {
     if target_outside(to, head, target) {
-        return TARGET_OUTSIDE;
+        return Err(TARGET_OUTSIDE);
     }
     if checks::unsound(from, head, clocks, views, tally, network) {
-        return UNSOUND;
+        return Err(UNSOUND);
     }
     buffers::zero_words(target, target.len());
     carry_all(from, to, head.held, network, target);
-    NO_CHECK
+    Ok(())
 }

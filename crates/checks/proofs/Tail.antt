@@ -1,6 +1,7 @@
 -- The words beyond the last message, looked at one by one or eight by eight. Assumes nothing.
 use mathlib.Core.Path.{◌≡◌, refl, sym, ap, ap₂, ◌∙◌}
 use mathlib.Core.Bool.{Bool, true, false, not, ◌||◌}
+use Rattle.std.proofs.Math.Bool.{or_assoc}
 use mathlib.Core.List.{List, [], ◌∷◌, ◌++◌}
 use Prim.Native.Nat.{ℕ, zero, suc, ◌+◌, ◌≤◌, ◌<◌}
 use native.Mathlib.Omega.{arith}
@@ -24,10 +25,6 @@ union-of (suc a) b =
     not-no _ (ne_eqb (bit_or (suc a) b) 0 (λ e. absurd (omega (arith, (union-zero (suc a) b e).0))))
     ∙ sym (or-first _ (not (eqb b 0)) (not-no _ (ne_eqb (suc a) 0 (λ e. absurd (omega arith)))))
 
-or-shift : (a b c : Bool) → ((a || b) || c) ≡ (a || (b || c))
-or-shift true b c = refl
-or-shift false b c = refl
-
 or_nothing : (a b : Bool) → b ≡ false → (a || b) ≡ a
 or_nothing true b e = refl
 or_nothing false b e = e
@@ -42,7 +39,7 @@ pub found-more : (seen i : ℕ) (ws : List ℕ) → i < length ws → non_zero_f
 found-more seen i ws l =
     ap (λ (k : ℕ). non_zero_from (bit_or seen (get_or ws i 0)) k ws) (add-one i)
     ∙ ap (λ (b : Bool). b || some_non_zero (drop (suc i) ws)) (union-of seen (get_or ws i 0))
-    ∙ or-shift (not (eqb seen 0)) (not (eqb (get_or ws i 0) 0)) (some_non_zero (drop (suc i) ws))
+    ∙ or_assoc (not (eqb seen 0)) (not (eqb (get_or ws i 0) 0)) (some_non_zero (drop (suc i) ws))
     ∙ ap (λ (b : Bool). not (eqb seen 0) || b) (sym (next i ws l))
 
 or-mixed : (a b c d : Bool) → ((a || b) || (c || d)) ≡ ((a || c) || (b || d))
@@ -63,7 +60,7 @@ merged [] ys = []
 
 some-append : (xs ys : List ℕ) → some_non_zero (xs ++ ys) ≡ (some_non_zero xs || some_non_zero ys)
 some-append [] ys = refl
-some-append (x ∷ xs) ys = ap (λ (b : Bool). not (eqb x 0) || b) (some-append xs ys) ∙ sym (or-shift (not (eqb x 0)) (some_non_zero xs) (some_non_zero ys))
+some-append (x ∷ xs) ys = ap (λ (b : Bool). not (eqb x 0) || b) (some-append xs ys) ∙ sym (or_assoc (not (eqb x 0)) (some_non_zero xs) (some_non_zero ys))
 
 some-merged : (xs ys : List ℕ) → length xs ≡ length ys → some_non_zero (merged xs ys) ≡ (some_non_zero xs || some_non_zero ys)
 some-merged [] [] e = refl
@@ -75,7 +72,7 @@ some-merged (x ∷ xs) (y ∷ ys) e =
 
 -- a word, with what is found behind it
 next-found : (i : ℕ) (ws : List ℕ) → i < length ws → ((not (eqb (get_or ws i 0) 0) || false) || some_non_zero (drop (suc i) ws)) ≡ some_non_zero (drop i ws)
-next-found i ws l = or-shift (not (eqb (get_or ws i 0) 0)) false (some_non_zero (drop (suc i) ws)) ∙ sym (next i ws l)
+next-found i ws l = or_assoc (not (eqb (get_or ws i 0) 0)) false (some_non_zero (drop (suc i) ws)) ∙ sym (next i ws l)
 
 turn-found : (i : ℕ) (ws : List ℕ) (k : ℕ) → i + k < length ws → (some_non_zero (turn i ws k) || some_non_zero (drop (i + suc k) ws)) ≡ some_non_zero (drop i ws)
 turn-found i ws zero l = ap (λ (j : ℕ). some_non_zero (turn i ws zero) || some_non_zero (drop j ws)) (add-one i) ∙ next-found i ws (omega arith)
@@ -83,7 +80,7 @@ turn-found i ws (suc k) l =
     let e : i + suc (suc k) ≡ suc (i + suc k) = omega arith in
     let w : List ℕ = get_or ws (i + suc k) 0 ∷ [] in
     ap₂ (λ (b : Bool) (j : ℕ). b || some_non_zero (drop j ws)) (some-append (turn i ws k) w) e
-    ∙ or-shift (some_non_zero (turn i ws k)) (some_non_zero w) (some_non_zero (drop (suc (i + suc k)) ws))
+    ∙ or_assoc (some_non_zero (turn i ws k)) (some_non_zero w) (some_non_zero (drop (suc (i + suc k)) ws))
     ∙ ap (λ (b : Bool). some_non_zero (turn i ws k) || b) (next-found (i + suc k) ws l)
     ∙ turn-found i ws k (omega arith)
 
@@ -91,7 +88,7 @@ turn-found i ws (suc k) l =
 pub found_turn : (xs : List ℕ) (i : ℕ) (ws : List ℕ) (k : ℕ) → length xs ≡ length (turn i ws k) → i + k < length ws → (some_non_zero (merged xs (turn i ws k)) || some_non_zero (drop (i + suc k) ws)) ≡ (some_non_zero xs || some_non_zero (drop i ws))
 found_turn xs i ws k e l =
     ap (λ (b : Bool). b || some_non_zero (drop (i + suc k) ws)) (some-merged xs (turn i ws k) e)
-    ∙ or-shift (some_non_zero xs) (some_non_zero (turn i ws k)) (some_non_zero (drop (i + suc k) ws))
+    ∙ or_assoc (some_non_zero xs) (some_non_zero (turn i ws k)) (some_non_zero (drop (i + suc k) ws))
     ∙ ap (λ (b : Bool). some_non_zero xs || b) (turn-found i ws k l)
 
 -- all words of a list united
@@ -101,7 +98,7 @@ united x (y ∷ ys) = united (bit_or x y) ys
 
 pub found-united : (x : ℕ) (ys : List ℕ) → not (eqb (united x ys) 0) ≡ some_non_zero (x ∷ ys)
 found-united x [] = sym (or_nothing (not (eqb x 0)) false refl)
-found-united x (y ∷ ys) = found-united (bit_or x y) ys ∙ ap (λ (b : Bool). b || some_non_zero ys) (union-of x y) ∙ or-shift (not (eqb x 0)) (not (eqb y 0)) (some_non_zero ys)
+found-united x (y ∷ ys) = found-united (bit_or x y) ys ∙ ap (λ (b : Bool). b || some_non_zero ys) (union-of x y) ∙ or_assoc (not (eqb x 0)) (not (eqb y 0)) (some_non_zero ys)
 
 pub none : (i : ℕ) (ws : List ℕ) → length ws ≤ i → some_non_zero (drop i ws) ≡ false
 none zero [] l = refl

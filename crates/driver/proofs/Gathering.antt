@@ -1,6 +1,5 @@
 -- Lines gathered as words, one after the other. Assumes nothing.
 use mathlib.Core.Path.{◌≡◌, refl, sym, ap, ap₂, ◌∙◌}
-use mathlib.Core.Logic.{◌≢◌}
 use mathlib.Core.List.{List, [], ◌∷◌, ◌++◌, append_assoc, append-nil}
 use Prim.Native.Nat.{ℕ, ◌+◌, ◌-◌, ◌≤◌, ◌<◌}
 use native.Mathlib.Omega.{arith}
@@ -46,6 +45,7 @@ pub noted : (s : List ℕ) (n : Next) (e : ℕ) (r : Read) (k : Numbers) → n �
     → (r ≡ Read.Opening → ⊥) → k ≡ read_numbers r → Notes s (record { used = e + 1; numbers = k })
 noted s n e r k q p z o h =
     record {
+      some = omega arith;
       within = omega (arith, line-inside s n e q p);
       read = r;
       plain = plain-read r o;
@@ -93,11 +93,11 @@ gathers-none s most batch = record {
 }
 
 pub gathers-more : (s : List ℕ) (most count used : ℕ) (batch : List ℕ) (n : Noted) → Gathers s most count used batch → count < most → most ≤ events_in batch
-    → (n.used ≢ 0 → Notes (mid_of used (length s - used) s) n) → n.used ≢ 0 → Gathers s most (count + 1) (used + n.used) (numbers_put batch count n.numbers)
-gathers-more s most count used batch n g l room q some = record {
+    → Notes (mid_of used (length s - used) s) n → Gathers s most (count + 1) (used + n.used) (numbers_put batch count n.numbers)
+gathers-more s most count used batch n g l room a = record {
   within = omega (arith, a.within, left_over used s, g.within);
   few = omega arith;
-  each = omega (arith, g.each);
+  each = omega (arith, g.each, a.some);
   reads = rs ++ (a.read ∷ []);
   many = length-append rs (a.read ∷ []) ∙ ap (λ (k : ℕ). k + 1) g.many;
   plain = plain_more rs a.read g.plain a.plain;
@@ -108,9 +108,6 @@ gathers-more s most count used batch n g l room q some = record {
   feeds = λ x. further x;
 }
   where
-    a : Notes (mid_of used (length s - used) s) n
-    a = q some
-
     rs : List Read
     rs = g.reads
 

@@ -1,4 +1,5 @@
 -- Texts printed into lent bytes. Assumes nothing.
+use Rattle.std.specs.Prelude.{Err, Ok}
 use mathlib.Core.Path.{◌≡◌, refl, sym, ap, ◌∙◌, subst}
 use mathlib.Core.Bool.{Bool, true, false, ◌||◌, cond}
 use Prim.Native.Nat.{ℕ, ◌+◌, ◌-◌, ◌*◌, ◌≤◌, ◌<◌}
@@ -14,7 +15,6 @@ use Rattle.types.specs.declared.Answer.{Answer}
 use Rattle.types.specs.declared.Run.{Run}
 use Rattle.types.specs.Quantities.{table_clocks}
 use Rattle.model.specs.State.{State, with_run, is_correct, view_of, clock_of}
-use Rattle.lines.specs.declared.Written.TheVariants.{Bytes, Refused}
 use Rattle.lines.specs.Clauses.{line, Put}
 use Rattle.lines.specs.Printout.{answer_form, processor_form, printed_most}
 use Rattle.lines.specs.Splitting.{remainder}
@@ -110,12 +110,12 @@ closing-text s x begun false (c ∷ rest) b = let l : 0 < length (c ∷ rest) = 
 
 -- ---- one line
 
-pub line-few : (s : List ℕ) (x : Standing) (out : List ℕ) → length out < printed_most → AnswersLine s x out x (Refused 1) out
+pub line-few : (s : List ℕ) (x : Standing) (out : List ℕ) → length out < printed_most → AnswersLine s x out x (Err 1) out
 line-few s x out h = (cond_yes _ _ _ _ (lt-ltb _ _ h) refl, too_few printed_most (printed_line (line_reply s x)) out h)
 
 pub line-answered : (s : List ℕ) (x : Standing) (out tally network : List ℕ) (r : Served) (after : List ℕ) → printed_most ≤ length out
     → Passes (length s + 1) (replying (line_reply s x)) out tally network r after
-    → AnswersLine s x out (standing_of r.session tally network) (Bytes r.printed) after
+    → AnswersLine s x out (standing_of r.session tally network) (Ok r.printed) after
 line-answered s x out tally network r after h p =
     (cond_no _ _ _ _ (le-ltb _ _ h) p.state, put-prints printed_most (printed_line (line_reply s x)) out r.printed after h p.put)
 
@@ -147,12 +147,12 @@ pub closing-fits : (t : Bool) (out : List ℕ) (k : ℕ) (e words : List ℕ) (m
 closing-fits t out k e words m f p h l q n =
     omega (arith, left-inside t out k e p h l, left_over k e, put-inside words (mid_of k (length e - k) e) m f q n)
 
-pub closes-few : (s : Session) (late : Bool) (rest out : List ℕ) → length out < closing_most → Closes s late rest out (Refused 1) out
+pub closes-few : (s : Session) (late : Bool) (rest out : List ℕ) → length out < closing_most → Closes s late rest out (Err 1) out
 closes-few s late rest out h x begun b = too_few closing_most (printed_from (leaving s.opened (with_run s.run x)) (remainder (begun ++ rest))) out h
 
 pub closes : (s : Session) (late : Bool) (rest out : List ℕ) (k : ℕ) (e : List ℕ) (m : ℕ) (f : List ℕ) → closing_most ≤ length out
     → Put (left_text (late || ltb 0 (length rest))) out k e → k ≤ length e → Put (closing s) (mid_of k (length e - k) e) m f
-    → Closes s late rest out (Bytes (k + m)) (put_mid k (length e - k) e f)
+    → Closes s late rest out (Ok (k + m)) (put_mid k (length e - k) e f)
 closes s late rest out k e m f h p l q x begun b =
     put-prints closing_most (printed_from (leaving s.opened (with_run s.run x)) (remainder (begun ++ rest))) out (k + m) (put_mid k (length e - k) e f) h
     (subst (λ (w : List ℕ). Put w out (k + m) (put_mid k (length e - k) e f)) (sym (closing-text s x begun late rest b)) (put-part p l q))

@@ -1,5 +1,5 @@
 -- Lines in a batch: read as words, applied as words, printed from the words.
-use Rattle.std.specs.Prelude.{◌≡◌, Bool, cond, List, [], ◌∷◌, ◌++◌, ℕ, zero, suc, ◌+◌, ◌*◌, ◌≤◌, length, get_or, take, eqb}
+use Rattle.std.specs.Prelude.{◌≡◌, Bool, cond, List, [], ◌∷◌, ◌++◌, ℕ, zero, suc, ◌+◌, ◌*◌, ◌≤◌, ◌<◌, length, get_or, take, eqb}
 use Rattle.types.specs.declared.Answer.{Answer}
 use Rattle.types.specs.declared.Answer.TheVariants.{Refused}
 use Rattle.model.specs.State.{State}
@@ -49,6 +49,7 @@ replied (r ∷ rs) x = let y = read_reply r no_setup x in behind (printed_line y
 
 -- that the first line of the bytes, with its newline, is so many of them and has such numbers: they are those of what it is read as, which is no opening
 pub record Notes (s : List ℕ) (n : Noted) : Type 0 where
+  pub some : 0 < n.used
   pub within : n.used ≤ length s
   pub read : Read
   pub plain : NoOpening (read ∷ [])

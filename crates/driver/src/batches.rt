@@ -1,5 +1,5 @@
-// Lines in a batch: read as words, applied as words, printed from the words.
-ghost use Rattle.std.specs.Prelude.{◌≡◌, ◌≢◌, false, ◌*◌, ◌≤◌, ◌<◌, length};
+// Lines in a batch: read as words, applied as words, printed from the words. The simulator takes its events as words, since C lends them so; a form is then a number.
+ghost use Rattle.std.specs.Prelude.{◌≡◌, false, ◌*◌, ◌≤◌, ◌<◌, length, IfSome};
 ghost use Rattle.model.specs.State.{state_of, run_from};
 ghost use Rattle.lines.specs.Printout.{printed_most};
 ghost use Rattle.lines.specs.Clauses.{Put};
@@ -30,31 +30,21 @@ pub(crate) fn numbers_read(read: Read) -> Numbers
     words::numbers_of(event)
 }
 
-// No line that a batch may have.
-fn no_note() -> Noted
-    ensures { result.used ≡ 0 }
-{
-    Noted {
-        used: 0,
-        numbers: words::bare(0, 0),
-    }
-}
-
 // The next line; none where it does not end, is too long or may be an opening.
-fn note_line(rest: &[u8]) -> Noted
-    ensures { result.used ≢ 0 → Notes rest.now result }
+fn note_line(rest: &[u8]) -> Option<Noted>
+    ensures { IfSome result (Notes rest.now) }
 {
     let Next::Line(end) = lines::next_line(rest) else {
-        return no_note();
+        return None;
     };
     let read = reader::skim_line(&rest[..end]);
     if let Read::Opening = read {
-        return no_note();
+        return None;
     }
-    Noted {
+    Some(Noted {
         used: end + 1,
         numbers: numbers_read(read),
-    }
+    })
 }
 
 // The most lines whose answers have room; none where bytes of a line that is too long were passed over.
@@ -62,13 +52,10 @@ pub(crate) fn most_lines(late: bool, room: usize) -> usize
     ensures { (result ≤ lines_most) × (result * printed_most ≤ room) × (0 < result → late ≡ false) }
 {
     if late {
-        return 0;
+        0
+    } else {
+        LINES_MOST.min(room / PRINTED_MOST)
     }
-    let most = room / PRINTED_MOST;
-    if most < LINES_MOST {
-        return most;
-    }
-    LINES_MOST
 }
 
 // The lines at hand, up to an opening, a line that is too long, or one that does not end.
@@ -76,24 +63,15 @@ pub(crate) fn read_batch(rest: &[u8], most: usize, batch: &mut [u64]) -> Gathere
     requires { most ≤ events_in batch.old }
     ensures { Gathers rest.now most result.count result.used batch.new }
 {
-    let mut count = 0;
     let mut used = 0;
-    while count < most {
-        let noted = note_line(&rest[used..]);
-        if noted.used == 0 {
-            return Gathered {
-                count: count,
-                used: used,
-            };
-        }
+    for count in 0..most {
+        let Some(noted) = note_line(&rest[used..]) else {
+            return Gathered { count, used };
+        };
         words::put_numbers(batch, count, noted.numbers);
-        count += 1;
         used += noted.used;
     }
-    Gathered {
-        count: count,
-        used: used,
-    }
+    Gathered { count: most, used }
 }
 
 // ---- applying
@@ -112,9 +90,10 @@ pub(crate) fn apply_batch(
         ≡ words_answered opened batch.old (state_of (run_from head clocks.old views.old) tally.old network.old) }
 {
     if opened {
-        return simulator::apply_events(head, clocks, views, tally, network, batch);
+        simulator::apply_events(head, clocks, views, tally, network, batch)
+    } else {
+        head
     }
-    head
 }
 
 // ---- printing
@@ -123,28 +102,23 @@ pub(crate) fn apply_batch(
 fn ends_ticks(check: u64) -> bool
     ensures { result ≡ ends_ticks check }
 {
-    if check == 16 {
-        return true;
-    }
-    if check == 17 {
-        return true;
-    }
-    check == 18
+    matches!(check, 16..=18)
 }
 
 // The printed answer to ticks.
 fn print_ticks(held: usize, answer: Answer) -> Answer
     ensures { result ≡ ticks_printed held answer }
 {
+    // The test stands inside its arm: behind an arm with a test of its own nothing is known of the others.
     match answer {
-        Answer::Done(_, _) => answer,
-        Answer::Stopped(_, _, _) => answer,
         Answer::Refused(check) => {
             if ends_ticks(check) {
-                return Answer::Stopped(0, held, check);
+                Answer::Stopped(0, held, check)
+            } else {
+                answer
             }
-            answer
         }
+        _ => answer,
     }
 }
 
@@ -153,33 +127,33 @@ fn answer_from(check: u64, ticks: u64, held: usize) -> Answer
     ensures { result ≡ answer_from check ticks held }
 {
     if check == 0 {
-        return Answer::Done(ticks, held);
+        Answer::Done(ticks, held)
+    } else if ticks == 0 {
+        Answer::Refused(check)
+    } else {
+        Answer::Stopped(ticks, held, check)
     }
-    if ticks == 0 {
-        return Answer::Refused(check);
-    }
-    Answer::Stopped(ticks, held, check)
 }
 
 // The printed answer to a line of an open run.
+#[tactic(auto, unfolding(crate::specs::Batches::open_as))]
 fn printed_open(form: u64, check: u64, ticks: u64, held: usize) -> Answer
     ensures { result ≡ open_as form check ticks held }
 {
     let answer = answer_from(check, ticks, held);
     if form == 5 {
-        return print_ticks(held, answer);
+        print_ticks(held, answer)
+    } else {
+        answer
     }
-    answer
 }
 
 // The printed answer to a line before a run is open.
+#[tactic(auto, unfolding(crate::specs::Batches::closed_as))]
 fn printed_closed(form: u64) -> Answer
     ensures { result ≡ closed_as form }
 {
-    if form == 0 {
-        return Answer::Refused(1);
-    }
-    Answer::Refused(9)
+    Answer::Refused(if form == 0 { 1 } else { 9 })
 }
 
 // The printed answer to line i.
@@ -190,9 +164,10 @@ pub(crate) fn printed_at(opened: bool, batch: &[u64], i: usize) -> Answer
     let at = words::EVENT_WORDS * i;
     let form = batch[at];
     if opened {
-        return printed_open(form, batch[at + 1], batch[at + 2], batch[at + 3] as usize);
+        printed_open(form, batch[at + 1], batch[at + 2], batch[at + 3] as usize)
+    } else {
+        printed_closed(form)
     }
-    printed_closed(form)
 }
 
 // The printed answers to all lines of the words.
@@ -200,13 +175,10 @@ pub(crate) fn print_batch(opened: bool, batch: &[u64], out: &mut [u8]) -> usize
     requires { events_in batch.now * printed_most ≤ length out.old }
     ensures { Put (printed_up_to opened batch.now (events_in batch.now)) out.old result out.new }
 {
-    let count = batch.len() / words::EVENT_WORDS;
-    let mut i = 0;
     let mut at = 0;
-    while i < count {
+    for i in 0..batch.len() / words::EVENT_WORDS {
         let answer = printed_at(opened, batch, i);
         at += printing::print_answer(answer, &mut out[at..]);
-        i += 1;
     }
     at
 }

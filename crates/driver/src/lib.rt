@@ -11,7 +11,6 @@ ghost use Rattle.printout.specs.Printout.{standing_of};
 ghost use Rattle.printout.specs.Clauses.{AnswersLine, Serves, Closes};
 ghost use Rattle.driver.specs.Inner.{session_from};
 
-use lines::Written;
 use printout::{Served, Session};
 use types::Head;
 use words::Numbers;
@@ -26,10 +25,10 @@ pub const CLOSING_MOST: usize = 4745;
 #[derive(Clone, Copy)]
 pub struct Replied {
     pub session: Session,
-    pub written: Written,
+    pub written: Result<usize, u64>,
 }
 
-// The next line, in numbers: how many bytes it has with its newline, or 0 where no batch may have it.
+// The next line, which a batch may have, in numbers: how many bytes it has with its newline.
 #[derive(Clone, Copy)]
 pub(crate) struct Noted {
     pub(crate) used: usize,
@@ -43,7 +42,7 @@ pub(crate) struct Gathered {
     pub(crate) used: usize,
 }
 
-// What bytes of an input left, the run's tables being lent: as `Served`.
+// What bytes of an input left, the run's tables being lent: as `Served`. `opened` and `late` are where the program stands, whatever the other fields are.
 #[derive(Clone, Copy)]
 pub(crate) struct Turned {
     pub(crate) opened: bool,
@@ -53,12 +52,12 @@ pub(crate) struct Turned {
     pub(crate) printed: usize,
 }
 
-// The session put together again.
+// The session put together again, from four parts: no conversion of one value.
 fn gather(opened: bool, head: Head, clocks: &[u64; 64], views: &[u64; 64]) -> Session
     ensures { result ≡ session_from opened head clocks.now views.now }
 {
     Session {
-        opened: opened,
+        opened,
         run: types::gather(head, clocks, views),
     }
 }
@@ -76,8 +75,8 @@ pub fn answer_line(
 {
     if out.len() < PRINTED_MOST {
         return Replied {
-            session: session,
-            written: Written::Refused(1),
+            session,
+            written: Err(1),
         };
     }
     let run = session.run;
@@ -93,10 +92,9 @@ pub fn answer_line(
         network,
         out,
     );
-    let head = turn.head;
     Replied {
-        session: gather(turn.opened, head, &clocks, &views),
-        written: Written::Bytes(turn.printed),
+        session: gather(turn.opened, turn.head, &clocks, &views),
+        written: Ok(turn.printed),
     }
 }
 
@@ -128,9 +126,8 @@ pub fn answer_lines(
         network,
         out,
     );
-    let head = turn.head;
     Served {
-        session: gather(turn.opened, head, &clocks, &views),
+        session: gather(turn.opened, turn.head, &clocks, &views),
         late: turn.late,
         used: turn.used,
         printed: turn.printed,
@@ -138,13 +135,13 @@ pub fn answer_lines(
 }
 
 // At the end of the input: `rest` are the bytes at hand since the last newline.
-pub fn finish(session: Session, late: bool, rest: &[u8], out: &mut [u8]) -> Written
+pub fn finish(session: Session, late: bool, rest: &[u8], out: &mut [u8]) -> Result<usize, u64>
     ensures { Closes session late rest.now out.old result out.new }
 {
     if out.len() < CLOSING_MOST {
-        return Written::Refused(1);
+        return Err(1);
     }
     let at = printing::print_left(late, rest.len(), out);
     let closing = printing::print_closing(session, &mut out[at..]);
-    Written::Bytes(at + closing)
+    Ok(at + closing)
 }

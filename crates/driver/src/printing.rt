@@ -5,7 +5,6 @@ ghost use Rattle.lines.specs.Clauses.{line, Put};
 ghost use Rattle.lines.specs.Printout.{answer_form, processor_form, printed_most};
 ghost use Rattle.printout.specs.Printout.{processor_lines, closing};
 
-use lines::Written;
 use printout::Session;
 use types::{Answer, Plan, Run};
 
@@ -14,10 +13,9 @@ pub(crate) fn print_answer(answer: Answer, out: &mut [u8]) -> usize
     requires { printed_most ≤ length out.old }
     ensures { Put (line (answer_form answer)) out.old result out.new }
 {
-    let written = writer::write_answer(answer, out);
-    match written {
-        Written::Bytes(k) => k,
-        Written::Refused(_) => 0,
+    match writer::write_answer(answer, out) {
+        Ok(k) => k,
+        Err(_) => 0,
     }
 }
 
@@ -26,14 +24,13 @@ fn print_processor(plan: Plan, faulty: u64, p: u64, view: u64, clock: u64, out: 
     requires { printed_most ≤ length out.old }
     ensures { Put (cond (correct plan faulty p) (line (processor_form p view clock)) []) out.old result out.new }
 {
-    if plan.correct(faulty, p) {
-        let written = writer::write_processor(p, view, clock, out);
-        match written {
-            Written::Bytes(k) => return k,
-            Written::Refused(_) => return 0,
-        }
+    if !plan.correct(faulty, p) {
+        return 0;
     }
-    0
+    match writer::write_processor(p, view, clock, out) {
+        Ok(k) => k,
+        Err(_) => 0,
+    }
 }
 
 // The lines of all correct processors.
@@ -41,21 +38,16 @@ fn print_processors(run: Run, out: &mut [u8]) -> usize
     requires { table_clocks * printed_most ≤ length out.old }
     ensures { Put (processor_lines run table_clocks) out.old result out.new }
 {
-    let plan = run.plan;
-    let clocks = run.clocks;
-    let views = run.views;
-    let mut p = 0;
     let mut at = 0;
-    while p < 64 {
+    for p in 0..64 {
         at += print_processor(
-            plan,
+            run.plan,
             run.faulty,
             p as u64,
-            views[p],
-            clocks[p],
+            run.views[p],
+            run.clocks[p],
             &mut out[at..],
         );
-        p += 1;
     }
     at
 }
@@ -66,10 +58,10 @@ pub(crate) fn print_closing(session: Session, out: &mut [u8]) -> usize
     ensures { Put (closing session) out.old result out.new }
 {
     if session.opened {
-        let run = session.run;
-        return print_processors(run, out);
+        print_processors(session.run, out)
+    } else {
+        0
     }
-    0
 }
 
 // A line that is left: bytes behind the last newline, `rest` of them at hand.
@@ -77,11 +69,9 @@ pub(crate) fn print_left(late: bool, rest: usize, out: &mut [u8]) -> usize
     requires { printed_most ≤ length out.old }
     ensures { Put (cond (late || ltb 0 rest) (line (answer_form (Answer.Refused 1))) []) out.old result out.new }
 {
-    if late {
-        return print_answer(Answer::Refused(1), out);
+    if late || 0 < rest {
+        print_answer(Answer::Refused(1), out)
+    } else {
+        0
     }
-    if 0 < rest {
-        return print_answer(Answer::Refused(1), out);
-    }
-    0
 }

@@ -31,10 +31,10 @@ pub(crate) fn answer_batch(
 {
     let next = batches::apply_batch(opened, head, clocks, views, tally, network, batch);
     Turned {
-        opened: opened,
+        opened,
         head: next,
         late: false,
-        used: used,
+        used,
         printed: batches::print_batch(opened, batch, out),
     }
 }
@@ -43,14 +43,7 @@ pub(crate) fn answer_batch(
 fn stays_open(opened: bool, answer: Answer) -> bool
     ensures { result ≡ stays_open opened answer }
 {
-    if opened {
-        return true;
-    }
-    match answer {
-        Answer::Done(_, _) => true,
-        Answer::Stopped(_, _, _) => true,
-        Answer::Refused(_) => false,
-    }
+    opened || !matches!(answer, Answer::Refused(_))
 }
 
 // A line that begins as an opening: it is one, unless its setup has no processors.
@@ -72,22 +65,20 @@ fn answer_opening(
 {
     if setup.plan.n == 0 {
         return Turned {
-            opened: opened,
-            head: head,
+            opened,
+            head,
             late: false,
-            used: used,
+            used,
             printed: printing::print_answer(Answer::Refused(1), out),
         };
     }
     let outcome = simulator::open_lent(head, setup, clocks, views, tally, network);
-    let next = outcome.head;
-    let answer = outcome.answer;
     Turned {
-        opened: stays_open(opened, answer),
-        head: next,
+        opened: stays_open(opened, outcome.answer),
+        head: outcome.head,
         late: false,
-        used: used,
-        printed: printing::print_answer(answer, out),
+        used,
+        printed: printing::print_answer(outcome.answer, out),
     }
 }
 

@@ -16,8 +16,8 @@ fn refuse_line(opened: bool, head: Head, end: usize, out: &mut [u8]) -> Turned
     ensures { Refuses end opened head out.old result out.new }
 {
     Turned {
-        opened: opened,
-        head: head,
+        opened,
+        head,
         late: false,
         used: end + 1,
         printed: printing::print_answer(Answer::Refused(1), out),
@@ -29,47 +29,37 @@ fn pass_over(opened: bool, head: Head, late: bool, rest: &[u8], out: &mut [u8]) 
     requires { NotDue late rest.now (length out.old) }
     ensures { TurnsAside opened head late rest.now out.old result out.new }
 {
+    let unmoved = Turned {
+        opened,
+        head,
+        late,
+        used: 0,
+        printed: 0,
+    };
     if out.len() < PRINTED_MOST {
-        return Turned {
-            opened: opened,
-            head: head,
-            late: late,
-            used: 0,
-            printed: 0,
-        };
+        return unmoved;
     }
-    let next = lines::next_line(rest);
-    match next {
-        Next::Line(end) => refuse_line(opened, head, end, out),
-        Next::Long(end) => refuse_line(opened, head, end, out),
-        Next::Unfinished => Turned {
-            opened: opened,
-            head: head,
-            late: late,
-            used: 0,
-            printed: 0,
-        },
+    match lines::next_line(rest) {
+        Next::Line(end) | Next::Long(end) => refuse_line(opened, head, end, out),
+        Next::Unfinished => unmoved,
         Next::Endless => Turned {
-            opened: opened,
-            head: head,
             late: true,
             used: rest.len(),
-            printed: 0,
+            ..unmoved
         },
     }
 }
 
 // The next line, if it is to be answered: none where bytes of it were passed over, or its answer may not have room.
+#[tactic(auto, unfolding(crate::specs::Inner::due_line))]
 fn due_line(late: bool, rest: &[u8], room: usize) -> Next
     ensures { result ≡ due_line late rest.now room }
 {
-    if late {
-        return Next::Unfinished;
+    if late || room < PRINTED_MOST {
+        Next::Unfinished
+    } else {
+        lines::next_line(rest)
     }
-    if room < PRINTED_MOST {
-        return Next::Unfinished;
-    }
-    lines::next_line(rest)
 }
 
 // The next line by itself.
@@ -155,44 +145,35 @@ pub(crate) fn answer_turns(
     ensures { Serves (standing_from opened head clocks.old views.old tally.old network.old) late bytes.now out.old
         tally.new network.new (served_as result clocks.new views.new) out.new }
 {
-    let mut running = opened;
-    let mut current = head;
-    let mut passed = late;
-    let mut used = 0;
-    let mut printed = 0;
-    while used < bytes.len() {
+    let mut left = Turned {
+        opened,
+        head,
+        late,
+        used: 0,
+        printed: 0,
+    };
+    // No count from turn to turn: a turn says how many bytes it used.
+    while left.used < bytes.len() {
         let turn = answer_turn(
-            running,
-            current,
-            passed,
-            &bytes[used..],
+            left.opened,
+            left.head,
+            left.late,
+            &bytes[left.used..],
             batch,
             clocks,
             views,
             tally,
             network,
-            &mut out[printed..],
+            &mut out[left.printed..],
         );
-        running = turn.opened;
-        current = turn.head;
-        passed = turn.late;
-        used += turn.used;
-        printed += turn.printed;
+        left = Turned {
+            used: left.used + turn.used,
+            printed: left.printed + turn.printed,
+            ..turn
+        };
         if turn.used == 0 {
-            return Turned {
-                opened: running,
-                head: current,
-                late: passed,
-                used: used,
-                printed: printed,
-            };
+            break;
         }
     }
-    Turned {
-        opened: running,
-        head: current,
-        late: passed,
-        used: used,
-        printed: printed,
-    }
+    left
 }

@@ -1,7 +1,7 @@
 -- What the definitions leave, told in words. Assumes nothing.
 use mathlib.Core.Path.{◌≡◌, refl, sym, ap, ap₂, ◌∙◌, subst}
 use mathlib.Core.Bool.{Bool, true, false, ◌||◌}
-use mathlib.Core.Logic.{◌≢◌}
+use mathlib.Core.Logic.{inl, inr, ◌≢◌}
 use mathlib.Core.List.{List, [], ◌∷◌}
 use Prim.Native.Nat.{ℕ, ◌≤◌, ◌<◌}
 use native.Mathlib.Omega.{arith}
@@ -26,7 +26,7 @@ use Rattle.liveness.proofs.Promises.{answers-told, refused-stays}
 use Rattle.simulator.specs.Clauses.{AppliesAll}
 use Rattle.words.specs.Events.{event_of}
 use Rattle.words.specs.Batches.{Worded, answered, words_applied}
-use Rattle.fever.specs.Layout.{table_in, setup_length, setup_in, run_length, settled_word, clocks_word, views_word, run_in, run_over, neither_settled}
+use Rattle.fever.specs.Layout.{table_in, setup_length, setup_in, run_length, settled_word, clocks_word, views_word, run_in, run_over, OfNoRun, neither_settled}
 use Rattle.fever.specs.Clauses.{Lent, lent_of, lent_state, Called, called, run_left, told, opening_words, applying_words, called_all, told_all, applying_all}
 use Rattle.types.specs.Runs.{head-back}
 use Rattle.fever.proofs.ReadBack.{run-words-back}
@@ -96,7 +96,7 @@ lacking-told : (e : Event) (x : Lent) → lacks_form e ≡ true → told x.run (
 unfolding applied checks
 lacking-told e x l = ap (told x.run) (sym (cond_yes (lacks_form e) (refused (lent_state x) 1) (refused (lent_state x) 1) _ l refl))
 
-pub applying-short : (e : Event) (x : Lent) → length x.run < run_length → called 1 x ≡ applying_words e x
+applying-short : (e : Event) (x : Lent) → length x.run < run_length → called 1 x ≡ applying_words e x
 unfolding applying_words
 applying-short e x l = cond_yes _ _ _ _ (or-first _ _ (lt-ltb _ _ l)) refl
 
@@ -104,11 +104,15 @@ pub applying-lacking : (e f : Event) (x : Lent) (b : Bool) → f ≡ e → b ≡
 unfolding applying_words
 applying-lacking e f x b q r l = cond_yes _ _ _ _ (or-second (ltb (length x.run) run_length) (lacks_form e) (ap lacks_form (sym q) ∙ sym r ∙ l)) refl
 
-pub applying-neither : (e f : Event) (x : Lent) (b : Bool) → f ≡ e → b ≡ lacks_form f → b ≡ false → run_length ≤ length x.run → 1 < get_or x.run settled_word 0
+applying-neither : (e f : Event) (x : Lent) (b : Bool) → f ≡ e → b ≡ lacks_form f → b ≡ false → run_length ≤ length x.run → 1 < get_or x.run settled_word 0
     → called 9 x ≡ applying_words e x
 unfolding applying_words
 applying-neither e f x b q r l k s =
     cond_no _ _ _ _ (or-neither (ltb (length x.run) run_length) (lacks_form e) (le-ltb _ _ k) (ap lacks_form (sym q) ∙ sym r ∙ l)) (cond_yes _ _ _ _ (lt-ltb _ _ s) refl)
+
+pub applying-no-run : (e f : Event) (x : Lent) (b : Bool) (k : ℕ) → f ≡ e → b ≡ lacks_form f → b ≡ false → OfNoRun x.run k → called k x ≡ applying_words e x
+applying-no-run e f x b k q r l (inl h) = rw h.0 (applying-short e x h.1)
+applying-no-run e f x b k q r l (inr h) = rw h.0 (applying-neither e f x b q r l h.1 h.2)
 
 -- a run that has all of its words and a settled word
 pub applying-told : (e : Event) (x : Lent) → run_length ≤ length x.run → neither_settled x.run ≡ false → told x.run (applied e (lent_state x)) ≡ applying_words e x
@@ -163,13 +167,17 @@ module _ (x : Lent) (g : Head) (c v : List ℕ) (p : Parts x.run g c v) (form ki
 
 -- ---- many events
 
-pub all_short : (events : List ℕ) (x : Lent) → length x.run < run_length → called_all 1 x events ≡ applying_all events x
+all_short : (events : List ℕ) (x : Lent) → length x.run < run_length → called_all 1 x events ≡ applying_all events x
 unfolding applying_all
 all_short events x l = cond_yes _ _ _ _ (lt-ltb _ _ l) refl
 
-pub all-neither : (events : List ℕ) (x : Lent) → run_length ≤ length x.run → 1 < get_or x.run settled_word 0 → called_all 9 x events ≡ applying_all events x
+all-neither : (events : List ℕ) (x : Lent) → run_length ≤ length x.run → 1 < get_or x.run settled_word 0 → called_all 9 x events ≡ applying_all events x
 unfolding applying_all
 all-neither events x k s = cond_no _ _ _ _ (le-ltb _ _ k) (cond_yes _ _ _ _ (lt-ltb _ _ s) refl)
+
+pub all-no-run : (events : List ℕ) (x : Lent) (k : ℕ) → OfNoRun x.run k → called_all k x events ≡ applying_all events x
+all-no-run events x k (inl h) = rw h.0 (all_short events x h.1)
+all-no-run events x k (inr h) = rw h.0 (all-neither events x h.1 h.2)
 
 pub all_told : (events : List ℕ) (x : Lent) → run_length ≤ length x.run → neither_settled x.run ≡ false
     → told_all x.run (words_applied events (lent_state x)) ≡ applying_all events x

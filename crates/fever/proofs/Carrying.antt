@@ -1,4 +1,5 @@
 -- A run carried over in words, in each case of the call. Assumes nothing.
+use Rattle.std.proofs.Common.{Result, zero, suc}
 use mathlib.Core.Path.{◌≡◌, refl, sym, ap, ap₂, ◌∙◌, subst}
 use mathlib.Core.Bool.{Bool, true, false}
 use mathlib.Core.Logic.{◌≢◌}
@@ -13,7 +14,7 @@ use Rattle.types.specs.declared.Form.{Form}
 use Rattle.types.specs.declared.Head.{Head}
 use Rattle.types.specs.declared.Run.{Run}
 use Rattle.model.specs.State.{State, state_in, run_from, head_of}
-use Rattle.model.specs.Checks.{Check, unsound}
+use Rattle.model.specs.Checks.{Check, unsound, passed, refusal}
 use Rattle.model.specs.Carrying.{target_outside, CarriedOver, carried_over}
 use Rattle.liveness.specs.Carrying.{HeldAlike}
 use Rattle.liveness.proofs.Judging.{by-judged, by-judged-each}
@@ -49,6 +50,10 @@ module _ (from to : Form) (x : Lent) (target : List ℕ) where
       unfolding carrying_words
       carry-neither o = rw (le-ltb _ _ whole, o, lt-ltb _ _ neither) refl
 
+  refusal-passed : (k : ℕ) → refusal (passed k) ≡ k
+  refusal-passed zero = refl
+  refusal-passed (suc k) = refl
+
   -- no check of words refuses: the definition's answer is told
   by-target : (b : Bool) → outside ≡ b → ltb (length x.run) run_length ≡ false → neither_settled x.run ≡ false
       → carried_over to (lent_in from x) target ≡ carrying_words from to x target
@@ -56,10 +61,10 @@ module _ (from to : Form) (x : Lent) (target : List ℕ) where
   by-target true o long sorted = rw (long, o) refl
   by-target false o long sorted = rw (long, o, sorted) refl
 
-  pub carry-told : run_length ≤ length x.run → get_or x.run settled_word 0 ≤ 1 → (h : Head) (c v : List ℕ) → Parts x.run h c v → (r : ℕ) (after : List ℕ)
-      → Carries to (state_in from (run_from h c v) x.tally x.network) target r after → called_carry r after ≡ carrying_words from to x target
+  pub carry-told : run_length ≤ length x.run → get_or x.run settled_word 0 ≤ 1 → (h : Head) (c v : List ℕ) → Parts x.run h c v → (r : Result (Unit {0}) ℕ) (after : List ℕ)
+      → Carries to (state_in from (run_from h c v) x.tally x.network) target r after → called_carry (refusal r) after ≡ carrying_words from to x target
   carry-told whole sorted h c v p r after carries =
-      ap₂ called_carry carries.0 carries.1
+      ap₂ called_carry (ap refusal carries.0 ∙ refusal-passed (carried_over to (state_in from (run_from h c v) x.tally x.network) target).check) carries.1
       ∙ ap (λ (z : Run). carried_over to (state_in from z x.tally x.network) target) (parts_whole x.run h c v p)
       ∙ by-target outside refl (le-ltb _ _ whole) (le-ltb _ _ sorted)
 

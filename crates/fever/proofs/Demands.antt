@@ -1,4 +1,5 @@
 -- The words that the library's calls leave after an opening are those of the definitions' list, so that demand 3 holds of them. Assumes nothing.
+use Rattle.std.proofs.Common.{Ok}
 use mathlib.Core.Path.{◌≡◌, refl, sym, ap, ◌∙◌, subst}
 use mathlib.Core.Bool.{Bool, false, ◌||◌, cond}
 use mathlib.Core.Logic.{◌≢◌}
@@ -212,4 +213,4 @@ traffic-of-library setup before opened' o ks cs f i ws left r room told =
     told ∙ sym (report-is (lent_after opened' cs i) ws l.laid.long room l.laid.sorted)
     ∙ ap (λ (a : State). told_report ws (totals a)) l.state
     ∙ ap (told_report ws) (report-is-history (setup_in setup) (lent_state before) (is-accepted setup before opened' o ks cs f i) es)
-    ∙ ap (λ (a : State). told_report ws (history_totals (setup_in setup) (lent_state before) (events_of a (take i ks)))) (sym b.1.state)
+    ∙ ap (λ (a : State). told_report ws (Ok (history_totals (setup_in setup) (lent_state before) (events_of a (take i ks))))) (sym b.1.state)

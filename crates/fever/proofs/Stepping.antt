@@ -1,11 +1,12 @@
 -- A processor's step told in the words of its record. Assumes nothing.
+use Rattle.std.specs.Prelude.{Ok, Result}
 use mathlib.Core.Path.{◌≡◌, refl, sym, ap, ◌∙◌, subst}
 use mathlib.Core.List.{List, [], ◌∷◌, ◌++◌}
-use Prim.Native.Nat.{ℕ, ◌<◌}
+use Prim.Native.Nat.{ℕ}
 use native.Mathlib.Omega.{arith}
 use lib.ListN.{length, drop}
-use borrow.Author.Tests.{eq-eqb, ne_eqb}
-use Rattle.base.specs.Choice.{cond_yes, cond_no}
+use borrow.Author.Tests.{eq-eqb}
+use Rattle.base.specs.Choice.{cond_yes}
 use Rattle.base.specs.Tests.{by_cond}
 use Rattle.types.specs.declared.Plan.{Plan}
 use Rattle.types.specs.declared.Message.{Message}
@@ -13,13 +14,10 @@ use Rattle.types.specs.declared.Message.TheVariants.{View, Vote}
 use Rattle.types.specs.declared.Processor.{Processor}
 use Rattle.types.specs.declared.Input.{Input}
 use Rattle.types.specs.declared.Sends.{Sends}
-use Rattle.types.specs.declared.Stepped.{Stepped}
-use Rattle.types.specs.declared.Stepped.TheVariants.{Sent, Refused}
 use Rattle.types.specs.Quantities.{initial}
 use Rattle.model.specs.Moves.{Entry, stay, into}
 use Rattle.model.specs.Checks.{Check, judged}
 use Rattle.model.specs.Processors.{Moved, Gives, messages_of, moving, clock_at, entry_by, step_checks, refusing, stepped}
-use Rattle.pacemaker.proofs.AnswerLaws.{refused-some}
 use Rattle.writer.specs.Stamps.{Stamped}
 use Rattle.fever.specs.Layout.{record_length}
 use Rattle.fever.specs.Clauses.{record_words, messages_for, messages_told, StepsWords}
@@ -45,11 +43,11 @@ stepped-tells plan c i =
     judged-tells c (step_checks plan c i next.processor.clock) next (moving-tells plan c.number (clock_at c i) c.view (entry_by plan c i))
 
 -- what an accepted step leaves
-left : (m : Moved) (c : Processor) (x : Sends) (k : ℕ) → Gives m c (Sent x) → ((p : ℕ) → k ≡ length (messages_of p x))
+left : (m : Moved) (c : Processor) (x : Sends) (k : ℕ) → Gives m c (Ok x) → ((p : ℕ) → k ≡ length (messages_of p x))
     → c.number ∷ c.clock ∷ c.view ∷ k ∷ [] ≡ record_words m
 left m c x k g n = rw (n c.number, g.sent, g.processor)
 
-sent-steps : (m : Moved) (c : Processor) (x : Sends) (k : ℕ) (d e : List ℕ) (b : ℕ) → Gives m c (Sent x) → ((p : ℕ) → k ≡ length (messages_of p x))
+sent-steps : (m : Moved) (c : Processor) (x : Sends) (k : ℕ) (d e : List ℕ) (b : ℕ) → Gives m c (Ok x) → ((p : ℕ) → k ≡ length (messages_of p x))
     → messages_for m.processor.number m.processor.view (length m.sent) ≡ m.sent
     → Stamped d 0 (c.number ∷ c.clock ∷ c.view ∷ k ∷ []) b e → StepsWords m d 0 e
 sent-steps m c x k d e b g n h s =
@@ -61,27 +59,12 @@ sent-steps m c x k d e b g n h s =
       sends = λ z. subst (λ (l : List ℕ). messages_told l ≡ m.sent) (sym q) h;
     }
 
-refused-steps : (m : Moved) (c : Processor) (r : ℕ) (d : List ℕ) → Gives m c (Refused r) → StepsWords m d r d
-refused-steps m c r d g =
-    let some : 0 < m.check = refused-some g in
-    let none : m.check ≡ 0 → ⊥ = λ z. absurd (omega (arith, z)) in
-    record {
-      check = g.check;
-      words = cond_no _ _ _ _ (ne_eqb m.check 0 none) refl;
-      sends = λ z. absurd (omega (arith, g.check));
-    }
-
 -- the step of the record q that p was read as
-pub takes-sent : (plan : Plan) (p q : Processor) (i : Input) (c : Processor) (y : Stepped) (x : Sends) (k : ℕ) (d e : List ℕ) (b : ℕ) → p ≡ q → Gives (stepped plan p i) c y → y ≡ Sent x
+pub takes-sent : (plan : Plan) (p q : Processor) (i : Input) (c : Processor) (y : Result Sends ℕ) (x : Sends) (k : ℕ) (d e : List ℕ) (b : ℕ) → p ≡ q → Gives (stepped plan p i) c y → y ≡ Ok x
     → ((p : ℕ) → k ≡ length (messages_of p x)) → Stamped d 0 (c.number ∷ c.clock ∷ c.view ∷ k ∷ []) b e → StepsWords (stepped plan q i) d 0 e
 takes-sent plan p q i c y x k d e b h g z n s =
     subst (λ (r : Processor). StepsWords (stepped plan r i) d 0 e) h
     (sent-steps (stepped plan p i) c x k d e b (subst (Gives (stepped plan p i) c) z g) n (stepped-tells plan p i) s)
-
-pub takes-refused : (plan : Plan) (p q : Processor) (i : Input) (c : Processor) (y : Stepped) (r : ℕ) (d : List ℕ) → p ≡ q → Gives (stepped plan p i) c y → y ≡ Refused r
-    → StepsWords (stepped plan q i) d r d
-takes-refused plan p q i c y r d h g z =
-    subst (λ (k : Processor). StepsWords (stepped plan k i) d r d) h (refused-steps (stepped plan p i) c r d (subst (Gives (stepped plan p i) c) z g))
 
 -- an input or a record that is none
 pub refusing-steps : (c : Processor) (d : List ℕ) → StepsWords (refusing c 1) d 1 d

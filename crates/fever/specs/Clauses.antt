@@ -1,6 +1,6 @@
 -- What the exported functions answer and leave in the lent words and bytes, for every argument, by the definitions of the crates below. Where a
 -- call is refused nothing that was lent has changed.
-use Rattle.std.specs.Prelude.{◌≡◌, Bool, cond, ◌||◌, List, [], ◌∷◌, ◌++◌, ℕ, eqb, ltb, length, get_or, drop}
+use Rattle.std.specs.Prelude.{◌≡◌, Bool, cond, ◌||◌, List, [], ◌∷◌, ◌++◌, ℕ, eqb, ltb, length, get_or, drop, Err, Ok, Result}
 use Rattle.types.specs.declared.Plan.{Plan}
 use Rattle.types.specs.declared.Message.{Message}
 use Rattle.types.specs.declared.Message.TheVariants.{View, Vote}
@@ -13,8 +13,6 @@ use Rattle.model.specs.State.{State, After, state_of, check_of, accepted}
 use Rattle.model.specs.Opening.{opening}
 use Rattle.model.specs.Events.{applied}
 use Rattle.model.specs.Processors.{Moved, refusing, stepped}
-use Rattle.lines.specs.declared.Written.{Written}
-use Rattle.lines.specs.declared.Written.TheVariants.{Bytes, Refused}
 use Rattle.lines.specs.Forms.{event_form, setup_form, lacks_setup_form}
 use Rattle.lines.specs.Clauses.{Reading, read_check, written_as, written_in}
 use Rattle.reader.specs.Lines.{reading}
@@ -138,11 +136,11 @@ pub record ReadsWords (line before : List ℕ) (r : ℕ) (after : List ℕ) : Ty
   pub words : after ≡ cond (ltb (length before) reading_length) before (reading_left before (reading line))
 
 -- what the answer of a function that writes stands for: so many bytes; 0 for check 1, the only one that it makes
-abbrev pub written_by : ℕ → Written
-written_by r = cond (eqb r 0) (Refused 1) (Bytes r)
+abbrev pub written_by : ℕ → Result ℕ ℕ
+written_by r = cond (eqb r 0) (Err 1) (Ok r)
 
 -- that r stands for the answer x of a writer
-abbrev pub StandsFor : ℕ → Written → Type 0
+abbrev pub StandsFor : ℕ → Result ℕ ℕ → Type 0
 StandsFor r x = (lacks : Bool) (form buffer : List ℕ) → x ≡ written_as lacks form buffer → written_by r ≡ x
 
 -- that a form, or what lacks one, was written into the lent bytes

@@ -1,6 +1,6 @@
 -- How a run, a setup, one processor's record and what a line is read as stand in the words that a caller of the library lends; an event's numbers are
 -- those of `words`.
-use Rattle.std.specs.Prelude.{Bool, List, [], ◌∷◌, ◌++◌, ℕ, ◌+◌, eqb, ltb, get_or, take, drop}
+use Rattle.std.specs.Prelude.{◌≡◌, ◌⊎◌, Bool, List, [], ◌∷◌, ◌++◌, ℕ, ◌+◌, ◌≤◌, ◌<◌, eqb, ltb, length, get_or, take, drop}
 use Rattle.types.specs.declared.Setup.{Setup}
 use Rattle.types.specs.declared.Run.{Run}
 use Rattle.types.specs.declared.Counts.{Counts}
@@ -85,6 +85,15 @@ run_in ws =
 -- a settled word that is of no run
 abbrev pub neither_settled : List ℕ → Bool
 neither_settled ws = ltb 1 (get_or ws settled_word 0)
+
+-- that words are of a run, as far as their number and the settled word tell
+pub record OfRun (ws : List ℕ) : Type 0 where
+  pub long : run_length ≤ length ws
+  pub settled : get_or ws settled_word 0 ≤ 1
+
+-- that they are of no run, by check 1 or 9
+abbrev pub OfNoRun : List ℕ → ℕ → Type 0
+OfNoRun ws check = ((check ≡ 1) × (length ws < run_length)) ⊎ ((check ≡ 9) × (run_length ≤ length ws) × (1 < get_or ws settled_word 0))
 
 abbrev pub run_numbers : Run → List ℕ
 run_numbers r = plan_numbers r.plan ++ (r.faulty ∷ r.time ∷ settled_as r.settled ∷ r.gst ∷ r.held ∷ [])

@@ -1,6 +1,6 @@
 -- A load in the words and bytes that a caller of the library lends: its six words, and what `fever_generate` and `fever_generate_more` answer and
 -- leave, for every argument, by the definitions of loads. Where a call is refused nothing that was lent has changed.
-use Rattle.std.specs.Prelude.{◌≡◌, Bool, cond, ◌||◌, List, [], ◌∷◌, ◌++◌, ℕ, eqb, ltb, length, get_or, take, drop}
+use Rattle.std.specs.Prelude.{◌≡◌, Bool, cond, ◌||◌, List, [], ◌∷◌, ◌++◌, Result, Ok, Err, ℕ, eqb, ltb, length, get_or, take, drop}
 use Rattle.types.specs.declared.Event.{Event}
 use Rattle.types.specs.declared.Run.{Run}
 use Rattle.types.specs.declared.Setup.{Setup}
@@ -48,11 +48,12 @@ load_over ws seed step bytes full = take seed_word ws ++ (seed ∷ step ∷ byte
 abbrev pub run_after : List ℕ → ℕ → Run → List ℕ
 run_after ws bytes r = cond (eqb bytes 0) ws (run_over ws r)
 
--- that what was made of a load was put back into the words of the run and of the load, unless a check refused it, and r was answered
-pub record PutsBack (made : Generated) (run load : List ℕ) (r : ℕ) (run' load' : List ℕ) : Type 0 where
-  pub check : r ≡ made.check
-  pub words_of_run : run' ≡ cond (eqb made.check 0) (run_after run made.bytes made.run) run
-  pub load_words : load' ≡ cond (eqb made.check 0) (load_over load made.seed made.step made.bytes made.full) load
+-- that what was made of a load was put back into the words of the run and of the load, and 0 answered; or that a check refused it and was answered, the
+-- words staying
+abbrev pub PutsBack : Result Generated ℕ → List ℕ → List ℕ → ℕ → List ℕ → List ℕ → Type 0
+PutsBack (Ok made) run load r run' load' =
+    (r ≡ 0) × (run' ≡ run_after run made.bytes made.run) × (load' ≡ load_over load made.seed made.step made.bytes made.full)
+PutsBack (Err check) run load r run' load' = (r ≡ check) × (run' ≡ run) × (load' ≡ load)
 
 -- ---- what a call answered, and what it left: the words of the run, the tally and the network, those of the load, and the bytes
 

@@ -1,6 +1,6 @@
 -- What is promised of the library: demand 3 of the words that its calls leave first, then that the layouts lose nothing, then what the words and
 -- answers tell. proofs/Promises.antt has a proof of each, under its name in small letters with hyphens (`demand-three-of-library`).
-use Rattle.std.specs.Prelude.{◌≡◌, Bool, true, false, ◌⊎◌, ◌≢◌, List, [], ◌∷◌, ◌++◌, map, ℕ, zero, suc, ◌+◌, ◌-◌, ◌*◌, ◌≤◌, ◌<◌, T, eqb, length, get_or, set, take, drop}
+use Rattle.std.specs.Prelude.{◌≡◌, Bool, true, false, ◌⊎◌, ◌≢◌, List, [], ◌∷◌, ◌++◌, map, ℕ, zero, suc, ◌+◌, ◌-◌, ◌*◌, ◌≤◌, ◌<◌, T, eqb, length, get_or, set, take, drop, Ok}
 use Rattle.types.specs.declared.Event.{Event}
 use Rattle.types.specs.declared.Form.{Form}
 use Rattle.types.specs.declared.Setup.{Setup}
@@ -125,7 +125,7 @@ SettlingTold = AfterCalls (λ setup before opened ks last. SettledTold (since_se
 abbrev pub TrafficOfLibrary : Type 0
 TrafficOfLibrary =
     AfterCalls (λ setup before opened ks last. (ws left : List ℕ) (r : ℕ) → report_length ≤ length ws → ReportsTraffic last ws r left
-    → called_report r left ≡ told_report ws (history_totals (setup_in setup) (lent_state before) (events_of (lent_state opened) ks)))
+    → called_report r left ≡ told_report ws (Ok (history_totals (setup_in setup) (lent_state before) (events_of (lent_state opened) ks))))
 
 -- Every list of calls can be made, on any words.
 abbrev pub EveryCallAnswered : Type 0

@@ -1,5 +1,5 @@
 -- A run's traffic in words, and what `fever_traffic` answers and leaves.
-use Rattle.std.specs.Prelude.{◌≡◌, cond, ◌||◌, List, [], ◌∷◌, ◌++◌, ℕ, eqb, ltb, length, drop}
+use Rattle.std.specs.Prelude.{◌≡◌, cond, ◌||◌, List, [], ◌∷◌, ◌++◌, ℕ, ltb, length, drop, Result, Ok, Err}
 use Rattle.types.specs.declared.Totals.{Totals}
 use Rattle.types.specs.Traffic.{count_numbers}
 use Rattle.model.specs.Traffic.{totals}
@@ -23,8 +23,9 @@ abbrev pub called_report : ℕ → List ℕ → CalledReport
 called_report r ws = record { answer = r; report = ws }
 
 -- the definition's report, in words; a refused one leaves them
-abbrev pub told_report : List ℕ → Totals → CalledReport
-told_report ws x = cond (eqb x.check 0) (called_report 0 (report_words x ++ drop report_length ws)) (called_report x.check ws)
+abbrev pub told_report : List ℕ → Result Totals ℕ → CalledReport
+told_report ws (Ok x) = called_report 0 (report_words x ++ drop report_length ws)
+told_report ws (Err check) = called_report check ws
 
 -- `fever_traffic`: check 1 is of how many words the run and the report have; a settled word above 1 is of no run, which is check 9
 unfoldable pub reporting : Lent → List ℕ → CalledReport

@@ -1,11 +1,12 @@
 // Loads in lent words: the run that one starts from, and what it leaves.
-ghost use Rattle.std.specs.Prelude.{◌≡◌, cond, ◌≤◌, length};
+ghost use Rattle.std.specs.Prelude.{◌≡◌, ◌≤◌, length};
 ghost use Rattle.fever.specs.Layout.{run_length, run_in};
 ghost use Rattle.fever.specs.Loads.{load_length, run_after, PutsBack};
 
 use crate::layout;
 use types::Run;
 use workload::Generated;
+use writer::pieces::put_slice;
 
 pub(crate) const LOAD_WORDS: usize = 6;
 
@@ -23,19 +24,11 @@ pub(crate) fn run_in(words: &[u64]) -> Run
     requires { run_length ≤ length words.now }
     ensures { result ≡ run_in words.now }
 {
-    let clocks = layout::table_in(words, layout::CLOCKS);
-    let views = layout::table_in(words, layout::VIEWS);
-    types::gather(layout::head_in(words), &clocks, &views)
-}
-
-// The word that says whether more bytes are needed.
-fn full_as(full: bool) -> u64
-    ensures { result ≡ cond full 1 0 }
-{
-    if full {
-        return 1;
-    }
-    0
+    types::gather(
+        layout::head_in(words),
+        &layout::table_in(words, layout::CLOCKS),
+        &layout::table_in(words, layout::VIEWS),
+    )
 }
 
 // The run that the bytes written led to, if there are any.
@@ -43,24 +36,27 @@ fn put_back(words: &mut [u64], bytes: usize, run: Run)
     requires { run_length ≤ length words.old }
     ensures { words.new ≡ run_after words.old bytes run }
 {
-    if bytes == 0 {
-        return;
+    if bytes != 0 {
+        layout::put_run(words, types::head_of(run), &run.clocks, &run.views);
     }
-    let clocks = run.clocks;
-    let views = run.views;
-    layout::put_run(words, types::head_of(run), &clocks, &views);
 }
 
 // What a load left of the run's words and of its own, if it was not refused. Answers the check that refused it, or 0.
-pub(crate) fn put_load(run: &mut [u64], load: &mut [u64], made: Generated) -> u64
+pub(crate) fn put_load(run: &mut [u64], load: &mut [u64], made: Result<Generated, u64>) -> u64
     requires { (run_length ≤ length run.old) × (load_length ≤ length load.old) }
     ensures { PutsBack made run.old load.old result run.new load.new }
 {
-    if 0 < made.check {
-        return made.check;
-    }
+    let made = match made {
+        Ok(made) => made,
+        Err(check) => return check,
+    };
     put_back(run, made.bytes, made.run);
-    let values = [made.seed, made.step, made.bytes as u64, full_as(made.full)];
-    layout::put_words(load, SEED, &values);
+    let values = [
+        made.seed,
+        made.step,
+        made.bytes as u64,
+        u64::from(made.full),
+    ];
+    put_slice(load, SEED, &values);
     0
 }

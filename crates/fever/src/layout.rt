@@ -1,15 +1,18 @@
 // Setups, runs and what was read, from words and into words.
-ghost use Rattle.std.specs.Prelude.{◌≡◌, ◌+◌, ◌≤◌, length};
+ghost use Rattle.std.specs.Prelude.{◌≡◌, ◌+◌, ◌≤◌, length, MatchOption};
 ghost use Rattle.types.specs.Quantities.{table_clocks};
 ghost use Rattle.types.specs.Runs.{plan_in};
+ghost use Rattle.types.specs.Traffic.{count_numbers};
 ghost use Rattle.model.specs.State.{run_from, head_of, check_of};
 ghost use Rattle.lines.specs.Clauses.{event_reading, read_check};
 ghost use Rattle.reader.specs.Lines.{opening_or};
 ghost use Rattle.writer.specs.Stamps.{Room, Stamped};
-ghost use Rattle.fever.specs.Layout.{table_in, counts_at, setup_length, setup_in, run_length, run_in, run_over, reading_length};
+ghost use Rattle.fever.specs.Layout.{table_in, counts_at, setup_length, setup_in, run_length, run_in, run_over, OfRun, OfNoRun, reading_length};
 ghost use Rattle.fever.specs.Clauses.{run_left, reading_left};
 
 use types::{Answer, AppliedHead, Counts, Event, Head, Plan, Setup, Traffic};
+use words::Numbers;
+use writer::pieces::put_slice;
 
 pub(crate) const SETUP_WORDS: usize = 70;
 
@@ -51,13 +54,22 @@ pub(crate) fn table_in(words: &[u64], at: usize) -> [u64; 64]
     requires { at + table_clocks ≤ length words.now }
     ensures { result ≡ table_in at words.now }
 {
-    let mut table = [0; 64];
-    let mut i = 0;
-    while i < TABLE {
-        table[i] = words[at + i];
-        i += 1;
-    }
+    let mut table = [0; TABLE];
+    table.copy_from_slice(&words[at..at + TABLE]);
     table
+}
+
+// The check that refuses the words of a run whatever else is lent: 1 where they are too few, 9 where the settled word is of no run.
+pub(crate) fn run_check(words: &[u64]) -> Option<u64>
+    ensures { MatchOption result (OfRun words.now) (OfNoRun words.now) }
+{
+    if words.len() < RUN_WORDS {
+        Some(1)
+    } else if 1 < words[SETTLED] {
+        Some(9)
+    } else {
+        None
+    }
 }
 
 // The plan of a run or a setup.
@@ -79,12 +91,10 @@ pub(crate) fn setup_in(words: &[u64]) -> Setup
     requires { setup_length ≤ length words.now }
     ensures { result ≡ setup_in words.now }
 {
-    let plan = plan_in(words);
-    let clocks = table_in(words, START_CLOCKS);
     Setup {
-        plan: plan,
+        plan: plan_in(words),
         faulty: words[FAULTY],
-        clocks: clocks,
+        clocks: table_in(words, START_CLOCKS),
     }
 }
 
@@ -106,9 +116,8 @@ pub(crate) fn head_in(words: &[u64]) -> Head
     requires { run_length ≤ length words.now }
     ensures { result ≡ head_of (run_in words.now) }
 {
-    let plan = plan_in(words);
     Head {
-        plan: plan,
+        plan: plan_in(words),
         faulty: words[FAULTY],
         time: words[TIME],
         settled: types::settled_as(words[SETTLED] == 1),
@@ -122,24 +131,13 @@ pub(crate) fn head_in(words: &[u64]) -> Head
     }
 }
 
-// The values from a place on. Answers the place behind them.
-pub(crate) fn put_words(words: &mut [u64], at: usize, values: &[u64]) -> usize
-    requires { Room words.old at values.now }
-    ensures { Stamped words.old at values.now result words.new }
+// Four counts, by kind, from a place on. Answers the place behind them.
+pub(crate) fn put_counts(words: &mut [u64], at: usize, counts: Counts) -> usize
+    requires { Room words.old at (count_numbers counts) }
+    ensures { Stamped words.old at (count_numbers counts) result words.new }
 {
-    let mut k = 0;
-    while k < values.len() {
-        words[at + k] = values[k];
-        k += 1;
-    }
-    at + k
-}
-
-// The table, apart from any words: so it is put among them as a whole, and not word by word.
-fn own_table(table: &[u64; 64]) -> [u64; 64]
-    ensures { result ≡ table.now }
-{
-    *table
+    let numbers = [counts.views, counts.votes, counts.vcs, counts.qcs];
+    put_slice(words, at, &numbers)
 }
 
 // The first 147 words become those of the run whose tables are lent beside its head.
@@ -159,23 +157,12 @@ pub(crate) fn put_run(words: &mut [u64], head: Head, clocks: &[u64; 64], views: 
         head.gst,
         head.held as u64,
     ];
-    let next = put_words(words, 0, &numbers);
-    let own_clocks = own_table(clocks);
-    let last = put_words(words, next, &own_clocks);
-    let own_views = own_table(views);
-    let behind = put_words(words, last, &own_views);
-    let sums = [
-        head.traffic.sent.views,
-        head.traffic.sent.votes,
-        head.traffic.sent.vcs,
-        head.traffic.sent.qcs,
-        head.traffic.delivered.views,
-        head.traffic.delivered.votes,
-        head.traffic.delivered.vcs,
-        head.traffic.delivered.qcs,
-        head.traffic.waits,
-    ];
-    put_words(words, behind, &sums);
+    let first = put_slice(words, 0, &numbers);
+    let second = put_slice(words, first, clocks);
+    let sent = put_slice(words, second, views);
+    let delivered = put_counts(words, sent, head.traffic.sent);
+    let waits = put_counts(words, delivered, head.traffic.delivered);
+    put_slice(words, waits, &[head.traffic.waits]);
 }
 
 // What a call left of the run, if it was accepted. Answers the check that refused it or ended its ticks, or 0.
@@ -189,15 +176,13 @@ pub(crate) fn put_outcome(
     ensures { (result ≡ check_of outcome.answer) × (words.new ≡
         run_left words.old outcome.answer (run_from outcome.head clocks.now views.now)) }
 {
-    let head = outcome.head;
-    let answer = outcome.answer;
-    match answer {
+    match outcome.answer {
         Answer::Done(_, _) => {
-            put_run(words, head, clocks, views);
+            put_run(words, outcome.head, clocks, views);
             0
         }
         Answer::Stopped(_, _, check) => {
-            put_run(words, head, clocks, views);
+            put_run(words, outcome.head, clocks, views);
             check
         }
         Answer::Refused(check) => check,
@@ -209,13 +194,14 @@ pub(crate) fn put_event(words: &mut [u64], event: Event) -> u64
     requires { reading_length ≤ length words.old }
     ensures { (result ≡ 0) × (words.new ≡ reading_left words.old (event_reading event)) }
 {
-    let numbers = words::numbers_of(event);
-    let mut reading = [0u64; READING_WORDS];
-    reading[0] = numbers.form;
-    reading[1] = numbers.kind;
-    reading[2] = numbers.view;
-    reading[3] = numbers.processor;
-    put_words(words, 0, &reading);
+    let Numbers {
+        form,
+        kind,
+        view,
+        processor,
+    } = words::numbers_of(event);
+    let next = put_slice(words, 0, &[form, kind, view, processor]);
+    words[next..READING_WORDS].fill(0);
     0
 }
 
@@ -239,8 +225,7 @@ pub(crate) fn put_setup(words: &mut [u64], setup: Setup) -> u64
         setup.plan.k,
         setup.faulty,
     ];
-    let clocks = setup.clocks;
-    let next = put_words(words, 0, &heading);
-    put_words(words, next, &clocks);
+    let next = put_slice(words, 0, &heading);
+    put_slice(words, next, &setup.clocks);
     0
 }

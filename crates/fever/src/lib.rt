@@ -1,5 +1,7 @@
 // The library for C and Rust: the simulator, one processor's pacemaker, lines, loads out of a seed number, reports of a run's traffic and runs carried
 // over to a network of another form, over numbers and lent words and bytes. Every function takes every argument; a refused call has changed nothing that was lent.
+// In every module what is answered is a number, a check or 0, and what is lent are words, as C has them. A run's head and its two tables are taken out
+// of its words where they are used: one function that answered all three would hand 1 KiB back.
 #![tactic(auto)]
 
 mod generating;
@@ -15,7 +17,7 @@ ghost use Rattle.fever.specs.Loads.{GeneratesWords, GeneratesMore};
 ghost use Rattle.fever.specs.Traffic.{ReportsTraffic};
 ghost use Rattle.fever.specs.Carrying.{CarriesWords};
 
-use lines::{Read, Written};
+use lines::Read;
 use types::{Form, Plan};
 use words::Numbers;
 
@@ -24,10 +26,7 @@ pub fn fever_open(setup: &[u64], run: &mut [u64], tally: &mut [u64], network: &m
     ensures { OpensWords setup.now (lent_of run.old tally.old network.old) result
         (lent_of run.new tally.new network.new) }
 {
-    if setup.len() < layout::SETUP_WORDS {
-        return 1;
-    }
-    if run.len() < layout::RUN_WORDS {
+    if setup.len() < layout::SETUP_WORDS || run.len() < layout::RUN_WORDS {
         return 1;
     }
     let start = layout::setup_in(setup);
@@ -51,20 +50,17 @@ pub fn fever_apply(
     ensures { AppliesWords form kind view processor (lent_of run.old tally.old network.old) result
         (lent_of run.new tally.new network.new) }
 {
-    if run.len() < layout::RUN_WORDS {
-        return 1;
-    }
     if words::event_of(form, kind, view, processor).lacks_form() {
         return 1;
     }
-    if 1 < run[layout::SETTLED] {
-        return 9;
+    if let Some(check) = layout::run_check(run) {
+        return check;
     }
     let numbers = Numbers {
-        form: form,
-        kind: kind,
-        view: view,
-        processor: processor,
+        form,
+        kind,
+        view,
+        processor,
     };
     steps::apply_event(run, numbers, tally, network)
 }
@@ -79,11 +75,8 @@ pub fn fever_apply_all(
     ensures { AppliesEvents events.old (lent_of run.old tally.old network.old) result
         (lent_of run.new tally.new network.new) events.new }
 {
-    if run.len() < layout::RUN_WORDS {
-        return 1;
-    }
-    if 1 < run[layout::SETTLED] {
-        return 9;
+    if let Some(check) = layout::run_check(run) {
+        return check;
     }
     let head = layout::head_in(run);
     let mut clocks = layout::table_in(run, layout::CLOCKS);
@@ -107,11 +100,11 @@ pub fn fever_step(
     ensures { StepsWords (move_of (plan_in (n ∷ delta ∷ gamma ∷ views ∷ k ∷ [])) input view processor.old) processor.old result processor.new }
 {
     let plan = Plan {
-        n: n,
-        delta: delta,
-        gamma: gamma,
-        views: views,
-        k: k,
+        n,
+        delta,
+        gamma,
+        views,
+        k,
     };
     steps::step_record(plan, processor, input, view)
 }
@@ -123,8 +116,7 @@ pub fn fever_read_line(line: &[u8], words: &mut [u64]) -> u64
     if words.len() < layout::READING_WORDS {
         return 1;
     }
-    let read = reader::skim_line(line);
-    match read {
+    match reader::skim_line(line) {
         Read::Event(event) => layout::put_event(words, event),
         Read::Opening => layout::put_setup(words, reader::read_setup(line)),
         Read::NoForm => 1,
@@ -132,12 +124,12 @@ pub fn fever_read_line(line: &[u8], words: &mut [u64]) -> u64
 }
 
 // How many bytes a writer says it wrote; 0 for none.
-fn count_bytes(written: Written) -> u64
+fn count_bytes(written: Result<usize, u64>) -> u64
     ensures { StandsFor result written }
 {
     match written {
-        Written::Bytes(k) => k as u64,
-        Written::Refused(_) => 0,
+        Ok(k) => k as u64,
+        Err(_) => 0,
     }
 }
 
@@ -154,9 +146,10 @@ pub fn fever_write_setup(setup: &[u64], out: &mut [u8]) -> u64
     ensures { WritesSetup setup.now out.old result out.new }
 {
     if setup.len() < layout::SETUP_WORDS {
-        return 0;
+        0
+    } else {
+        count_bytes(writer::write_setup(layout::setup_in(setup), out))
     }
-    count_bytes(writer::write_setup(layout::setup_in(setup), out))
 }
 
 // A load is made, from its opening on.
@@ -171,13 +164,10 @@ pub fn fever_generate(
     ensures { GeneratesWords setup.now (lent_of run.old tally.old network.old) load.old out.old result
         (lent_of run.new tally.new network.new) load.new out.new }
 {
-    if setup.len() < layout::SETUP_WORDS {
-        return 1;
-    }
-    if run.len() < layout::RUN_WORDS {
-        return 1;
-    }
-    if load.len() < generating::LOAD_WORDS {
+    if setup.len() < layout::SETUP_WORDS
+        || run.len() < layout::RUN_WORDS
+        || load.len() < generating::LOAD_WORDS
+    {
         return 1;
     }
     let made = workload::generate(
@@ -204,14 +194,11 @@ pub fn fever_generate_more(
     ensures { GeneratesMore (lent_of run.old tally.old network.old) load.old out.old result
         (lent_of run.new tally.new network.new) load.new out.new }
 {
-    if run.len() < layout::RUN_WORDS {
-        return 1;
-    }
     if load.len() < generating::LOAD_WORDS {
         return 1;
     }
-    if 1 < run[layout::SETTLED] {
-        return 9;
+    if let Some(check) = layout::run_check(run) {
+        return check;
     }
     let made = workload::generate_more(
         generating::run_in(run),
@@ -230,14 +217,11 @@ pub fn fever_generate_more(
 pub fn fever_traffic(run: &[u64], tally: &[u64], network: &[u64], report: &mut [u64]) -> u64
     ensures { ReportsTraffic (lent_of run.now tally.now network.now) report.old result report.new }
 {
-    if run.len() < layout::RUN_WORDS {
-        return 1;
-    }
     if report.len() < reporting::REPORT_WORDS {
         return 1;
     }
-    if 1 < run[layout::SETTLED] {
-        return 9;
+    if let Some(check) = layout::run_check(run) {
+        return check;
     }
     let head = layout::head_in(run);
     let clocks = layout::table_in(run, layout::CLOCKS);
@@ -262,17 +246,21 @@ fn carry_words(
     }
     let head = layout::head_in(run);
     if 1 < run[layout::SETTLED] {
-        if carrying::target_outside(to, head, target) {
-            return 6;
-        }
-        return 9;
+        return if carrying::target_outside(to, head, target) {
+            6
+        } else {
+            9
+        };
     }
     let clocks = layout::table_in(run, layout::CLOCKS);
     let views = layout::table_in(run, layout::VIEWS);
-    carrying::carry(from, to, head, &clocks, &views, tally, network, target)
+    match carrying::carry(from, to, head, &clocks, &views, tally, network, target) {
+        Ok(()) => 0,
+        Err(check) => check,
+    }
 }
 
-// A run held in four words a message is carried over to two.
+// A run held in four words a message is carried over to two. C has a name for each direction.
 pub fn fever_pack(run: &[u64], tally: &[u64], network: &[u64], target: &mut [u64]) -> u64
     ensures { CarriesWords Form.Wide Form.Packed (lent_of run.now tally.now network.now) target.old result
         target.new }

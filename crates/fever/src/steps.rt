@@ -1,15 +1,15 @@
 // One event, and one processor's input, on lent words.
 ghost use Rattle.std.specs.Prelude.{◌≡◌, ℕ, ◌≤◌, length, get_or};
-ghost use Rattle.model.specs.Processors.{Gives, messages_of, stepped};
+ghost use Rattle.model.specs.Processors.{messages_of, stepped};
 ghost use Rattle.model.specs.Events.{applied};
 ghost use Rattle.words.specs.Events.{event_as};
 ghost use Rattle.fever.specs.Layout.{run_length, settled_word, record_length, record_in};
 ghost use Rattle.fever.specs.Clauses.{lent_of, lent_state, called, told, move_of, StepsWords};
 
 use crate::layout;
-use pacemaker::Outcome;
-use types::{Input, Plan, Processor, Sends, Stepped};
+use types::{Input, Plan, Processor, Sends};
 use words::Numbers;
+use writer::pieces::put_slice;
 
 const RECORD_WORDS: usize = 4;
 
@@ -30,10 +30,8 @@ pub(crate) fn apply_event(
     let mut event = [numbers.form, numbers.kind, numbers.view, numbers.processor];
     let left = simulator::apply_events(head, &mut clocks, &mut views, tally, network, &mut event);
     let check = event[1];
-    if 0 < check {
-        if event[2] == 0 {
-            return check;
-        }
+    if 0 < check && event[2] == 0 {
+        return check;
     }
     layout::put_run(run, left, &clocks, &views);
     check
@@ -62,33 +60,19 @@ fn record_in(words: &[u64]) -> Processor
     }
 }
 
-// The step of a record, which the pacemaker alters where it stands.
-fn step_own(plan: Plan, processor: Processor, input: Input) -> Outcome
-    ensures { Gives (stepped plan processor input) result.processor result.answer }
-{
-    let mut own = processor;
-    let answer = pacemaker::step_in_place(plan, &mut own, input);
-    Outcome {
-        processor: own,
-        answer: answer,
-    }
-}
-
-// The record takes an input.
+// The record takes an input: the pacemaker alters it where it stands.
 fn take_input(plan: Plan, words: &mut [u64], input: Input) -> u64
     requires { record_length ≤ length words.old }
     ensures { StepsWords (stepped plan (record_in words.old) input) words.old result words.new }
 {
-    let outcome = step_own(plan, record_in(words), input);
-    let next = outcome.processor;
-    let answer = outcome.answer;
-    match answer {
-        Stepped::Sent(sends) => {
-            let values = [next.number, next.clock, next.view, count_sent(sends)];
-            layout::put_words(words, 0, &values);
+    let mut own = record_in(words);
+    match pacemaker::step_in_place(plan, &mut own, input) {
+        Ok(sends) => {
+            let values = [own.number, own.clock, own.view, count_sent(sends)];
+            put_slice(words, 0, &values);
             0
         }
-        Stepped::Refused(check) => check,
+        Err(check) => check,
     }
 }
 

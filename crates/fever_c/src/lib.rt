@@ -1,5 +1,5 @@
 // The archive for C: each export is the library's function of the same name, with the same promise. Every function takes every argument; a refused call
-// has changed nothing that was lent.
+// has changed nothing that was lent. Numbers and words alone go in and out, as C has them.
 #![tactic(auto)]
 
 ghost use Rattle.std.specs.Prelude.{[], ◌∷◌};

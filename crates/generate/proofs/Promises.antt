@@ -94,7 +94,7 @@ uncut u steps settle seed room least tally network r c =
 
 pub written-accepted : WrittenAccepted
 written-accepted u steps settle seed r w table below x long =
-    let made = uncut u steps settle seed w.room w.least w.tally w.network r.last w.whole.load in
+    let made = uncut u steps settle seed w.room w.least w.tally w.network r w.whole.1 in
     record {
       accepts = subst (λ (l : Load). AllAccepted x (input_lines (schedule_of l.forms))) made.1
           (load-accepted u start_state steps settle seed made.0 table below x long);

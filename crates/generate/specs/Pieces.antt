@@ -1,5 +1,5 @@
 -- How the program writes a load, but for the writing: in pieces, each with the same lent bytes, and each from where the last one stands.
-use Rattle.std.specs.Prelude.{ℕ, zero, suc, ◌+◌, ◌*◌, ◌≤◌, ◌<◌, ◌≡◌, true, false, List}
+use Rattle.std.specs.Prelude.{ℕ, zero, suc, ◌+◌, ◌*◌, ◌≤◌, ◌<◌, ◌≡◌, true, false, List, Result, Ok, Err}
 use Rattle.types.specs.declared.Setup.{Setup}
 use Rattle.model.specs.State.{State, state_of, check_of}
 use Rattle.model.specs.Opening.{opening}
@@ -7,7 +7,6 @@ use Rattle.lines.specs.Promises.{form_most}
 use Rattle.printout.specs.Printout.{at_start}
 use Rattle.loads.specs.Loads.{Point, point_of, Load, further_load, whole_load}
 use Rattle.workload.specs.declared.Generated.{Generated}
-use Rattle.generate.specs.declared.pieces.WrittenLoad.{WrittenLoad}
 
 -- no run, and words of 0, as many as the simulate program lends
 abbrev pub start_state : State
@@ -50,13 +49,14 @@ pub record Completes (steps settle room : ℕ) (first : Load) (tally network : L
 abbrev pub Resumes : ℕ → ℕ → ℕ → List ℕ → List ℕ → Generated → List ℕ → List ℕ → Generated → Type 0
 Resumes steps settle room tally network f tally' network' r = (first : Load) → Leaves first tally network f → Completes steps settle room first tally' network' r
 
--- that the whole load was, from the program's start, and its opening answered
-pub record WritesWhole (u : Setup) (steps settle seed room : ℕ) (tally network : List ℕ) (r : WrittenLoad) : Type 0 where
-  pub check : r.check ≡ start_check u
-  pub load : Completes steps settle room (whole_load u start_state steps settle seed room) tally network r.last
+-- that the whole load was, from the program's start, as no check refuses its opening; or that this check does, and the lent words stayed as they were
+abbrev pub WritesWhole : Setup → ℕ → ℕ → ℕ → ℕ → List ℕ → List ℕ → Result Generated ℕ → Type 0
+WritesWhole u steps settle seed room tally network (Ok r) =
+    (start_check u ≡ 0) × Completes steps settle room (whole_load u start_state steps settle seed room) tally network r
+WritesWhole u steps settle seed room tally network (Err k) = (k ≡ start_check u) × (0 < k) × (state_of start_state.run tally network ≡ start_state)
 
 -- the same, with as many bytes for each piece as hold two lines, and with whatever is left in the lent words
-pub record ProgramWrites (u : Setup) (steps settle seed : ℕ) (r : WrittenLoad) : Type 0 where
+pub record ProgramWrites (u : Setup) (steps settle seed : ℕ) (r : Result Generated ℕ) : Type 0 where
   pub room : ℕ
   pub least : piece_least ≤ room
   pub tally : List ℕ

@@ -1,5 +1,5 @@
 -- What is promised of a load that is written in pieces. proofs/Promises.antt has a proof of each, under its name in small letters with hyphens.
-use Rattle.std.specs.Prelude.{ℕ, zero, suc, ◌≤◌, ◌≡◌, false, List, [], ◌++◌, length}
+use Rattle.std.specs.Prelude.{ℕ, zero, suc, ◌≤◌, ◌≡◌, false, List, [], ◌++◌, Ok, length}
 use Rattle.types.specs.declared.Setup.{Setup}
 use Rattle.types.specs.Quantities.{table_clocks}
 use Rattle.lines.specs.Forms.{setup_fields, Below}
@@ -9,7 +9,6 @@ use Rattle.printout.specs.Printout.{Standing}
 use Rattle.loads.specs.Loads.{Load, whole_load}
 use Rattle.workload.specs.declared.Generated.{Generated}
 use Rattle.workload.specs.Promises.{Replayed}
-use Rattle.generate.specs.declared.pieces.WrittenLoad.{WrittenLoad}
 use Rattle.generate.specs.Pieces.{start_state, piece_least, piece, stood, Completes, ProgramWrites}
 
 -- the lines of so many pieces
@@ -29,15 +28,15 @@ Uncut =
     ≡ record { forms = lines_of steps settle room first (suc c.leads.earlier); point = stood r tally network; full = false })
 
 -- all lines that the program wrote
-abbrev pub written_lines : (u : Setup) (steps settle seed : ℕ) (r : WrittenLoad) → ProgramWrites u steps settle seed r → List (List ℕ)
+abbrev pub written_lines : (u : Setup) (steps settle seed : ℕ) (r : Generated) → ProgramWrites u steps settle seed (Ok r) → List (List ℕ)
 written_lines u steps settle seed r w =
-    lines_of steps settle w.room (whole_load u start_state steps settle seed w.room) (suc w.whole.load.leads.earlier)
+    lines_of steps settle w.room (whole_load u start_state steps settle seed w.room) (suc w.whole.1.leads.earlier)
 
 -- "Each line is accepted when read in turn with lent buffers as long": whoever reads all that the program wrote, with as many words as the simulate
 -- program lends and whatever run and words they hold, accepts every line and, where there is one, ends in the run that the last piece left. A setup that
 -- was read has a whole table, and numbers below 2^64 (`SetupLine`)
 abbrev pub WrittenAccepted : Type 0
 WrittenAccepted =
-    (u : Setup) (steps settle seed : ℕ) (r : WrittenLoad) (w : ProgramWrites u steps settle seed r) → length u.clocks ≡ table_clocks → Below (setup_fields u)
+    (u : Setup) (steps settle seed : ℕ) (r : Generated) (w : ProgramWrites u steps settle seed (Ok r)) → length u.clocks ≡ table_clocks → Below (setup_fields u)
     → (x : Standing) → AsLong start_state x.state
-    → Replayed r.last w.tally w.network (schedule_of (written_lines u steps settle seed r w)) x
+    → Replayed r w.tally w.network (schedule_of (written_lines u steps settle seed r w)) x

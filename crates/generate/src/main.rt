@@ -5,8 +5,7 @@ mod pieces;
 
 ghost use Rattle.std.specs.Prelude.{◌≤◌, length};
 
-use lines::{Read, Written};
-use reader::Decimal;
+use lines::Read;
 use std::env::FillError;
 use std::io;
 use std::rt::Env;
@@ -27,37 +26,29 @@ fn tell_usage(rt: &HostRuntime) -> io::Result<()> {
 
 fn tell_refused(rt: &HostRuntime, check: u64) -> io::Result<()> {
     let mut line = [0u8; TEXT_BYTES];
-    let Written::Bytes(bytes) = writer::write_answer(Answer::Refused(check), &mut line) else {
-        return Ok(());
-    };
-    if bytes <= line.len() {
-        return transfer::write_whole(&mut rt.stderr(), &line[..bytes]);
+    match writer::write_answer(Answer::Refused(check), &mut line) {
+        Ok(bytes) if bytes <= line.len() => {
+            transfer::write_whole(&mut rt.stderr(), &line[..bytes])
+        }
+        _ => Ok(()),
     }
-    Ok(())
 }
 
 // Whether there is an argument at that place.
 fn is_given(rt: &impl Env, i: usize) -> bool {
     let mut text = [0u8; TEXT_BYTES];
-    match rt.arg(i, &mut text) {
-        Ok(_) => true,
-        Err(FillError::TooLong) => true,
-        Err(FillError::NotPresent) => false,
-    }
+    !matches!(rt.arg(i, &mut text), Err(FillError::NotPresent))
 }
 
 // An argument at the start of the buffer, and how many bytes it has. One that is longer than the buffer is read as an empty one.
 fn argument(rt: &impl Env, i: usize, text: &mut [u8]) -> usize
     ensures { result ≤ length text.new }
 {
-    match rt.arg(i, text) {
-        Ok(bytes) => bytes,
-        Err(_) => 0,
-    }
+    rt.arg(i, text).unwrap_or(0)
 }
 
 // An empty argument is no number.
-fn number_argument(rt: &impl Env, i: usize) -> Decimal {
+fn number_argument(rt: &impl Env, i: usize) -> Option<u64> {
     let mut text = [0u8; TEXT_BYTES];
     let n = argument(rt, i, &mut text);
     reader::read_decimal(&text[..n])
@@ -67,13 +58,13 @@ fn main(rt: HostRuntime) -> io::Result<()> {
     if !is_given(&rt, ARGUMENTS - 1) || is_given(&rt, ARGUMENTS) {
         return tell_usage(&rt);
     }
-    let Decimal::Is(steps) = number_argument(&rt, 2) else {
+    let Some(steps) = number_argument(&rt, 2) else {
         return tell_usage(&rt);
     };
-    let Decimal::Is(settle) = number_argument(&rt, 3) else {
+    let Some(settle) = number_argument(&rt, 3) else {
         return tell_usage(&rt);
     };
-    let Decimal::Is(seed) = number_argument(&rt, 4) else {
+    let Some(seed) = number_argument(&rt, 4) else {
         return tell_usage(&rt);
     };
     // A line that is longer than the buffer, and so than any opening, is read as an empty one, which opens none.
@@ -83,9 +74,8 @@ fn main(rt: HostRuntime) -> io::Result<()> {
         return tell_refused(&rt, 1);
     };
     let setup = reader::read_setup(&text[..n]);
-    let written = pieces::run(setup, steps, settle, seed, &mut rt.stdout())?;
-    if 0 < written.check {
-        return tell_refused(&rt, written.check);
+    match pieces::run(setup, steps, settle, seed, &mut rt.stdout())? {
+        Ok(_) => Ok(()),
+        Err(check) => tell_refused(&rt, check),
     }
-    Ok(())
 }

@@ -14,14 +14,8 @@ use workload::Generated;
 // The bytes of a piece.
 const PIECE_BYTES: usize = 65536;
 
-// What a load that was written leaves: the check that refused its opening, or 0, and its last piece.
-#[derive(Clone, Copy)]
-pub struct WrittenLoad {
-    pub check: u64,
-    pub last: Generated,
-}
-
-// The pieces behind the first, up to the last, which is answered. A piece without a step is the last: one that ends for want of bytes has some.
+// The pieces behind the first, up to the last, which is answered. A piece without a step is the last: one that ends for want of bytes has some. So is one
+// that is refused: it leaves the load where it stands.
 fn write_rest<W: Write>(
     first: Generated,
     steps: u64,
@@ -37,12 +31,15 @@ fn write_rest<W: Write>(
 {
     let mut last = first;
     while last.full {
-        let run = last.run;
-        let next = workload::generate_more(
-            run, last.seed, last.step, steps, settle, tally, network, out,
-        );
-        let bytes = next.bytes;
-        transfer::write_whole(to, &out[..bytes])?;
+        let Ok(next) = workload::generate_more(
+            last.run, last.seed, last.step, steps, settle, tally, network, out,
+        ) else {
+            return Ok(Generated {
+                full: false,
+                ..last
+            });
+        };
+        transfer::write_whole(to, &out[..next.bytes])?;
         if next.step <= last.step {
             return Ok(next);
         }
@@ -51,7 +48,7 @@ fn write_rest<W: Write>(
     Ok(last)
 }
 
-// The whole load, from the program's start.
+// The whole load, from the program's start: its last piece, or the check that refuses its opening.
 fn write_load<W: Write>(
     setup: Setup,
     steps: u64,
@@ -61,30 +58,29 @@ fn write_load<W: Write>(
     network: &mut [u64],
     out: &mut [u8],
     to: &mut W,
-) -> io::Result<WrittenLoad>
+) -> io::Result<Result<Generated, u64>>
     requires { (tally.old ≡ replicate tally_lent 0) × (network.old ≡ replicate network_lent 0) × (piece_least ≤ length out.old) }
     ensures whole { IfOk result (WritesWhole setup steps settle seed (length out.old) tally.new network.new) }
     ensures grows { Grows (W.contents to.old) (W.contents to.new) }
 {
-    let blank = Session::unopened();
-    let run = blank.run;
-    let first = workload::generate(run, setup, steps, settle, seed, tally, network, out);
-    let bytes = first.bytes;
-    transfer::write_whole(to, &out[..bytes])?;
-    Ok(WrittenLoad {
-        check: first.check,
-        last: write_rest(first, steps, settle, tally, network, out, to)?,
-    })
+    let run = Session::unopened().run;
+    let first = match workload::generate(run, setup, steps, settle, seed, tally, network, out) {
+        Ok(first) => first,
+        Err(check) => return Ok(Err(check)),
+    };
+    transfer::write_whole(to, &out[..first.bytes])?;
+    let last = write_rest(first, steps, settle, tally, network, out, to)?;
+    Ok(Ok(last))
 }
 
-// Writes a load.
+// Writes a load, and answers its last piece, or the check that refuses its opening.
 pub fn run<W: Write>(
     setup: Setup,
     steps: u64,
     settle: u64,
     seed: u64,
     to: &mut W,
-) -> io::Result<WrittenLoad>
+) -> io::Result<Result<Generated, u64>>
     ensures writes { IfOk result (ProgramWrites setup steps settle seed) }
     ensures grows { Grows (W.contents to.old) (W.contents to.new) }
 {

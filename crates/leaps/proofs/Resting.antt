@@ -5,7 +5,7 @@ use Rattle.base.specs.Tests.{le?}
 use Rattle.base.specs.Choice.{cond_yes, or-neither, or_parts}
 use Rattle.types.specs.declared.Plan.{Plan}
 use Rattle.types.specs.declared.Run.{Run}
-use Rattle.types.specs.Quantities.{next_initial, clock_time, end_time, correct}
+use Rattle.types.specs.Quantities.{next_initial, clock_time, end_time}
 use Rattle.types.specs.PlanFunctions.{next_initial_word, clock_time_word}
 use Rattle.model.specs.State.{clock_of, view_of, is_correct}
 use Rattle.model.specs.Checks.{clock_outside, at_end}
@@ -44,12 +44,6 @@ module _ (plan : Plan) (ok : Within plan) (clock view : ℕ) (inside : clock_out
       (or_parts (at_end plan clock || ltb clock (clock_time plan view)) (leb (clock_time plan (next_initial plan view)) clock) inside).0).1
 
 -- ---- one processor after another
-
--- a correct one, as the code asks it
-pub rest-correct : (plan : Plan) (faulty p clock view most next arrival x : ℕ) → correct plan faulty p ≡ true → next ≡ next_initial_word plan view
-    → arrival ≡ clock_time_word plan next → x ≡ min (arrival - 1 - clock) most → x ≡ rest_for plan faulty p clock view most
-rest-correct plan faulty p clock view most next arrival x c n a e = cond_yes (correct plan faulty p) x _ most c
-    (e ∙ ap (λ (t : ℕ). min (t - 1 - clock) most) (a ∙ ap (clock_time_word plan) n))
 
 few-for : (b : Bool) (x most : ℕ) → cond b (min x most) most ≤ most
 few-for true x most = omega arith

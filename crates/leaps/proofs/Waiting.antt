@@ -1,48 +1,17 @@
 -- How many ticks find no message late. Assumes nothing.
-use Rattle.std.proofs.Common.{◌≡◌, ℕ, ◌+◌, ◌-◌, ◌<◌, ◌≤◌, min, max, Bool, true, false, List, refl, ⊎_elim, arith, le-leb}
-use borrow.Author.Tests.{lt-leb}
+use Rattle.std.proofs.Common.{◌≡◌, ℕ, ◌+◌, ◌<◌, ◌≤◌, Bool, true, false, List, refl, ⊎_elim, arith}
 use Rattle.base.specs.Tests.{T_true, le?}
 use Rattle.base.specs.Scan.{some}
 use Rattle.base.specs.ScanLaws.{some-start, some-on, some-here, some-by, some-gives}
 use Rattle.types.specs.declared.Run.{Run}
 use Rattle.types.specs.declared.Form.TheVariants.{Packed}
 use Rattle.model.specs.State.{State, state_of, held_at}
-use Rattle.model.specs.Checks.{late, overdue, late_at}
+use Rattle.model.specs.Checks.{overdue, late_at}
 use Rattle.leaps.specs.Leaps.{WaitsFor, WaitsForAll, Waits}
 
 -- one that passed is enough later too
 some-still : (f : ℕ → Bool) (k : ℕ) → some f k ≡ true → some f (k + 1) ≡ true
 some-still f k e = let r = some-gives f k (rw e tt) in T_true (some f (k + 1)) (some-by f (k + 1) r.0 (omega (arith, r.1)) r.2)
-
--- ---- one message
-
-module _ (gst delta time sent most from r : ℕ) (is : from ≡ max sent gst) where
-  not_late : (t : ℕ) → t < from + delta → late gst delta t sent ≡ false
-  not_late t l = let g : t < max sent gst + delta = omega arith in lt-leb _ _ g
-
-  -- it is of the future
-  pub waits-ahead : time < from → r ≡ min (from - time) most → WaitsFor gst delta time sent most r
-  waits-ahead ahead e = record {
-    few = omega arith;
-    quiet = λ j l. not_late (time + j) (omega arith);
-    ends = λ z l. absurd (omega arith);
-  }
-
-  -- it is late
-  pub waits-none : from ≤ time → delta ≤ time - from → WaitsFor gst delta time sent most 0
-  waits-none past due = record {
-    few = omega arith;
-    quiet = λ j l. absurd (omega arith);
-    ends = λ z l. let g : max sent gst + delta ≤ time = omega arith in le-leb _ _ g;
-  }
-
-  -- it is due
-  pub waits-due : from ≤ time → time - from < delta → r ≡ min (delta - (time - from)) most → WaitsFor gst delta time sent most r
-  waits-due past due e = record {
-    few = omega arith;
-    quiet = λ j l. not_late (time + j) (omega arith);
-    ends = λ z l. absurd (omega arith);
-  }
 
 -- ---- all messages
 

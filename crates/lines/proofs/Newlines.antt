@@ -108,7 +108,3 @@ none_here s i x h e = omega (arith, before-from s i x, later s i h e)
 -- it stands there
 pub first-here : (s : List ℕ) (i : ℕ) → i ≤ before_newline s → i < length s → get_or s i 0 ≡ newline → i ≡ before_newline s
 first-here s i x h e = omega (arith, before-from s i x, here s i h e)
-
--- there is none
-pub none_at_all : (s : List ℕ) (i : ℕ) → i ≤ before_newline s → length s ≤ i → i ≡ before_newline s
-none_at_all s i x h = omega (arith, before-most s)

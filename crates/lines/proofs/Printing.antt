@@ -1,4 +1,5 @@
 -- How long the printed lines are: no number has more than twenty digits. Assumes nothing.
+use Rattle.std.proofs.Common.{Ok, Err}
 use mathlib.Core.List.{List, ◌++◌}
 use Prim.Native.Nat.{ℕ, ◌+◌, ◌≤◌}
 use native.Mathlib.Omega.{arith}
@@ -53,6 +54,5 @@ text-short x held =
 
 pub report-length : ShortReports
 unfolding totals_text
-report-length x =
-    by_cond (λ (l : List ℕ). length l ≤ totals_most) (eqb x.check 0) (traffic_text x.traffic x.held) (line (answer_form (Refused x.check)))
-    (λ t. (text-short x.traffic x.held).fits) (λ t. omega (arith, answer-length (Refused x.check)))
+report-length (Ok x) = (text-short x.traffic x.held).fits
+report-length (Err check) = omega (arith, answer-length (Refused check))

@@ -1,4 +1,5 @@
 -- Texts put into lent bytes, one behind the other, each into what the last ones left. Assumes nothing.
+use Rattle.std.specs.Prelude.{Err, Ok, Result}
 use mathlib.Core.Path.{◌≡◌, refl, sym, ap, ap₂, ◌∙◌, subst}
 use mathlib.Core.Bool.{true, false}
 use mathlib.Core.List.{List, [], ◌++◌, append_assoc, append-nil}
@@ -9,8 +10,6 @@ use lib.ListN.{length, take, drop, length-append, length-drop, drop_of_length-le
 use lib.Seq.{take_at, drop_at, drop-drop, take_all}
 use borrow.Rule.Slice.PartMut.{mid_of, put_mid, Post-is}
 use borrow.Author.Tests.{lt-ltb, le-ltb}
-use Rattle.lines.specs.declared.Written.{Written}
-use Rattle.lines.specs.declared.Written.TheVariants.{Bytes, Refused}
 use Rattle.lines.specs.Clauses.{line, Writes, written_as, written_in, Put, Prints}
 
 -- ---- one text behind another
@@ -49,35 +48,35 @@ put-part {v} {w} {out} {e} {f} {k} {m} a h b =
 
 -- ---- what the writer wrote, where it has room
 
-pub room-written : (form out after : List ℕ) (r : Written) → Writes false form out r after → length (line form) ≤ length out
-    → (r ≡ Bytes (length (line form))) × (after ≡ line form ++ drop (length (line form)) out)
+pub room-written : (form out after : List ℕ) (r : Result ℕ ℕ) → Writes false form out r after → length (line form) ≤ length out
+    → (r ≡ Ok (length (line form))) × (after ≡ line form ++ drop (length (line form)) out)
 unfolding written_as written_in
 room-written form out after r w h =
     let n : ltb (length out) (length (line form)) ≡ false = le-ltb _ _ h in (rw n at w.0, rw n at w.1)
 
-pub put_written : (form out after : List ℕ) (r : Written) (k : ℕ) → Writes false form out r after → length (line form) ≤ length out → r ≡ Bytes k → Put (line form) out k after
+pub put_written : (form out after : List ℕ) (r : Result ℕ ℕ) (k : ℕ) → Writes false form out r after → length (line form) ≤ length out → r ≡ Ok k → Put (line form) out k after
 put_written form out after r k w h e =
     let u = room-written form out after r w h in
-    let q : Bytes k ≡ Bytes (length (line form)) = sym e ∙ u.0 in
+    let q : Ok k ≡ Ok (length (line form)) = sym e ∙ u.0 in
     let n : k ≡ length (line form) = cc in
     record { bytes = n; text = u.1 ∙ ap (λ (i : ℕ). line form ++ drop i out) (sym n) }
 
-pub never-refused : (form out after : List ℕ) (r : Written) (c : ℕ) → Writes false form out r after → length (line form) ≤ length out → r ≡ Refused c → ⊥
+pub never-refused : (form out after : List ℕ) (r : Result ℕ ℕ) (c : ℕ) → Writes false form out r after → length (line form) ≤ length out → r ≡ Err c → ⊥
 never-refused form out after r c w h e =
-    let q : Refused c ≡ Bytes (length (line form)) = sym e ∙ (room-written form out after r w h).0 in
+    let q : Err c ≡ Ok (length (line form)) = sym e ∙ (room-written form out after r w h).0 in
     let z : ◌≡◌ {A = ℕ} 0 1 = cc in
     omega arith
 
 -- where it has no room
-pub few-written : (form out after : List ℕ) (r : Written) → Writes false form out r after → length out < length (line form) → (r ≡ Refused 1) × (after ≡ out)
+pub few-written : (form out after : List ℕ) (r : Result ℕ ℕ) → Writes false form out r after → length out < length (line form) → (r ≡ Err 1) × (after ≡ out)
 unfolding written_as written_in
 few-written form out after r w h = let y : ltb (length out) (length (line form)) ≡ true = lt-ltb _ _ h in (rw y at w.0, rw y at w.1)
 
 -- ---- a text printed, or refused for too few bytes
 
-pub too_few : (most : ℕ) (text out : List ℕ) → length out < most → Prints most text out (Refused 1) out
+pub too_few : (most : ℕ) (text out : List ℕ) → length out < most → Prints most text out (Err 1) out
 too_few most text out h = let y = lt-ltb _ _ h in (rw y, rw y)
 
-pub put-prints : (most : ℕ) (text out : List ℕ) (k : ℕ) (after : List ℕ) → most ≤ length out → Put text out k after → Prints most text out (Bytes k) after
+pub put-prints : (most : ℕ) (text out : List ℕ) (k : ℕ) (after : List ℕ) → most ≤ length out → Put text out k after → Prints most text out (Ok k) after
 put-prints most text out k after h p =
-    let n = le-ltb _ _ h in (rw n (ap Bytes p.bytes), rw n (p.text ∙ ap (λ (i : ℕ). text ++ drop i out) p.bytes))
+    let n = le-ltb _ _ h in (rw n (ap Ok p.bytes), rw n (p.text ∙ ap (λ (i : ℕ). text ++ drop i out) p.bytes))

@@ -1,61 +1,70 @@
--- Words among the bytes at hand: a word made of bytes has these bytes, and several words together have a newline where one of them has. Assumes nothing.
+-- Words among the bytes at hand: a word made of eight bytes has these bytes, and several words together have a newline where one of them has. Assumes nothing.
 use mathlib.Core.Path.{◌≡◌, refl, sym, ap, ◌∙◌}
 use mathlib.Core.Bool.{Bool, true, false, not, ◌||◌}
 use mathlib.Core.List.{List, [], ◌∷◌, ◌++◌}
-use Prim.Native.Nat.{ℕ, zero, suc, ◌+◌, ◌*◌, ◌/◌, ◌%◌, ◌≤◌, ◌<◌}
+use Prim.Native.Nat.{ℕ, zero, suc, ◌+◌, ◌/◌, ◌%◌, ◌^◌, ◌≤◌, ◌<◌}
 use native.Mathlib.Omega.{arith}
-use native.Mathlib.Nat.{mul_assoc}
+use Rattle.std.proofs.Common.{length-take-le, length-drop, pow-suc, w64}
+use Rattle.std.specs.Int.{bytes_low_first, to_le_bytes, from_le_bytes}
+use Rattle.std.proofs.Math.Nat.{div-div-eq-div-mul}
+use Rattle.std.proofs.lemmas.Nat.{le_bytes_8}
+use Rattle.std.proofs.lemmas.List.{get_or-drop}
 use lib.Dec.{eqb}
 use lib.Bits.{bit_or, or_add_and, and_le_l, and_le_r}
 use lib.ListN.{length, get_or, take, drop}
 use lib.Seq.{drop-cons, drop-drop, take-add}
-use lib.Pow.{high, low}
 use borrow.Author.Tests.{eqb-true, eqb-false, eq-eqb, ne_eqb}
 use Rattle.lines.specs.Forms.{newline}
 use Rattle.lines.specs.Search.{word_bytes, bytes_in, some_newline}
 use Rattle.lines.specs.Inner.{newline_bits}
-use Rattle.lines.proofs.WordTest.{each, bits-some}
+use Rattle.lines.proofs.WordTest.{bits-some}
 
--- 256^j, before which the numbers of j bytes stop: by its bytes, so that it computes byte by byte
-abbrev pub span : ℕ → ℕ
-span j = each 255 j + 1
+-- ---- a word made of bytes
 
-lowest : (h b k : ℕ) → b < 256 → bytes_in (suc k) (h * 256 + b) ≡ b ∷ bytes_in k h
+small-part : (k : ℕ) (s : List ℕ) (j : ℕ) → ((i : ℕ) → get_or s i 0 < 256) → get_or (take k s) j 0 < 256
+small-part zero s j h = omega arith
+small-part (suc k) [] j h = omega arith
+small-part (suc k) (b ∷ s) zero h = h 0
+small-part (suc k) (b ∷ s) (suc j) h = small-part k s j (λ i. h (suc i))
+
+-- k bytes of s, from place i + j on
+row : List ℕ → ℕ → ℕ → ℕ → List ℕ
+row s i j zero = []
+row s i j (suc k) = get_or s (i + j) 0 ∷ row s i (suc j) k
+
+row-taken : (s : List ℕ) (i j k : ℕ) → i + j + k ≤ length s → row s i j k ≡ take k (drop (i + j) s)
+unfolding row
+row-taken s i j zero h = refl
+row-taken s i j (suc k) h =
+    let n : i + suc j ≡ suc (i + j) = omega arith in
+    ap (λ (z : List ℕ). get_or s (i + j) 0 ∷ z) (row-taken s i (suc j) k (omega arith) ∙ ap (λ (z : ℕ). take k (drop z s)) n)
+    ∙ ap (take (suc k)) (sym (drop-cons s (i + j) 0 (omega arith)))
+
+low-first : (i k n : ℕ) → bytes_in k (n / 256 ^ suc i) ≡ bytes_low_first (suc i) k n
 unfolding bytes_in
-lowest h b k l = rw (low h 8 l, high h 8 l)
+low-first i zero n = refl
+low-first i (suc k) n =
+    let e : n / 256 ^ suc i / 256 ≡ n / 256 ^ suc (suc i) = div-div-eq-div-mul n (256 ^ suc i) 256 ∙ ap (λ (z : ℕ). n / z) (omega (arith, pow-suc 256 (suc i))) in
+    ap (λ (z : List ℕ). n / 256 ^ suc i % 256 ∷ z) (ap (bytes_in k) e ∙ low-first (suc i) k n)
 
--- j bytes and k behind them
-join : (j k a b : ℕ) → a < span j → bytes_in (j + k) (a + span j * b) ≡ bytes_in j a ++ bytes_in k b
+word-written : (n : ℕ) → bytes_in word_bytes n ≡ to_le_bytes w64 n
 unfolding bytes_in
-join zero k a b l =
-    let n : 0 + k ≡ k = omega arith in
-    let e : a + 1 * b ≡ b = omega arith in
-    ap (λ (z : ℕ). bytes_in z (a + 1 * b)) n ∙ ap (bytes_in k) e
-join (suc j) k a b l =
-    let n : suc j + k ≡ suc (j + k) = omega arith in
-    let s : span (suc j) ≡ 256 * span j = omega arith in
-    let m : 256 * span j * b ≡ 256 * (span j * b) = mul_assoc 256 (span j) b in
-    let e : a + 256 * (span j * b) ≡ (a / 256 + span j * b) * 256 + a % 256 = omega arith in
-    ap (λ (z : ℕ). bytes_in z (a + span (suc j) * b)) n
-    ∙ ap (bytes_in (suc (j + k))) (ap (λ (z : ℕ). a + z * b) s ∙ ap (λ (z : ℕ). a + z) m ∙ e)
-    ∙ lowest (a / 256 + span j * b) (a % 256) (j + k) (omega arith)
-    ∙ ap (λ (z : List ℕ). a % 256 ∷ z) (join j k (a / 256) b (omega arith))
+word-written n = ap (λ (z : List ℕ). n % 256 ∷ z) (low-first 0 7 n)
 
--- the byte of s at place i
-pub byte_at : (s : List ℕ) (i : ℕ) → i < length s → get_or s i 0 < 256 → bytes_in 1 (get_or s i 0) ≡ take 1 (drop i s)
-unfolding bytes_in
-byte_at s i h l =
-    let e : get_or s i 0 % 256 ≡ get_or s i 0 = omega arith in
-    ap (λ (z : ℕ). z ∷ []) e ∙ ap (take 1) (sym (drop-cons s i 0 h))
-
--- j bytes of s from place i on, and k behind them
-pub bytes-at : (s : List ℕ) (i j k a b : ℕ) → a < span j → bytes_in j a ≡ take j (drop i s) → bytes_in k b ≡ take k (drop (i + j) s)
-    → bytes_in (j + k) (a + span j * b) ≡ take (j + k) (drop i s)
-bytes-at s i j k a b l p q =
-    join j k a b l
-    ∙ ap (λ (z : List ℕ). z ++ bytes_in k b) p
-    ∙ ap (λ (z : List ℕ). take j (drop i s) ++ z) (q ∙ ap (take k) (sym (drop-drop j i s)))
-    ∙ sym (take-add j k (drop i s))
+-- the eight bytes of s from place i on
+pub word-bytes : (s : List ℕ) (i n : ℕ) → i + word_bytes ≤ length s → ((j : ℕ) → get_or s j 0 < 256)
+    → n ≡ from_le_bytes w64
+    (get_or s i 0 ∷ get_or s (i + 1) 0 ∷ get_or s (i + 2) 0 ∷ get_or s (i + 3) 0 ∷ get_or s (i + 4) 0 ∷ get_or s (i + 5) 0 ∷ get_or s (i + 6) 0 ∷ get_or s (i + 7) 0 ∷ [])
+    → bytes_in word_bytes n ≡ take word_bytes (drop i s)
+unfolding row
+word-bytes s i n h small is =
+    let t : List ℕ = take word_bytes (drop i s) in
+    let z : i + 0 ≡ i = omega arith in
+    let q : row s i 0 word_bytes ≡ take word_bytes (drop (i + 0) s) = row-taken s i 0 word_bytes (omega arith) in
+    let r = rw z at q in
+    let l : length t ≡ word_bytes = length-take-le word_bytes (drop i s) (omega (arith, length-drop i s)) in
+    let b : (j : ℕ) → get_or t j 0 < 256 = λ j. small-part word_bytes (drop i s) j (λ k. rw (get_or-drop i s k 0) (small (i + k))) in
+    word-written n ∙ le_bytes_8 t n l b (is ∙ ap (from_le_bytes w64) r)
 
 -- ---- several words
 

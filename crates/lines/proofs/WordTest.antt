@@ -81,10 +81,7 @@ all-marked (suc k) w l =
     ∙ ap (λ (z : ℕ). z + (n * 256 + bit_of (w % 256))) (lowest-marked (each newline k) (each 127 k) (w / 256) (w % 256) b)
     ∙ s
 
--- of a word: no sum is carried out of it, and this is left of all ones
-pub low_sums : (x : ℕ) → bit_and x (each 127 word_bytes) + each 127 word_bytes < 2 ^ 64
-low_sums x = omega (arith, and_le_r x (each 127 word_bytes))
-
+-- of a word: this is left of all ones
 pub word-bits : (w : ℕ) → w ≤ each 255 word_bytes → each 255 word_bytes - marked (each newline word_bytes) (each 127 word_bytes) w ≡ newline_bits (bytes_in word_bytes w)
 word-bits w l = omega (arith, all-marked word_bytes w l)
 

@@ -1,11 +1,9 @@
 -- What reading and writing a line owe to its form.
-use Rattle.std.specs.Prelude.{ℕ, ◌≡◌, Bool, ◌||◌, cond, List, [], ◌∷◌, ◌++◌, length, drop, replicate, ltb}
+use Rattle.std.specs.Prelude.{ℕ, ◌≡◌, Bool, ◌||◌, cond, List, [], ◌∷◌, ◌++◌, length, drop, replicate, ltb, Err, Ok, Result}
 use Rattle.types.specs.declared.Event.{Event}
 use Rattle.types.specs.declared.Setup.{Setup}
 use Rattle.types.specs.Quantities.{table_clocks}
 use Rattle.lines.specs.declared.Read.{Read}
-use Rattle.lines.specs.declared.Written.{Written}
-use Rattle.lines.specs.declared.Written.TheVariants.{Bytes, Refused}
 use Rattle.lines.specs.Forms.{newline, EventLine, SetupLine, trimmed}
 
 -- ---- reading
@@ -58,26 +56,26 @@ line form = form ++ (newline ∷ [])
 abbrev pub not_written : Bool → List ℕ → List ℕ → Bool
 not_written lacks form buffer = lacks || ltb (length buffer) (length (line form))
 
-unfoldable pub written_as : Bool → List ℕ → List ℕ → Written
-written_as lacks form buffer = cond (not_written lacks form buffer) (Refused 1) (Bytes (length (line form)))
+unfoldable pub written_as : Bool → List ℕ → List ℕ → Result ℕ ℕ
+written_as lacks form buffer = cond (not_written lacks form buffer) (Err 1) (Ok (length (line form)))
 
 -- "writing leaves lent bytes after the newline untouched"
 unfoldable pub written_in : Bool → List ℕ → List ℕ → List ℕ
 written_in lacks form buffer = cond (not_written lacks form buffer) buffer (line form ++ drop (length (line form)) buffer)
 
 -- that writing the form, or what lacks one, answered r and left `after` in the buffer
-abbrev pub Writes : Bool → List ℕ → List ℕ → Written → List ℕ → Type 0
+abbrev pub Writes : Bool → List ℕ → List ℕ → Result ℕ ℕ → List ℕ → Type 0
 Writes lacks form buffer r after = (r ≡ written_as lacks form buffer) × (after ≡ written_in lacks form buffer)
 
 -- document 01's number of each answer
-abbrev pub written_check : Written → ℕ
-written_check (Bytes k) = 0
-written_check (Refused r) = r
+abbrev pub written_check : Result ℕ ℕ → ℕ
+written_check (Ok k) = 0
+written_check (Err r) = r
 
 -- how many bytes were written
-abbrev pub written_bytes : Written → ℕ
-written_bytes (Bytes k) = k
-written_bytes (Refused r) = 0
+abbrev pub written_bytes : Result ℕ ℕ → ℕ
+written_bytes (Ok k) = k
+written_bytes (Err r) = 0
 
 -- that the words stand at the start of the lent bytes, k being their length, and the others are untouched
 pub record Put (words out : List ℕ) (k : ℕ) (after : List ℕ) : Type 0 where
@@ -91,6 +89,6 @@ abbrev pub too_few : ℕ → List ℕ → Bool
 too_few most out = ltb (length out) most
 
 -- that the text was printed into the lent bytes `out`: what was answered, and what they hold afterwards
-abbrev pub Prints : ℕ → List ℕ → List ℕ → Written → List ℕ → Type 0
+abbrev pub Prints : ℕ → List ℕ → List ℕ → Result ℕ ℕ → List ℕ → Type 0
 Prints most text out r after =
-    (r ≡ cond (too_few most out) (Refused 1) (Bytes (length text))) × (after ≡ cond (too_few most out) out (text ++ drop (length text) out))
+    (r ≡ cond (too_few most out) (Err 1) (Ok (length text))) × (after ≡ cond (too_few most out) out (text ++ drop (length text) out))

@@ -1,5 +1,5 @@
 -- The forms computed, as document 01 writes them, and where lines end. Assumes nothing.
-use Rattle.std.specs.Prelude.{◌≡◌, refl, Bool, true, false, List, [], ◌∷◌, ◌++◌, map, ℕ, replicate}
+use Rattle.std.specs.Prelude.{◌≡◌, refl, Bool, true, false, List, [], ◌∷◌, ◌++◌, map, ℕ, replicate, Err, Ok, Result}
 use Rattle.types.specs.declared.Answer.TheVariants as Answer
 use Rattle.types.specs.declared.Message.TheVariants.{View, Vote, Vc, Qc}
 use Rattle.types.specs.declared.Event.TheVariants.{Deliver, Sign, Show, Settle, Tick}
@@ -8,8 +8,6 @@ use Rattle.types.specs.declared.Setup.{Setup}
 use Rattle.types.specs.declared.Counts.{Counts}
 use Rattle.types.specs.declared.Totals.{Totals}
 use Rattle.types.specs.Traffic.{counts_of, no_counts, traffic_of, no_traffic}
-use Rattle.lines.specs.declared.Written.{Written}
-use Rattle.lines.specs.declared.Written.TheVariants.{Bytes, Refused}
 use Rattle.lines.specs.declared.Read.TheVariants as Read
 use Rattle.lines.specs.declared.Next.{Next}
 use Rattle.lines.specs.declared.Next.TheVariants.{Line, Long, Unfinished, Endless}
@@ -106,8 +104,8 @@ printed_rows-hold = refl
 
 -- ---- reports
 
-abbrev pub totals_with : Counts → Counts → ℕ → Counts → Totals
-totals_with sent delivered waits held = record { check = 0; traffic = traffic_of sent delivered waits; held = held }
+abbrev pub totals_with : Counts → Counts → ℕ → Counts → Result Totals ℕ
+totals_with sent delivered waits held = Ok (record { traffic = traffic_of sent delivered waits; held = held })
 
 -- of document 01's schedule; with no number twice; at 2^64; refused
 pub report_rows : List (List ℕ)
@@ -115,7 +113,7 @@ report_rows =
     totals_text (totals_with (counts_of 4 4 4 0) (counts_of 2 0 0 0) 0 (counts_of 2 4 4 0))
     ∷ totals_text (totals_with (counts_of 11 12 13 14) (counts_of 21 22 23 24) 41 (counts_of 31 32 33 34))
     ∷ totals_text (totals_with (counts_of 18446744073709551615 2 3 18446744073709551615) (counts_of 18446744073709551615 0 0 1) 18446744073709551615 (counts_of 0 0 0 5))
-    ∷ totals_text (record { check = 9; traffic = no_traffic; held = no_counts })
+    ∷ totals_text (Err 9)
     ∷ []
 
 pub report_bytes : List (List ℕ)
@@ -236,10 +234,10 @@ beyond-n = (refl, refl)
 abbrev pub brackets : List ℕ
 brackets = 40 ∷ 41 ∷ []
 
-pub written_answers : List Written
+pub written_answers : List (Result ℕ ℕ)
 written_answers = written_as false brackets (replicate 4 7) ∷ written_as false brackets (replicate 3 7) ∷ written_as false brackets (replicate 2 7) ∷ written_as true brackets (replicate 4 7) ∷ []
 
-pub written_answers-hold : written_answers ≡ (Bytes 3 ∷ Bytes 3 ∷ Refused 1 ∷ Refused 1 ∷ [])
+pub written_answers-hold : written_answers ≡ (Ok 3 ∷ Ok 3 ∷ Err 1 ∷ Err 1 ∷ [])
 unfolding written_answers written_as
 written_answers-hold = refl
 

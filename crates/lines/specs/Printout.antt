@@ -1,5 +1,5 @@
 -- "A schedule and its printout": the bytes of each printed line; and those of a report of the traffic.
-use Rattle.std.specs.Prelude.{ℕ, ◌*◌, cond, List, [], ◌∷◌, ◌++◌, eqb}
+use Rattle.std.specs.Prelude.{ℕ, ◌*◌, cond, List, [], ◌∷◌, ◌++◌, eqb, Result, Ok, Err}
 use Rattle.types.specs.declared.Answer.{Answer}
 use Rattle.types.specs.declared.Answer.TheVariants.{Done, Stopped, Refused}
 use Rattle.types.specs.declared.Counts.{Counts}
@@ -76,8 +76,9 @@ traffic_text x held =
     ++ line (waits_form x.waits (all_of x.delivered))
 
 -- a report that is refused is the line of its check
-unfoldable pub totals_text : Totals → List ℕ
-totals_text x = cond (eqb x.check 0) (traffic_text x.traffic x.held) (line (answer_form (Refused x.check)))
+unfoldable pub totals_text : Result Totals ℕ → List ℕ
+totals_text (Ok x) = traffic_text x.traffic x.held
+totals_text (Err check) = line (answer_form (Refused check))
 
 -- the most bytes of the word of a line, "traffic view", and the most numbers behind it
 abbrev pub report_word_most : ℕ

@@ -1,5 +1,5 @@
 -- What is promised of lines: one is written for each event, which words are reported where their ends are looked for, and how an input is cut into them.
-use Rattle.std.specs.Prelude.{ℕ, suc, ◌/◌, ◌%◌, ◌^◌, ◌≤◌, ◌<◌, ◌≡◌, Bool, true, false, ◌⊎◌, List, [], ◌∷◌, ◌++◌, map, length, take, drop}
+use Rattle.std.specs.Prelude.{ℕ, suc, ◌/◌, ◌%◌, ◌^◌, ◌≤◌, ◌<◌, ◌≡◌, Bool, true, false, ◌⊎◌, List, [], ◌∷◌, ◌++◌, map, length, take, drop, Result}
 use Rattle.std.proofs.Common.{inl, inr}
 use Rattle.base.specs.Members.{Every}
 use Rattle.types.specs.declared.Answer.{Answer}
@@ -12,7 +12,6 @@ use Rattle.lines.specs.declared.Next.{Next}
 use Rattle.lines.specs.declared.Next.TheVariants.{Line, Long, Unfinished, Endless}
 use Rattle.lines.specs.Forms.{newline, setup_form, usual_form, lacks_setup_form, setup_fields, Below, EventLine, SetupLine, trimmed}
 use Rattle.lines.specs.Printout.{answer_form, processor_form, printed_most, totals_text, totals_most}
-use Rattle.lines.specs.declared.Written.{Written}
 use Rattle.lines.specs.Clauses.{Reading, event_reading, opening_reading, read_check, Reads, line, Writes, written_check}
 use Rattle.lines.specs.Search.{word_bytes, reported}
 use Rattle.lines.specs.Splitting.{line_most, next_line, ended, lines_after, input_lines, cut_read}
@@ -41,7 +40,7 @@ JudgesLines f = (s : List ℕ) → Judges s (f s)
 -- check 1 of writing: "has no form .. or too few lent bytes", then and only then, and no byte changes; else the line stands in the buffer, and what was
 -- behind it still does
 abbrev pub JudgesWriting : Type 0
-JudgesWriting = (lacks : Bool) (form buffer : List ℕ) (r : Written) (after : List ℕ) → Writes lacks form buffer r after
+JudgesWriting = (lacks : Bool) (form buffer : List ℕ) (r : Result ℕ ℕ) (after : List ℕ) → Writes lacks form buffer r after
     → ((written_check r ≡ 0) × (lacks ≡ false) × (length (line form) ≤ length buffer) × (after ≡ line form ++ drop (length (line form)) buffer))
     ⊎ ((written_check r ≡ 1) × ((lacks ≡ true) ⊎ (length buffer < length (line form))) × (after ≡ buffer))
 
@@ -82,7 +81,7 @@ ShortProcessors = (p view clock : ℕ) → length (line (processor_form p view c
 
 -- and so many every report
 abbrev pub ShortReports : Type 0
-ShortReports = (x : Totals) → length (totals_text x) ≤ totals_most
+ShortReports = (x : Result Totals ℕ) → length (totals_text x) ≤ totals_most
 
 -- ---- words
 

@@ -16,13 +16,6 @@ pub enum Read {
     NoForm,
 }
 
-// The answer to writing a line: the bytes written, its newline among them, or the check.
-#[derive(Clone, Copy)]
-pub enum Written {
-    Bytes(usize),
-    Refused(u64),
-}
-
 // The next line within the bytes at hand. Line: it ends before the newline at the place named. Long: so it does, but it has more bytes than a line may
 // have. Unfinished: no newline is at hand. Endless: none, and already more bytes than a line may have.
 #[derive(Clone, Copy)]
@@ -40,29 +33,29 @@ const LINE_MOST: usize = 4800;
 pub fn before_newline(bytes: &[u8]) -> usize
     ensures { result ≡ before_newline bytes.now }
 {
-    let mut i = search::words_before(bytes);
-    while i < bytes.len() {
+    for i in search::words_before(bytes)..bytes.len() {
         if bytes[i] == b'\n' {
             return i;
         }
-        i += 1;
     }
-    i
+    bytes.len()
 }
 
 // The next line within the bytes at hand.
+#[tactic(auto, unfolding(crate::specs::Splitting::next_line))]
 pub fn next_line(bytes: &[u8]) -> Next
     ensures { result ≡ next_line bytes.now }
 {
     let end = before_newline(bytes);
     if end < bytes.len() {
         if end <= LINE_MOST {
-            return Next::Line(end);
+            Next::Line(end)
+        } else {
+            Next::Long(end)
         }
-        return Next::Long(end);
+    } else if bytes.len() <= LINE_MOST {
+        Next::Unfinished
+    } else {
+        Next::Endless
     }
-    if bytes.len() <= LINE_MOST {
-        return Next::Unfinished;
-    }
-    Next::Endless
 }

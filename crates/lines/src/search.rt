@@ -1,5 +1,5 @@
 // The search for a newline in words of eight bytes, from the start of the bytes at hand.
-ghost use Rattle.std.specs.Prelude.{◌≡◌, ◌+◌, ◌*◌, ◌/◌, ◌^◌, ◌≤◌, ◌<◌, min, length, take, drop};
+ghost use Rattle.std.specs.Prelude.{◌≡◌, ◌+◌, ◌*◌, ◌/◌, ◌≤◌, min, length, take, drop};
 ghost use Rattle.lines.specs.Splitting.{before_newline};
 ghost use Rattle.lines.specs.Search.{word_bytes, bytes_in, some_newline, reported};
 ghost use Rattle.lines.specs.Inner.{block_bytes, newline_bits};
@@ -37,39 +37,24 @@ pub fn has_newline(word: u64) -> bool
 fn first_in(word: u64) -> usize
     ensures { result ≡ before_newline (bytes_in word_bytes word) }
 {
-    (u64::trailing_zeros(newlines_in(word)) / 8) as usize
+    (newlines_in(word).trailing_zeros() / 8) as usize
 }
 
-// One byte as a number.
-fn byte_at(bytes: &[u8], i: usize) -> u64
-    requires { i < length bytes.now }
-    ensures { (bytes_in 1 result ≡ take 1 (drop i bytes.now)) × (result < 2 ^ 8) }
-{
-    bytes[i] as u64
-}
-
-// Two, the first of them lowest.
-fn pair_at(bytes: &[u8], i: usize) -> u64
-    requires { i + 2 ≤ length bytes.now }
-    ensures { (bytes_in 2 result ≡ take 2 (drop i bytes.now)) × (result < 2 ^ 16) }
-{
-    byte_at(bytes, i) + 256 * byte_at(bytes, i + 1)
-}
-
-// Four.
-fn quad_at(bytes: &[u8], i: usize) -> u64
-    requires { i + 4 ≤ length bytes.now }
-    ensures { (bytes_in 4 result ≡ take 4 (drop i bytes.now)) × (result < 2 ^ 32) }
-{
-    pair_at(bytes, i) + 65536 * pair_at(bytes, i + 2)
-}
-
-// Eight, which are a word.
+// Eight bytes as a word, the first of them lowest.
 fn word_at(bytes: &[u8], i: usize) -> u64
     requires { i + word_bytes ≤ length bytes.now }
     ensures { bytes_in word_bytes result ≡ take word_bytes (drop i bytes.now) }
 {
-    quad_at(bytes, i) + 4294967296 * quad_at(bytes, i + 4)
+    u64::from_le_bytes([
+        bytes[i],
+        bytes[i + 1],
+        bytes[i + 2],
+        bytes[i + 3],
+        bytes[i + 4],
+        bytes[i + 5],
+        bytes[i + 6],
+        bytes[i + 7],
+    ])
 }
 
 // Whether one of the bytes of four words is a newline.
@@ -89,15 +74,14 @@ fn blocks_before(bytes: &[u8]) -> usize
     requires { block_bytes ≤ before_newline bytes.now }
     ensures { result ≡ before_newline bytes.now / block_bytes * block_bytes }
 {
-    let end = bytes.len() / BLOCK_BYTES * BLOCK_BYTES;
-    let mut i = BLOCK_BYTES;
-    while i < end {
+    let blocks = bytes.len() / BLOCK_BYTES;
+    for block in 1..blocks {
+        let i = block * BLOCK_BYTES;
         if block_has_newline(bytes, i) {
             return i;
         }
-        i += BLOCK_BYTES;
     }
-    i
+    blocks * BLOCK_BYTES
 }
 
 // How many bytes stand before the first newline, none being before `from`; `end` where it is further on. A word starts at both.
@@ -105,6 +89,7 @@ fn words_until(bytes: &[u8], from: usize, end: usize) -> usize
     requires { (from ≤ before_newline bytes.now) × (from ≤ end) × (end ≤ length bytes.now) × (from ≡ from / word_bytes * word_bytes) × (end ≡ end / word_bytes * word_bytes) }
     ensures { result ≡ min (before_newline bytes.now) end }
 {
+    // A `for` over every eighth place, or one over the words, is slower: lines of 8 to 24 bytes take 7 and 27 hundredths more instructions.
     let mut i = from;
     while i < end {
         let word = word_at(bytes, i);
@@ -116,25 +101,16 @@ fn words_until(bytes: &[u8], from: usize, end: usize) -> usize
     i
 }
 
-// Where the words end that are looked at one by one, all of them ending at `end`.
-fn near_end(end: usize) -> usize
-    ensures { result ≡ min end block_bytes }
-{
-    if end < BLOCK_BYTES {
-        return end;
-    }
-    BLOCK_BYTES
-}
-
 // How many bytes stand before the first newline in a whole word; in all whole words where none has one. Most lines end within four words, so these are
 // looked at one by one, and only those behind them four a turn.
 pub(crate) fn words_before(bytes: &[u8]) -> usize
     ensures { result ≡ min (before_newline bytes.now) (length bytes.now / word_bytes * word_bytes) }
 {
     let end = bytes.len() / WORD_BYTES * WORD_BYTES;
-    let i = words_until(bytes, 0, near_end(end));
+    let i = words_until(bytes, 0, end.min(BLOCK_BYTES));
     if i < BLOCK_BYTES {
-        return i;
+        i
+    } else {
+        words_until(bytes, blocks_before(bytes), end)
     }
-    words_until(bytes, blocks_before(bytes), end)
 }

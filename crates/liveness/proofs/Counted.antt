@@ -3,6 +3,7 @@
 pub use Rattle.liveness.proofs.Sums.{sums-move}
 pub use Rattle.liveness.proofs.Fewness.{few-for-view}
 pub use Rattle.liveness.proofs.Unchecked.{sums-unchecked, opens-unchecked}
+use Rattle.std.specs.Prelude.{Ok, MatchResult}
 use mathlib.Core.Path.{◌≡◌, refl, sym, ap, ◌∙◌, subst}
 use mathlib.Core.Bool.{false}
 use mathlib.Core.List.{List}
@@ -103,12 +104,12 @@ unfolding totals
 report-is-history u before t es =
     let s : State = after (opening u before).state es in
     rw (reachable-sound s (record { setup = u; before = before; opens = t; events = es; is = refl }))
-    (ap (λ (x : Traffic). record { check = 0; traffic = x; held = held_counts s }) (sums-are-history u before t es))
+    (ap (λ (x : Traffic). Ok (record { traffic = x; held = held_counts s })) (sums-are-history u before t es))
 
 reported : (s : State) → unsound s ≡ false → s.run.traffic.sent ≡ both_counts s.run.traffic.delivered (held_counts s)
-    → let x = totals s in (x.check ≡ 0) × (x.traffic.sent ≡ both_counts x.traffic.delivered x.held)
+    → MatchResult (totals s) (λ x. x.traffic.sent ≡ both_counts x.traffic.delivered x.held) (λ check. ⊥)
 unfolding totals
-reported s sound e = rw sound (refl, e)
+reported s sound e = rw sound e
 
 pub report-adds : ReportAdds
 report-adds u before t es =

@@ -1,6 +1,6 @@
 -- What is promised of the traffic: of every run opened here and altered by events only, then of any run and buffers handed in. proofs/Counted.antt has
 -- a proof of each, under its name in small letters with hyphens.
-use Rattle.std.specs.Prelude.{◌≡◌, Bool, List, [], ◌∷◌, ℕ, ◌+◌, ◌*◌, ◌≤◌, T}
+use Rattle.std.specs.Prelude.{◌≡◌, Bool, List, [], ◌∷◌, ℕ, ◌+◌, ◌*◌, ◌≤◌, T, Ok, MatchResult}
 use Rattle.types.specs.declared.Message.{Message}
 use Rattle.types.specs.declared.Event.{Event}
 use Rattle.types.specs.declared.Setup.{Setup}
@@ -40,7 +40,7 @@ FewForView =
 abbrev pub ReportIsHistory : Type 0
 ReportIsHistory =
     (u : Setup) (before : State) → T (accepted (opening u before).answer) → (es : List Event)
-    → totals (after (opening u before).state es) ≡ history_totals u before es
+    → totals (after (opening u before).state es) ≡ Ok (history_totals u before es)
 
 -- and in what it tells sent is delivered plus held
 abbrev pub both_counts : Counts → Counts → Counts
@@ -49,7 +49,7 @@ both_counts a b = counts_of (a.views + b.views) (a.votes + b.votes) (a.vcs + b.v
 abbrev pub ReportAdds : Type 0
 ReportAdds =
     (u : Setup) (before : State) → T (accepted (opening u before).answer) → (es : List Event)
-    → let x = totals (after (opening u before).state es) in (x.check ≡ 0) × (x.traffic.sent ≡ both_counts x.traffic.delivered x.held)
+    → MatchResult (totals (after (opening u before).state es)) (λ x. x.traffic.sent ≡ both_counts x.traffic.delivered x.held) (λ check. ⊥)
 
 -- ---- of any run and buffers, opened here or not
 

@@ -1,5 +1,5 @@
 -- What a load chooses on a sound run: the delivery of a message held, a tick where none is overdue, or settling; each has a line. Assumes nothing.
-use Rattle.std.proofs.Common.{◌≡◌, ℕ, ◌%◌, ◌<◌, false, not, T, eqb, ltb, sym, refl, ap, subst, mod-lt, arith, ltb→lt, T_not}
+use Rattle.std.proofs.Common.{◌≡◌, ℕ, ◌%◌, ◌<◌, false, not, T, eqb, ltb, sym, refl, ap, subst, mod-lt, arith, ltb→lt, T_not, Some}
 use Rattle.base.specs.Scan.{some, first}
 use Rattle.base.specs.ScanLaws.{first_some}
 use Rattle.base.specs.Tests.{T-right, T_false, by_cond}
@@ -8,7 +8,6 @@ use Rattle.types.specs.declared.Event.{Event}
 use Rattle.types.specs.declared.Event.TheVariants.{Deliver, Settle, Tick}
 use Rattle.model.specs.State.{State, Held, room_in}
 use Rattle.model.specs.Checks.{held_is, is_at, time_unsound, overdue_at, overdue}
-use Rattle.buffers.specs.declared.Stored.TheVariants.{Holds}
 use Rattle.buffers.specs.Kinds.{stored}
 use Rattle.buffers.proofs.Storing.{held-stored}
 use Rattle.liveness.proofs.Flight.{held-itself}
@@ -31,7 +30,7 @@ module _ (s : State) (sound : SoundRun s) where
   -- what stands at a place within the messages held is a message, which names a view and a processor that there are
   pub record Holding (i : ℕ) : Type 0 where
     pub message : Message
-    pub is_stored : stored s.form s.network i ≡ Holds message
+    pub is_stored : stored s.form s.network i ≡ Some message
     pub shows : T (is_at s.form s.network message i)
     pub addressed : Addressed s.run.plan s.run.faulty message
 

@@ -1,60 +1,14 @@
--- What is chosen, found by trying: which message is late, and the first of them. Assumes nothing.
-use Rattle.std.proofs.Common.{◌≡◌, ℕ, suc, ◌+◌, ◌-◌, ◌*◌, ◌/◌, ◌%◌, ◌<◌, ◌≤◌, max, Bool, true, false, cond, not, ◌&&◌, ltb, leb, ◌≢◌, ◌⊎◌, sym, refl, ap, ◌∙◌, inl, inr, mul-le-mul_right, mod-lt, add-mul, one-mul, div-add-mod', add-one, arith, le-ltb, lt-ltb, le-leb}
-use borrow.Author.Tests.{lt-leb}
-use Rattle.base.specs.Tests.{le?}
+-- What is chosen, found by trying. Assumes nothing.
+use Rattle.std.proofs.Common.{◌≡◌, ℕ, ◌%◌, ◌<◌, ◌≤◌, Bool, true, false, cond, not, ◌&&◌, ltb, sym, refl, ap, ◌∙◌, le-ltb, lt-ltb}
 use Rattle.base.specs.Scan.{some, first}
 use Rattle.base.specs.ScanLaws.{some_first}
 use Rattle.base.specs.Choice.{cond_yes, cond_no, and_both, and-not-first, and-not-second}
-use Rattle.types.specs.declared.Plan.{Plan}
 use Rattle.types.specs.declared.Event.{Event}
 use Rattle.types.specs.declared.Event.TheVariants.{Tick}
 use Rattle.model.specs.State.{State}
-use Rattle.model.specs.Checks.{at_end, time_unsound, late, overdue_at, overdue}
+use Rattle.model.specs.Checks.{time_unsound, overdue_at, overdue}
 use Rattle.loads.specs.Draws.{next_seed, draw}
 use Rattle.loads.specs.Loads.{Point, delivery, refused_overdue, ticking, chosen, delivers, settle_due, settle_turn, step_turn, turn}
-
--- ---- a message
-
-pub not_late : (gst delta time sent : ℕ) → time < max sent gst → false ≡ late gst delta time sent
-not_late gst delta time sent l = let g : time < max sent gst + delta = omega arith in sym (lt-leb _ _ g)
-
-pub late-from : (gst delta time sent from : ℕ) → from ≡ max sent gst → from ≤ time → leb delta (time - from) ≡ late gst delta time sent
-late-from gst delta time sent from e l = go (le? delta (time - from))
-  where
-    go : (delta ≤ time - from) ⊎ (time - from < delta) → leb delta (time - from) ≡ late gst delta time sent
-    go (inl h) = let g : max sent gst + delta ≤ time = omega arith in le-leb _ _ h ∙ sym (le-leb _ _ g)
-    go (inr h) = let g : time < max sent gst + delta = omega arith in lt-leb _ _ h ∙ sym (lt-leb _ _ g)
-
--- ---- the end of the views, by a division that no plan overflows
-
-pub over_none : (plan : Plan) (time : ℕ) → plan.gamma ≡ 0 → true ≡ at_end plan time
-over_none plan time e = let z : plan.views * plan.gamma ≤ time = rw e (omega arith) in sym (le-leb _ _ z)
-
-pub over_by : (plan : Plan) (time : ℕ) → plan.gamma ≢ 0 → leb plan.views (time / plan.gamma) ≡ at_end plan time
-over_by plan time d = go (le? plan.views q)
-  where
-    g : ℕ
-    g = plan.gamma
-
-    q : ℕ
-    q = time / g
-
-    parts : q * g + time % g ≡ time
-    parts = div-add-mod' time g
-
-    rest : time % g < g
-    rest = mod-lt time (omega arith)
-
-    go : (plan.views ≤ q) ⊎ (q < plan.views) → leb plan.views q ≡ leb (plan.views * g) time
-    go (inl h) =
-        let l : plan.views * g ≤ q * g = mul-le-mul_right g h in
-        let m : plan.views * g ≤ time = omega (arith, parts) in
-        le-leb _ _ h ∙ sym (le-leb _ _ m)
-    go (inr h) =
-        let l : suc q * g ≤ plan.views * g = mul-le-mul_right g h in
-        let s : suc q * g ≡ q * g + g = ap (λ (k : ℕ). k * g) (sym (add-one q)) ∙ add-mul q 1 g ∙ ap (λ (k : ℕ). q * g + k) (one-mul g) in
-        let m : time < plan.views * g = omega (arith, parts, rest) in
-        lt-leb _ _ h ∙ sym (lt-leb _ _ m)
 
 -- ---- a tick, or what it becomes
 

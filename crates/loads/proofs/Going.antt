@@ -1,5 +1,5 @@
 -- A load written line by line: what is written, and the load that goes on from there, are the whole. Assumes nothing.
-use Rattle.std.proofs.Common.{◌≡◌, ℕ, ◌+◌, ◌-◌, ◌<◌, ◌≤◌, Bool, true, false, List, [], ◌∷◌, ◌++◌, length, sym, refl, ap, ◌∙◌, subst, append_assoc, append-nil, arith}
+use Rattle.std.proofs.Common.{◌≡◌, ℕ, ◌+◌, ◌-◌, ◌<◌, ◌≤◌, Bool, true, false, List, [], ◌∷◌, ◌++◌, length, sym, refl, ap, ◌∙◌, subst, append_assoc, append-nil, arith, Result}
 use borrow.Rule.Slice.PartMut.{mid_of, put_mid, same_len_mid}
 use Rattle.base.specs.Tests.{T_false, by_cond}
 use Rattle.types.specs.declared.Event.{Event}
@@ -11,7 +11,6 @@ use Rattle.liveness.specs.Promises.{Tabled}
 use Rattle.liveness.proofs.Answers.{no-yes}
 use Rattle.liveness.proofs.Judging.{by-applied}
 use Rattle.liveness.proofs.Promises.{refused-stays, events-last}
-use Rattle.lines.specs.declared.Written.{Written}
 use Rattle.lines.specs.Forms.{event_form}
 use Rattle.lines.specs.Clauses.{line, Writes, Put}
 use Rattle.lines.specs.Promises.{schedule_of}
@@ -98,7 +97,7 @@ module _ {steps settle : ℕ} {l : Load} {out : List ℕ} {x : Point} {at : ℕ}
           (subst (λ (j : Turn). accepted (applied j.event x.state).answer ≡ true → weight steps settle (turned j x) < weight steps settle x) (sym next)
           (weight-falls steps settle x more) a)
 
-      done_more : accepted (applied k.event x.state).answer ≡ true → (r : Written) (f : List ℕ)
+      done_more : accepted (applied k.event x.state).answer ≡ true → (r : Result ℕ ℕ) (f : List ℕ)
           → Writes (lacks_form k.event) (event_form k.event) (mid_of at (length after - at) after) r f → length f ≡ length (mid_of at (length after - at) after)
           → Going steps settle l out (turned k x) (at + bytes) (put_mid at (length after - at) after f)
       done_more a r f w n =
@@ -122,7 +121,7 @@ module _ {steps settle : ℕ} {l : Load} {out : List ℕ} {x : Point} {at : ℕ}
             tabled = kept.1;
           }
 
-      pub going_more : accepted h.answer ≡ true → (r : Written) (f : List ℕ)
+      pub going_more : accepted h.answer ≡ true → (r : Result ℕ ℕ) (f : List ℕ)
           → Writes (lacks_form k.event) (event_form k.event) (mid_of at (length after - at) after) r f → length f ≡ length (mid_of at (length after - at) after)
           → Going steps settle l out (point_of h.state k.seed (x.step + k.steps)) (at + bytes) (put_mid at (length after - at) after f)
       going_more y r f w n =

@@ -1,5 +1,5 @@
 -- "Schedules out of a seed number": what a step does, what ends a load, and the lines of a load.
-use Rattle.std.specs.Prelude.{ℕ, zero, suc, ◌+◌, ◌-◌, ◌%◌, Bool, true, false, cond, not, ◌&&◌, List, [], ◌∷◌, ◌++◌, length, ◌==◌, nat_lt}
+use Rattle.std.specs.Prelude.{ℕ, zero, suc, ◌+◌, ◌-◌, ◌%◌, Bool, true, false, cond, not, ◌&&◌, List, [], ◌∷◌, ◌++◌, length, ◌==◌, nat_lt, None, Option, Some}
 use Rattle.base.specs.Scan.{first}
 use Rattle.types.specs.declared.Event.{Event}
 use Rattle.types.specs.declared.Event.TheVariants.{Deliver, Settle, Tick}
@@ -8,13 +8,12 @@ use Rattle.model.specs.State.{State, accepted}
 use Rattle.model.specs.Checks.{time_unsound, unsound_for_good, overdue_at, overdue}
 use Rattle.model.specs.Opening.{opening}
 use Rattle.model.specs.Events.{applied}
-use Rattle.buffers.specs.declared.Stored.{Stored}
-use Rattle.buffers.specs.declared.Stored.TheVariants.{Holds, Unknown}
 use Rattle.buffers.specs.Kinds.{stored}
 use Rattle.lines.specs.Forms.{event_form, setup_form}
 use Rattle.lines.specs.Clauses.{line}
 use Rattle.loads.specs.declared.Turn.{Turn}
 use Rattle.loads.specs.Draws.{next_seed, draw}
+use Rattle.types.specs.declared.Message.{Message}
 
 -- where a load stands: the run and the lent buffers, the seed, and the number of the next step, "from 0"
 pub record Point : Type 0 where
@@ -28,9 +27,9 @@ point_of s seed step = record { state = s; seed = seed; step = step }
 -- ---- one step
 
 -- the delivery of a stored message. Check 9 refuses a run that holds words of no kind; 0 ticks stand for their delivery, which check 1 refuses
-abbrev pub delivery_of : Stored → Event
-delivery_of (Holds m) = Deliver m
-delivery_of Unknown = Tick 0
+abbrev pub delivery_of : Option Message → Event
+delivery_of (Some m) = Deliver m
+delivery_of None = Tick 0
 
 -- of the message held at place i
 abbrev pub delivery : State → ℕ → Event

@@ -1,7 +1,7 @@
 // What a load out of a seed number does next: the draws, and the event that they choose.
 #![tactic(auto)]
 
-ghost use Rattle.std.specs.Prelude.{◌≡◌, ℕ, ◌*◌, ◌%◌, ◌^◌, not, ◌&&◌, List, if◌then◌else◌, ◌==◌};
+ghost use Rattle.std.specs.Prelude.{◌≡◌, ℕ, ◌*◌, ◌%◌, ◌^◌, ◌<◌, MatchOption, not, ◌&&◌, List, if◌then◌else◌, ◌==◌};
 ghost use Rattle.base.specs.Scan.{first};
 ghost use Rattle.types.specs.Runs.{is_settled};
 ghost use Rattle.model.specs.State.{state_of, run_from};
@@ -10,7 +10,6 @@ ghost use Rattle.buffers.specs.Kinds.{stored};
 ghost use Rattle.loads.specs.Draws.{next_seed, draw};
 ghost use Rattle.loads.specs.Loads.{point_of, delivery_of, ticking, step_turn, turn};
 
-use buffers::Stored;
 use types::{Event, Form, Head, Plan};
 
 // The next event of a load, the seed after it, and how many steps it is: 1, or 0 where the load settles.
@@ -26,35 +25,27 @@ const MULTIPLIER: u64 = 6364136223846793005;
 
 const INCREMENT: u64 = 1442695040888963407;
 
-// 2^32: a number is its upper half times this, and its lower half.
-const HALF: u64 = 4294967296;
-
 // ---- draws
 
-// a * b, modulo 2^64: by halves of 32 bits, of which the product of the upper two is beyond.
+// a * b, modulo 2^64: document 01 names an own wrapping multiply, so the library's has a name here.
 fn wrapping_mul(a: u64, b: u64) -> u64
     ensures { result ≡ a * b % 2 ^ 64 }
 {
-    let low = a % HALF;
-    let high = a / HALF;
-    let low_other = b % HALF;
-    let high_other = b / HALF;
-    let crossed = std::num::wrapping_add_u64(high * low_other, low * high_other);
-    std::num::wrapping_add_u64(low * low_other, crossed % HALF * HALF)
+    a.wrapping_mul(b)
 }
 
 // The next seed.
 fn next_seed(s: u64) -> u64
     ensures { result ≡ next_seed s }
 {
-    std::num::wrapping_add_u64(wrapping_mul(s, MULTIPLIER), INCREMENT)
+    wrapping_mul(s, MULTIPLIER).wrapping_add(INCREMENT)
 }
 
 // The draw of a new seed.
 fn drawn(s: u64) -> u64
     ensures { result ≡ draw s }
 {
-    s / HALF
+    s >> 32
 }
 
 // ---- what is chosen
@@ -63,39 +54,29 @@ fn drawn(s: u64) -> u64
 fn is_late(gst: u64, delta: u64, time: u64, sent: u64) -> bool
     ensures { result ≡ late gst delta time sent }
 {
-    if time < sent {
-        return false;
-    }
-    if time < gst {
-        return false;
-    }
-    if sent < gst {
-        return delta <= time - gst;
-    }
-    delta <= time - sent
+    let since = sent.max(gst);
+    since <= time && delta <= time - since
 }
 
-// The first of the held messages that is late, or how many are held.
-fn first_late(gst: u64, delta: u64, time: u64, held: usize, network: &[u64]) -> usize
-    ensures { result ≡ first (late_at gst delta time Form.Packed network.now) held }
+// The first of the held messages that is late. By a loop, since `first` counts up from place 0, as the loop does; the library's `find` and `position` speak of a list.
+fn first_late(gst: u64, delta: u64, time: u64, held: usize, network: &[u64]) -> Option<usize>
+    ensures { MatchOption result (first (late_at gst delta time Form.Packed network.now) held ≡ held) (λ i. (first (late_at gst delta time Form.Packed network.now) held ≡ i) × (i < held)) }
 {
-    let mut i = 0;
-    while i < held {
+    for i in 0..held {
         if is_late(gst, delta, time, buffers::sent(Form::Packed, network, i)) {
-            return i;
+            return Some(i);
         }
-        i += 1;
     }
-    held
+    None
 }
 
-// The delivery of message i.
+// The delivery of message i; 0 ticks, which check 1 refuses, where its words are of no kind.
 fn delivery(network: &[u64], i: usize) -> Event
     ensures { result ≡ delivery_of (stored Form.Packed network.now i) }
 {
     match buffers::decode(Form::Packed, network, i) {
-        Stored::Holds(message) => Event::Deliver(message),
-        Stored::Unknown => Event::Tick(0),
+        Some(message) => Event::Deliver(message),
+        None => Event::Tick(0),
     }
 }
 
@@ -103,10 +84,7 @@ fn delivery(network: &[u64], i: usize) -> Event
 fn is_over(plan: Plan, time: u64) -> bool
     ensures { result ≡ at_end plan time }
 {
-    if plan.gamma == 0 {
-        return true;
-    }
-    plan.views <= time / plan.gamma
+    plan.gamma == 0 || plan.views <= time / plan.gamma
 }
 
 // What becomes of a tick where message i is the first that is overdue.
@@ -114,9 +92,10 @@ fn substitute(plan: Plan, time: u64, network: &[u64], i: usize) -> Event
     ensures { result ≡ (if at_end plan time then Event.Tick 1 else delivery_of (stored Form.Packed network.now i)) }
 {
     if is_over(plan, time) {
-        return Event::Tick(1);
+        Event::Tick(1)
+    } else {
+        delivery(network, i)
     }
-    delivery(network, i)
 }
 
 // A tick, or what it becomes.
@@ -124,8 +103,7 @@ fn tick_or_deliver(head: Head, network: &[u64]) -> Event
     ensures { (c v t : List ℕ) → result ≡ ticking (state_of (run_from head c v) t network.now) }
 {
     if head.settled == 1 {
-        let i = first_late(head.gst, head.plan.delta, head.time, head.held, network);
-        if i < head.held {
+        if let Some(i) = first_late(head.gst, head.plan.delta, head.time, head.held, network) {
             return substitute(head.plan, head.time, network, i);
         }
     }
@@ -137,26 +115,20 @@ fn step(head: Head, seed: u64, network: &[u64]) -> Turn
     ensures { (c v t : List ℕ) (k : ℕ) → result ≡ step_turn (point_of (state_of (run_from head c v) t network.now) seed k) }
 {
     let once = next_seed(seed);
-    if head.held == 0 {
-        return Turn {
-            event: Event::Tick(1),
-            seed: once,
-            steps: 1,
-        };
-    }
-    if drawn(once) % 4 < 2 {
+    if 0 < head.held && drawn(once) % 4 < 2 {
         let twice = next_seed(once);
         let i = drawn(twice) % (head.held as u64);
-        return Turn {
+        Turn {
             event: delivery(network, i as usize),
             seed: twice,
             steps: 1,
-        };
-    }
-    Turn {
-        event: tick_or_deliver(head, network),
-        seed: once,
-        steps: 1,
+        }
+    } else {
+        Turn {
+            event: tick_or_deliver(head, network),
+            seed: once,
+            steps: 1,
+        }
     }
 }
 
@@ -164,10 +136,7 @@ fn step(head: Head, seed: u64, network: &[u64]) -> Turn
 fn settle_due(next: u64, settle: u64, settled: u64) -> bool
     ensures { result ≡ (next == settle && not (is_settled settled)) }
 {
-    if next == settle {
-        return settled != 1;
-    }
-    false
+    next == settle && settled != 1
 }
 
 // What the load does next.
@@ -175,11 +144,12 @@ pub fn next_turn(head: Head, seed: u64, next: u64, settle: u64, network: &[u64])
     ensures { (c v t : List ℕ) → result ≡ turn settle (point_of (state_of (run_from head c v) t network.now) seed next) }
 {
     if settle_due(next, settle, head.settled) {
-        return Turn {
+        Turn {
             event: Event::Settle,
-            seed: seed,
+            seed,
             steps: 0,
-        };
+        }
+    } else {
+        step(head, seed, network)
     }
-    step(head, seed, network)
 }

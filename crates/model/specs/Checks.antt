@@ -1,5 +1,5 @@
 -- "Checks, in order": each its own predicate, true where its sentence holds.
-use Rattle.std.specs.Prelude.{Bool, false, not, ◌&&◌, ◌||◌, cond, List, [], ◌∷◌, ℕ, ◌+◌, ◌*◌, ◌^◌, max, eqb, leb, ltb, length, get_or, drop}
+use Rattle.std.specs.Prelude.{Bool, false, not, ◌&&◌, ◌||◌, cond, List, [], ◌∷◌, ℕ, ◌+◌, ◌*◌, ◌^◌, max, eqb, leb, ltb, length, get_or, drop, zero, suc, Result, Ok, Err}
 use Rattle.base.specs.Count.{count}
 use Rattle.base.specs.Scan.{some, first}
 use Rattle.base.specs.Sets.{member, size}
@@ -20,6 +20,16 @@ Check = ℕ × Bool
 abbrev pub judged : {A : Type 0} → (ℕ → A) → List Check → A → A
 judged refusal [] a = a
 judged refusal (c ∷ cs) a = cond c.1 (refusal c.0) (judged refusal cs a)
+
+-- what a check's number comes to: 0 passes, any other refuses
+abbrev pub passed : ℕ → Result (Unit {0}) ℕ
+passed zero = Ok tt
+passed (suc k) = Err (suc k)
+
+-- the check that refuses, or 0
+abbrev pub refusal : {A : Type 0} → Result A ℕ → ℕ
+refusal (Ok x) = 0
+refusal (Err k) = k
 
 -- 1 is judged of the event alone: `lacks_form` (types)
 

@@ -2,14 +2,13 @@
 -- and what of check 9 lasts.
 -- Each row, its right side taken from document 01 and, for the network's words, from document 02's "Tighter post", shuts out the wrong number or
 -- order that its comment is about. Assumes nothing.
-use Rattle.std.specs.Prelude.{◌≡◌, refl, true, false, List, [], ◌∷◌, ◌++◌, map, length, replicate}
+use Rattle.std.specs.Prelude.{◌≡◌, refl, true, false, List, [], ◌∷◌, ◌++◌, map, length, replicate, Err, Ok}
 use Rattle.types.specs.declared.Message.TheVariants.{View, Vote, Vc, Qc}
 use Rattle.types.specs.declared.Event.TheVariants.{Deliver, Sign, Show, Settle, Tick}
 use Rattle.types.specs.declared.Answer.TheVariants.{Done, Stopped, Refused}
 use Rattle.types.specs.declared.Form.TheVariants.{Packed}
 use Rattle.types.specs.declared.Input.TheVariants as input
 use Rattle.types.specs.declared.Sends.TheVariants.{Nothing, Vote as VoteFor, ViewAndVote}
-use Rattle.types.specs.declared.Stepped.TheVariants as step
 use Rattle.types.specs.Traffic.{no_traffic}
 use Rattle.model.specs.State.{State, state_of, with_network, run_of, check_of, held_of, accepted}
 use Rattle.model.specs.Checks.{lengths_outside, unsound_for_good}
@@ -88,10 +87,10 @@ meanings =
     ∷ truth (accepted (Stopped 2 10 16)) true
     -- the messages and the check that one processor's answer stands for
     ∷ (
-      map fields_of (sent_in 2 (step.Sent (ViewAndVote 3)) ++ sent_in 2 (step.Sent (VoteFor 1)) ++ sent_in 2 (step.Sent Nothing) ++ sent_in 2 (step.Refused 17)),
+      map fields_of (sent_in 2 (Ok (ViewAndVote 3)) ++ sent_in 2 (Ok (VoteFor 1)) ++ sent_in 2 (Ok Nothing) ++ sent_in 2 (Err 17)),
       (1 ∷ 3 ∷ 2 ∷ []) ∷ (2 ∷ 3 ∷ 2 ∷ []) ∷ (2 ∷ 1 ∷ 2 ∷ []) ∷ [],
     )
-    ∷ words (check_in (step.Refused 17) ∷ check_in (step.Sent Nothing) ∷ []) (17 ∷ 0 ∷ [])
+    ∷ words (check_in (Err 17) ∷ check_in (Ok Nothing) ∷ []) (17 ∷ 0 ∷ [])
     ∷ []
 
 -- ---- what of check 9 lasts

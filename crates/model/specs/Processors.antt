@@ -1,5 +1,5 @@
 -- "At the cabinet's own face": one processor moved by rules 1 to 3.
-use Rattle.std.specs.Prelude.{◌≡◌, refl, Bool, true, false, ◌||◌, List, [], ◌∷◌, ◌++◌, ℕ, ◌+◌, eqb}
+use Rattle.std.specs.Prelude.{◌≡◌, refl, Bool, true, false, ◌||◌, List, [], ◌∷◌, ◌++◌, ℕ, ◌+◌, eqb, Err, Ok, Result}
 use Rattle.types.specs.declared.Plan.{Plan}
 use Rattle.types.specs.declared.Message.{Message}
 use Rattle.types.specs.declared.Message.TheVariants.{View, Vote}
@@ -8,8 +8,6 @@ use Rattle.types.specs.declared.Input.{Input}
 use Rattle.types.specs.declared.Input.TheVariants.{Tick, Vc, Qc}
 use Rattle.types.specs.declared.Sends.{Sends}
 use Rattle.types.specs.declared.Sends.TheVariants.{Nothing, Vote as VoteFor, ViewAndVote}
-use Rattle.types.specs.declared.Stepped.{Stepped}
-use Rattle.types.specs.declared.Stepped.TheVariants.{Sent, Refused}
 use Rattle.types.specs.Messages.{view_stage, vote_stage}
 use Rattle.model.specs.Moves.{Entry, stay, into, entry_clock, entry_messages, by_clock, by_quorum, by_view}
 use Rattle.model.specs.Checks.{Check, judged, plan_outside, clock_outside, no_processor, no_view, not_initial, at_end}
@@ -27,20 +25,20 @@ messages_of p Nothing = []
 messages_of p (VoteFor w) = Vote w p ∷ []
 messages_of p (ViewAndVote w) = View w p ∷ Vote w p ∷ []
 
-abbrev pub sent_in : ℕ → Stepped → List Message
-sent_in p (Sent x) = messages_of p x
-sent_in p (Refused r) = []
+abbrev pub sent_in : ℕ → Result Sends ℕ → List Message
+sent_in p (Ok x) = messages_of p x
+sent_in p (Err r) = []
 
-abbrev pub check_in : Stepped → ℕ
-check_in (Sent x) = 0
-check_in (Refused r) = r
+abbrev pub check_in : Result Sends ℕ → ℕ
+check_in (Ok x) = 0
+check_in (Err r) = r
 
-abbrev pub accepted_in : Stepped → Bool
-accepted_in (Sent x) = true
-accepted_in (Refused r) = false
+abbrev pub accepted_in : Result Sends ℕ → Bool
+accepted_in (Ok x) = true
+accepted_in (Err r) = false
 
 -- that a function left the processor c and answered a, as m says
-pub record Gives (m : Moved) (c : Processor) (a : Stepped) : Type 0 where
+pub record Gives (m : Moved) (c : Processor) (a : Result Sends ℕ) : Type 0 where
   pub processor : c ≡ m.processor
   pub sent : sent_in c.number a ≡ m.sent
   pub check : check_in a ≡ m.check

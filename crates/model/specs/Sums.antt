@@ -1,6 +1,6 @@
 -- Computed vectors: the traffic of runs, by their reports and by their histories. Each row, its right side taken from document 02's sentences and
 -- document 01's rules, shuts out the wrong sum that its comment is about. Assumes nothing.
-use Rattle.std.specs.Prelude.{◌≡◌, refl, false, List, [], ◌∷◌, ◌++◌, ℕ, ◌-◌, ◌^◌, length, replicate}
+use Rattle.std.specs.Prelude.{◌≡◌, refl, false, List, [], ◌∷◌, ◌++◌, ℕ, ◌-◌, ◌^◌, length, replicate, Result, Ok, Err}
 use Rattle.types.specs.declared.Message.TheVariants.{View, Vote, Qc}
 use Rattle.types.specs.declared.Event.{Event}
 use Rattle.types.specs.declared.Event.TheVariants.{Deliver, Sign, Show, Settle, Tick}
@@ -17,9 +17,14 @@ use Rattle.model.specs.Rows.{definitions, standard, zeroes, setup_of, lent, buff
 
 -- ---- what is told
 
--- the check; sent, delivered, the sum of waits, held
-abbrev pub totals_numbers : Totals → List (List ℕ)
-totals_numbers x = (x.check ∷ []) ∷ (traffic_numbers x.traffic ++ (count_numbers x.held ∷ []))
+-- sent, delivered, the sum of waits, held
+abbrev pub told_numbers : Totals → List (List ℕ)
+told_numbers x = traffic_numbers x.traffic ++ (count_numbers x.held ∷ [])
+
+-- 0 and these, or the check that refuses
+abbrev pub totals_numbers : Result Totals ℕ → List (List ℕ)
+totals_numbers (Ok x) = (0 ∷ []) ∷ told_numbers x
+totals_numbers (Err c) = (c ∷ []) ∷ []
 
 abbrev pub reported_as : List ℕ → List ℕ → ℕ → List ℕ → List (List ℕ)
 reported_as sent delivered waits held = (0 ∷ []) ∷ sent ∷ delivered ∷ (waits ∷ []) ∷ held ∷ []
@@ -27,7 +32,7 @@ reported_as sent delivered waits held = (0 ∷ []) ∷ sent ∷ delivered ∷ (w
 -- an opening and the events after it: the report, and the history beside it
 abbrev pub both_tell : State → Setup → List Event → List ℕ → List ℕ → ℕ → List ℕ → Row
 both_tell before u es sent delivered waits held = (
-  totals_numbers (totals (after (opening u before).state es)) ++ totals_numbers (history_totals u before es),
+  totals_numbers (totals (after (opening u before).state es)) ++ ((0 ∷ []) ∷ told_numbers (history_totals u before es)),
   reported_as sent delivered waits held ++ reported_as sent delivered waits held,
 )
 
@@ -93,11 +98,11 @@ sums =
     -- "(unsound: 9)": a message sent later than now, or the time alone; a refused report tells nothing
     ∷ (
       totals_numbers (totals (with_sums brimful.run.traffic (handed_in standard 0 1 false 0 2 zeroes zeroes [] (1 ∷ 2 ∷ 67 ∷ 2 ∷ [])))),
-      (9 ∷ []) ∷ none ∷ none ∷ (0 ∷ []) ∷ none ∷ [],
+      (9 ∷ []) ∷ [],
     )
     ∷ (
       totals_numbers (totals (with_sums brimful.run.traffic (handed_in standard 0 24 false 0 0 (replicate 4 5) zeroes [] []))),
-      (9 ∷ []) ∷ none ∷ none ∷ (0 ∷ []) ∷ none ∷ [],
+      (9 ∷ []) ∷ [],
     )
     -- "for any one view at most 2n": so many of either stage for view 0, and none for another
     ∷ number (of_view view_stage 0 (ever_posted plain buffers printed_events)) 8

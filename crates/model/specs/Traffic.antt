@@ -1,5 +1,5 @@
 -- "How much the cabinets talk": what the events of a list post and deliver, and a report of the sums.
-use Rattle.std.specs.Prelude.{Bool, true, false, not, ◌&&◌, cond, List, [], ◌∷◌, ◌++◌, ℕ, zero, suc, ◌+◌, eqb}
+use Rattle.std.specs.Prelude.{Bool, true, false, not, ◌&&◌, cond, List, [], ◌∷◌, ◌++◌, ℕ, zero, suc, ◌+◌, eqb, Result, Ok, Err}
 use Rattle.base.specs.Count.{bit, count}
 use Rattle.types.specs.declared.Message.{Message}
 use Rattle.types.specs.declared.Event.{Event}
@@ -118,13 +118,10 @@ abbrev pub history_totals : Setup → State → List Event → Totals
 history_totals u before es =
     let s = (opening u before).state in
     record {
-      check = 0;
       traffic = traffic_of (counts_in (ever_posted u before es)) (counts_in (delivered_during s es)) (waits_during s es);
       held = held_counts (after s es);
     }
 
 -- "In a run handed in (unsound: 9) the sums go unchecked"; a refused report tells nothing
-unfoldable pub totals : State → Totals
-totals s =
-    cond (unsound s) (record { check = 9; traffic = no_traffic; held = no_counts })
-    (record { check = 0; traffic = s.run.traffic; held = held_counts s })
+unfoldable pub totals : State → Result Totals ℕ
+totals s = cond (unsound s) (Err 9) (Ok (record { traffic = s.run.traffic; held = held_counts s }))

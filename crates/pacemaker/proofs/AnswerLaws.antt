@@ -1,4 +1,5 @@
 -- For callers: what a step does of a sound processor below n, and what its answer says. Assumes nothing.
+use Rattle.std.specs.Prelude.{Err, Ok}
 use mathlib.Core.Path.{◌≡◌, refl, sym, ap, ◌∙◌}
 use mathlib.Core.Bool.{Bool, true, false, ◌&&◌}
 use Prim.Native.Nat.{ℕ, ◌+◌, ◌/◌, ◌%◌, ◌<◌}
@@ -13,7 +14,6 @@ use Rattle.types.specs.declared.Processor.{Processor}
 use Rattle.types.specs.declared.Input.{Input}
 use Rattle.types.specs.declared.Input.TheVariants.{Tick, Vc, Qc}
 use Rattle.types.specs.declared.Sends.{Sends}
-use Rattle.types.specs.declared.Stepped.TheVariants.{Sent, Refused}
 use Rattle.types.specs.Quantities.{initial, clock_time}
 use Rattle.model.specs.Moves.{Entry, stay, into}
 use Rattle.model.specs.Checks.{at_end}
@@ -23,16 +23,16 @@ use Rattle.pacemaker.proofs.StepLaws.{ends, goes_on, certified, voted, is-steppi
 
 -- ---- what an answer says
 
-pub sent-check : {m : Moved} {c : Processor} {x : Sends} → Gives m c (Sent x) → m.check ≡ 0
+pub sent-check : {m : Moved} {c : Processor} {x : Sends} → Gives m c (Ok x) → m.check ≡ 0
 sent-check g = sym g.check
 
-pub sent-messages : {m : Moved} {c : Processor} {x : Sends} → Gives m c (Sent x) → messages_of c.number x ≡ m.sent
+pub sent-messages : {m : Moved} {c : Processor} {x : Sends} → Gives m c (Ok x) → messages_of c.number x ≡ m.sent
 sent-messages g = g.sent
 
-pub refused-check : {m : Moved} {c : Processor} {r : ℕ} → Gives m c (Refused r) → r ≡ m.check
+pub refused-check : {m : Moved} {c : Processor} {r : ℕ} → Gives m c (Err r) → r ≡ m.check
 refused-check g = g.check
 
-pub refused-some : {m : Moved} {c : Processor} {r : ℕ} → Gives m c (Refused r) → 0 < m.check
+pub refused-some : {m : Moved} {c : Processor} {r : ℕ} → Gives m c (Err r) → 0 < m.check
 refused-some {m = m} g = let ne : m.check ≡ 0 → ⊥ = eqb-false m.check 0 (sym g.accepted) in omega arith
 
 -- ---- a step of a sound processor below n
@@ -52,14 +52,14 @@ module _ (plan : Plan) (c : Processor) (i : Input) (sound : processor_unsound pl
   stops e = sym (ends plan c (moving_by plan c i) e ∙ is-ending plan c i named ∙ is-stepping plan c i sound below-n)
 
   -- so the answer tells which
-  pub sent-before-end : (d : Processor) (x : Sends) → Gives (stepped plan c i) d (Sent x) → at_end plan (moving_by plan c i).processor.clock ≡ false
+  pub sent-before-end : (d : Processor) (x : Sends) → Gives (stepped plan c i) d (Ok x) → at_end plan (moving_by plan c i).processor.clock ≡ false
   sent-before-end d x g = go (at_end plan (moving_by plan c i).processor.clock) refl
     where
       go : (t : Bool) → at_end plan (moving_by plan c i).processor.clock ≡ t → t ≡ false
       go true e = let z : (stepped plan c i).check ≡ 17 = ap (λ (m : Moved). m.check) (stops e) in absurd (omega (arith, sent-check g))
       go false e = refl
 
-  pub refused-at-end : (d : Processor) (r : ℕ) → Gives (stepped plan c i) d (Refused r) → (r ≡ 17) × (at_end plan (moving_by plan c i).processor.clock ≡ true)
+  pub refused-at-end : (d : Processor) (r : ℕ) → Gives (stepped plan c i) d (Err r) → (r ≡ 17) × (at_end plan (moving_by plan c i).processor.clock ≡ true)
   refused-at-end d r g = go (at_end plan (moving_by plan c i).processor.clock) refl
     where
       go : (t : Bool) → at_end plan (moving_by plan c i).processor.clock ≡ t → (r ≡ 17) × (t ≡ true)

@@ -1,14 +1,15 @@
 -- What checks 2 to 4 and 9 let pass at one processor's own face. Assumes nothing.
-use mathlib.Core.Path.{◌≡◌, refl, sym, ap, ◌∙◌}
+use mathlib.Core.Path.{◌≡◌, refl, sym}
 use mathlib.Core.Logic.{⊎_elim}
 use mathlib.Core.Bool.{Bool, true, false, not, ◌||◌, cond}
 use Prim.Native.Nat.{ℕ, ◌≤◌, ◌<◌}
+use Rattle.std.specs.Prelude.{Err, Ok, Result}
 use native.Mathlib.Omega.{arith}
 use native.Mathlib.Nat.{mul-le-mul, mul-le-mul_right, lt_of_mul-lt-mul_right}
 use lib.Dec.{leb, ltb}
-use borrow.Author.Tests.{ltb-false, leb-false, not-false, lt-ltb, le-ltb, le-leb, lt-leb}
+use borrow.Author.Tests.{ltb-false, leb-false, not-false, lt-ltb, le-leb}
 use Rattle.base.specs.Tests.{le?}
-use Rattle.base.specs.Choice.{or-first, or-second, or-neither, or-rest, or_parts}
+use Rattle.base.specs.Choice.{or-first, or-second, or_parts}
 use Rattle.types.specs.declared.Plan.{Plan}
 use Rattle.types.specs.declared.Processor.{Processor}
 use Rattle.types.specs.Quantities.{n_least, n_most, delta_least, delta_most, gamma_least, gamma_most, views_least, views_most, per_leader, per_leader_least, per_leader_most, turn_start, next_initial, clock_time, end_time}
@@ -21,23 +22,14 @@ use Rattle.pacemaker.specs.Limits.{plan_check, Within, Sound, time_most}
 
 -- ---- checks 2 to 4
 
-some-check : (a b c : Bool) → 0 < cond a 2 (cond b 3 (cond c 4 0)) → (a || b || c) ≡ true
-some-check true b c l = refl
-some-check false true c l = refl
-some-check false false true l = refl
-some-check false false false l = absurd (omega arith)
-
-no-check : (a b c : Bool) → cond a 2 (cond b 3 (cond c 4 0)) ≤ 0 → (a || b || c) ≡ false
-no-check true b c l = absurd (omega arith)
-no-check false true c l = absurd (omega arith)
-no-check false false true l = absurd (omega arith)
-no-check false false false l = refl
-
-pub check-refuses : (p : Plan) → 0 < plan_check p → plan_outside p ≡ true
-check-refuses p l = some-check (n_outside p) (delays_outside p) (views_outside p) l
-
-pub check-passes : (p : Plan) → plan_check p ≤ 0 → plan_outside p ≡ false
-check-passes p l = no-check (n_outside p) (delays_outside p) (views_outside p) l
+pub check-passes : (p : Plan) → plan_check p ≡ Ok tt → plan_outside p ≡ false
+check-passes p e = go (n_outside p) (delays_outside p) (views_outside p) e
+  where
+    go : (a b c : Bool) → cond {A = Result (Unit {0}) ℕ} a (Err 2) (cond b (Err 3) (cond c (Err 4) (Ok tt))) ≡ Ok tt → (a || b || c) ≡ false
+    go true b c e = absurd cc
+    go false true c e = absurd cc
+    go false false true e = absurd cc
+    go false false false e = refl
 
 pub within : (p : Plan) → plan_outside p ≡ false → Within p
 within p e =
@@ -97,22 +89,6 @@ past-views p clock view l =
     (λ (h : end_time p ≤ clock). or-first (at_end p clock) (ltb clock (clock_time p view)) (le-leb _ _ h))
     (λ (h : clock < end_time p). or-second (at_end p clock) (ltb clock (clock_time p view)) (lt-ltb clock (clock_time p view) (omega arith)))
     (le? (end_time p) clock))
-
--- the other tests of a clock
-pub outside-view : (p : Plan) (clock view : ℕ) → clock < clock_time p view → clock_outside p clock view ≡ true
-outside-view p clock view l = or-first (at_end p clock || ltb clock (clock_time p view)) _ (or-second (at_end p clock) _ (lt-ltb _ _ l))
-
-pub outside-next : (p : Plan) → Within p → (clock view next : ℕ) → view < p.views → clock_time p view ≤ clock → next ≡ clock_time p (next_initial p view)
-    → leb next clock ≡ clock_outside p clock view
-outside-next p s clock view next low reached is = ⊎_elim
-    (λ (l : clock_time p (next_initial p view) ≤ clock). last ∙ le-leb _ _ l ∙ sym (or-second (at_end p clock || ltb clock (clock_time p view)) _ (le-leb _ _ l)))
-    (λ (l : clock < clock_time p (next_initial p view)).
-    let before : clock < end_time p = omega (arith, next-before-end p s view low) in
-    or-rest _ _ _ (or-neither (at_end p clock) (ltb clock (clock_time p view)) (lt-leb _ _ before) (le-ltb _ _ reached)) last)
-    (le? (clock_time p (next_initial p view)) clock)
-  where
-    last : leb next clock ≡ leb (clock_time p (next_initial p view)) clock
-    last = ap (λ (x : ℕ). leb x clock) is
 
 -- ---- check 9
 

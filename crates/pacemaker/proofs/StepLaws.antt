@@ -1,14 +1,15 @@
 -- What a step is in each of its cases, and what an answer says of it. Assumes nothing.
-use mathlib.Core.Path.{◌≡◌, refl, sym, ap, subst, ◌∙◌}
+use Rattle.std.specs.Prelude.{Result}
+use mathlib.Core.Path.{◌≡◌, refl, ap, subst, ◌∙◌}
 use mathlib.Core.Bool.{Bool, true, false, cond}
 use mathlib.Core.List.{[], ◌∷◌}
-use Prim.Native.Nat.{ℕ, ◌+◌, ◌≤◌, ◌<◌}
+use Prim.Native.Nat.{ℕ, ◌+◌, ◌≤◌, ◌<◌, max}
 use native.Mathlib.Omega.{arith}
 use native.Mathlib.Nat.{mul-le-mul_right}
-use lib.Dec.{ltb}
-use borrow.Author.Tests.{lt-ltb, le-ltb, le-leb, lt-leb, ne_eqb}
-use Rattle.base.specs.Tests.{by_cond}
-use Rattle.base.specs.Choice.{cond_yes, cond_no, and_both, and-not-second, not_yes, not-no}
+use lib.Dec.{ltb, ltb→lt}
+use borrow.Author.Tests.{ltb-false, le-leb, lt-leb}
+use Rattle.base.specs.Tests.{T_false, by_cond}
+use Rattle.base.specs.Choice.{cond_yes, cond_no, not_yes}
 use Rattle.types.specs.declared.Plan.{Plan}
 use Rattle.types.specs.declared.Message.TheVariants.{View, Vote}
 use Rattle.types.specs.declared.Processor.{Processor}
@@ -16,10 +17,8 @@ use Rattle.types.specs.declared.Input.{Input}
 use Rattle.types.specs.declared.Input.TheVariants.{Tick, Vc, Qc}
 use Rattle.types.specs.declared.Sends.{Sends}
 use Rattle.types.specs.declared.Sends.TheVariants.{Vote as VoteFor, ViewAndVote}
-use Rattle.types.specs.declared.Stepped.{Stepped}
-use Rattle.types.specs.declared.Stepped.TheVariants.{Refused}
 use Rattle.types.specs.Quantities.{initial, clock_time, end_time}
-use Rattle.model.specs.Moves.{Entry, stay, into, entry_clock, entry_messages, by_clock, by_quorum, by_view}
+use Rattle.model.specs.Moves.{Entry, into, entry_messages, by_clock, by_quorum, by_view}
 use Rattle.model.specs.Checks.{at_end}
 use Rattle.model.specs.Processors.{Moved, Gives, messages_of, sending, moving, processor_unsound, refusing, stepped}
 use Rattle.pacemaker.specs.Limits.{Sound}
@@ -28,11 +27,8 @@ use Rattle.pacemaker.proofs.LimitLaws.{gamma_positive}
 
 -- ---- the answer
 
-pub as_moved : {m m' : Moved} {c : Processor} {a : Stepped} → m ≡ m' → Gives m c a → Gives m' c a
+pub as_moved : {m m' : Moved} {c : Processor} {a : Result Sends ℕ} → m ≡ m' → Gives m c a → Gives m' c a
 as_moved {c = c} {a = a} e g = subst (λ (m : Moved). Gives m c a) e g
-
-pub gives-refusal : (c : Processor) (r : ℕ) → 0 < r → Gives (refusing c r) c (Refused r)
-gives-refusal c r l = record { processor = refl; sent = refl; check = refl; accepted = sym (ne_eqb r 0 (λ e. omega arith)) }
 
 -- ---- check 17
 
@@ -52,30 +48,22 @@ entry-sends plan p w = by-test (initial plan w)
     by-test true = refl
     by-test false = refl
 
+-- a clock below the time becomes the time
+raised : (clock t : ℕ) → max clock t ≡ cond (ltb clock t) t clock
+raised clock t = by_cond (λ (x : ℕ). max clock t ≡ x) (ltb clock t) t clock (λ u. omega (arith, ltb→lt clock t u)) (λ u. omega (arith, ltb-false clock t (T_false (ltb clock t) u)))
+
 -- what is made of the clock, its view's time and the messages is the entry into w
-pub entered : (plan : Plan) (c : Processor) (clock w t next : ℕ) (x : Sends) → t ≡ clock_time plan w → next ≡ cond (ltb clock t) t clock
+pub entered : (plan : Plan) (c : Processor) (clock w t next : ℕ) (x : Sends) → t ≡ clock_time plan w → next ≡ max clock t
     → x ≡ cond (initial plan w) (ViewAndVote w) (VoteFor w)
     → sending (record { number = c.number; clock = next; view = w }) (messages_of c.number x) ≡ moving plan c.number clock c.view (into w)
 entered plan c clock w t next x is-t is-next is_x i = record {
-  processor = record { number = c.number; clock = (is-next ∙ ap (λ (u : ℕ). cond (ltb clock u) u clock) is-t) i; view = w };
+  processor = record { number = c.number; clock = (is-next ∙ raised clock t ∙ ap (λ (u : ℕ). cond (ltb clock u) u clock) is-t) i; view = w };
   sent = (ap (messages_of c.number) is_x ∙ entry-sends plan c.number w) i;
   check = 0;
 }
 
--- of a sound processor's entries that into the view limit ends, and no other does
+-- a sound processor's entry goes on, but for that into the view limit
 module _ (plan : Plan) (c : Processor) (s : Sound plan c) (w : ℕ) where
-  pub entry-ends : plan.views ≤ w → refusing c 17 ≡ entry_into plan c w
-  entry-ends l = ends plan c _ (le-leb (end_time plan) (entry_clock plan c.clock w) (omega (arith, late, forward)))
-    where
-      time : ℕ
-      time = clock_time plan w
-
-      late : end_time plan ≤ time
-      late = mul-le-mul_right plan.gamma l
-
-      forward : time ≡ entry_clock plan c.clock w
-      forward = cond_yes _ _ _ _ (lt-ltb c.clock time (omega (arith, late, s.before_end))) refl
-
   pub entry-goes-on : w < plan.views → moving plan c.number c.clock c.view (into w) ≡ entry_into plan c w
   entry-goes-on l = goes_on plan c _ (lt-leb (end_time plan) _ (by_cond (λ (x : ℕ). x < end_time plan) (ltb c.clock time) time c.clock
       (λ t. early) (λ t. s.before_end)))
@@ -86,10 +74,6 @@ module _ (plan : Plan) (c : Processor) (s : Sound plan c) (w : ℕ) where
       early : time < end_time plan
       early = omega (arith, mul-le-mul_right plan.gamma l, gamma_positive plan s.within)
 
--- and one that stays as it is goes on
-pub stays : (plan : Plan) (c : Processor) → Sound plan c → sending c [] ≡ ending plan c (moving plan c.number c.clock c.view stay)
-stays plan c s = goes_on plan c (sending c []) (lt-leb _ _ s.before_end)
-
 -- ---- rules 1 to 3
 
 module _ (plan : Plan) (c : Processor) where
@@ -98,38 +82,17 @@ module _ (plan : Plan) (c : Processor) where
   ticked e is = ap (λ (x : Entry). ending plan c (moving plan c.number (c.clock + 1) c.view x)) is
 
   module _ (w : ℕ) where
-    pub no-view : plan.views ≤ w → refusing c 10 ≡ stepping plan c (Vc w)
-    no-view l = cond_yes _ _ _ _ (le-leb _ _ l) refl
-
-    pub not-initial : w < plan.views → initial plan w ≡ false → refusing c 11 ≡ stepping plan c (Vc w)
-    not-initial l i = cond_no _ _ _ _ (lt-leb _ _ l) (cond_yes _ _ _ _ (not-no _ i) refl)
-
     -- a view certificate that makes the entry e
     pub certified : (e : Entry) → w < plan.views → initial plan w ≡ true → e ≡ by_view plan c.view w
         → ending plan c (moving plan c.number c.clock c.view e) ≡ stepping plan c (Vc w)
     certified e l i is = cond_no _ _ _ _ (lt-leb _ _ l) (cond_no _ _ _ _ (not_yes _ i)
         (ap (λ (x : Entry). ending plan c (moving plan c.number c.clock c.view x)) is))
 
-    pub above : initial plan w ≡ true → c.view < w → into w ≡ by_view plan c.view w
-    above i l = cond_yes _ _ _ _ (and_both _ _ i (lt-ltb _ _ l)) refl
-
-    pub not-above : w ≤ c.view → stay ≡ by_view plan c.view w
-    not-above l = cond_no _ _ _ _ (and-not-second (initial plan w) _ (le-ltb _ _ l)) refl
-
-    pub no-view-voted : plan.views ≤ w → refusing c 10 ≡ stepping plan c (Qc w)
-    no-view-voted l = cond_yes _ _ _ _ (le-leb _ _ l) refl
-
     -- a quorum certificate that makes the entry e
     pub voted : (e : Entry) → w < plan.views → e ≡ by_quorum c.view w
         → ending plan c (moving plan c.number c.clock c.view e) ≡ stepping plan c (Qc w)
     voted e l is = cond_no _ _ _ _ (lt-leb _ _ l)
         (ap (λ (x : Entry). ending plan c (moving plan c.number c.clock c.view x)) is)
-
-    pub at-or-above : c.view ≤ w → into (w + 1) ≡ by_quorum c.view w
-    at-or-above l = cond_yes _ _ _ _ (le-leb _ _ l) refl
-
-    pub below : w < c.view → stay ≡ by_quorum c.view w
-    below l = cond_no _ _ _ _ (lt-leb _ _ l) refl
 
 -- ---- checks 9 and 10
 

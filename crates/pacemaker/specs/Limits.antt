@@ -1,13 +1,13 @@
 -- The answer of checks 2 to 4, and what a plan within limits and a sound processor have.
-use Rattle.std.specs.Prelude.{◌≡◌, true, [], ◌∷◌, ℕ, ◌*◌, ◌≤◌, ◌<◌}
+use Rattle.std.specs.Prelude.{◌≡◌, true, Err, Ok, Result, [], ◌∷◌, ℕ, ◌*◌, ◌≤◌, ◌<◌}
 use Rattle.types.specs.declared.Plan.{Plan}
 use Rattle.types.specs.declared.Processor.{Processor}
 use Rattle.types.specs.Quantities.{n_least, n_most, delta_least, delta_most, gamma_most, views_least, views_most, per_leader, per_leader_least, turn_start, next_initial, clock_time, end_time}
 use Rattle.model.specs.Checks.{judged, n_outside, delays_outside, views_outside}
 
--- the first of checks 2 to 4 whose sentence holds, or 0
-abbrev pub plan_check : Plan → ℕ
-plan_check p = judged (λ r. r) ((2, n_outside p) ∷ (3, delays_outside p) ∷ (4, views_outside p) ∷ []) 0
+-- the first of checks 2 to 4 whose sentence holds, as an error
+abbrev pub plan_check : Plan → Result (Unit {0}) ℕ
+plan_check p = judged (λ r. Err r) ((2, n_outside p) ∷ (3, delays_outside p) ∷ (4, views_outside p) ∷ []) (Ok tt)
 
 -- no clock time of a plan that passes them is larger
 abbrev pub time_most : ℕ

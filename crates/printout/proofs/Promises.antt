@@ -1,4 +1,5 @@
 -- The promises of the printout. Assumes nothing.
+use Rattle.std.specs.Prelude.{Ok, Result}
 use mathlib.Core.Path.{◌≡◌, refl, sym, ap, ap₂, ◌∙◌, subst}
 use mathlib.Core.Logic.{⊎_elim}
 use mathlib.Core.Bool.{Bool, true, false}
@@ -8,8 +9,6 @@ use native.Mathlib.Omega.{arith}
 use lib.ListN.{length, take, drop, replicate, take-append-drop, length-replicate}
 use lib.Seq.{take_at, length-take-le}
 use borrow.Author.Tests.{le-ltb}
-use Rattle.lines.specs.declared.Written.{Written}
-use Rattle.lines.specs.declared.Written.TheVariants.{Bytes}
 use Rattle.lines.specs.declared.Next.TheVariants.{Unfinished}
 use Rattle.lines.specs.Clauses.{written_bytes}
 use Rattle.lines.specs.Printout.{printed_most}
@@ -25,12 +24,12 @@ use Rattle.printout.proofs.Feeding.{fed-append, printed-fed}
 -- ---- the end
 
 -- a text that was printed is what the answer counts
-pub prints-text : (most : ℕ) (words out : List ℕ) (r : Written) (after : List ℕ) → most ≤ length out → Prints most words out r after → take (written_bytes r) after ≡ words
+pub prints-text : (most : ℕ) (words out : List ℕ) (r : Result ℕ ℕ) (after : List ℕ) → most ≤ length out → Prints most words out r after → take (written_bytes r) after ≡ words
 prints-text most words out r after h p =
     let n = le-ltb _ _ h in
-    let q : r ≡ Bytes (length words) = rw n at p.0 in
+    let q : r ≡ Ok (length words) = rw n at p.0 in
     let t : after ≡ words ++ drop (length words) out = rw n at p.1 in
-    ap₂ (λ (a : Written) (b : List ℕ). take (written_bytes a) b) q t ∙ take_at words (drop (length words) out) (length words) refl
+    ap₂ (λ (a : Result ℕ ℕ) (b : List ℕ). take (written_bytes a) b) q t ∙ take_at words (drop (length words) out) (length words) refl
 
 -- what is left of the input is one line
 pub left-lines : (begun rest : List ℕ) → next_line rest ≡ Unfinished → lines_after begun rest ≡ remainder (begun ++ rest)

@@ -1,10 +1,9 @@
 -- What the driver's functions owe to the printout.
 pub use Rattle.lines.specs.Clauses.{too_few, Prints}
-use Rattle.std.specs.Prelude.{ℕ, ◌+◌, ◌*◌, ◌≤◌, ◌<◌, ◌≡◌, ◌⊎◌, Bool, true, false, cond, List, [], ◌∷◌, ◌++◌, length, take, drop, eqb}
+use Rattle.std.specs.Prelude.{ℕ, ◌+◌, ◌*◌, ◌≤◌, ◌<◌, ◌≡◌, ◌⊎◌, Bool, true, false, cond, List, [], ◌∷◌, ◌++◌, length, take, drop, eqb, Result}
 use Rattle.types.specs.Quantities.{table_clocks}
 use Rattle.model.specs.State.{State, with_run}
 use Rattle.lines.specs.declared.Next.TheVariants.{Unfinished}
-use Rattle.lines.specs.declared.Written.{Written}
 use Rattle.lines.specs.Forms.{newline}
 use Rattle.lines.specs.Printout.{printed_most}
 use Rattle.lines.specs.Splitting.{ended, remainder, cut_read, line_most, next_line}
@@ -16,7 +15,7 @@ use Rattle.printout.specs.Printout.{Standing, leaving, standing_of, Reply, reply
 -- ---- one line
 
 -- that the line s left the state y and was answered in the lent bytes; with too few of them nothing has changed
-abbrev pub AnswersLine : List ℕ → Standing → List ℕ → Standing → Written → List ℕ → Type 0
+abbrev pub AnswersLine : List ℕ → Standing → List ℕ → Standing → Result ℕ ℕ → List ℕ → Type 0
 AnswersLine s x out y r after =
     (y ≡ cond (too_few printed_most out) x (line_reply s x).standing) × Prints printed_most (printed_line (line_reply s x)) out r after
 
@@ -81,6 +80,6 @@ abbrev pub closing_most : ℕ
 closing_most = printed_most + table_clocks * printed_most
 
 -- that what is left of the input, and the end, were printed: `rest` are the bytes at hand since the last newline
-abbrev pub Closes : Session → Bool → List ℕ → List ℕ → Written → List ℕ → Type 0
+abbrev pub Closes : Session → Bool → List ℕ → List ℕ → Result ℕ ℕ → List ℕ → Type 0
 Closes s late rest out r after =
     (x : State) (begun : List ℕ) → Begun late begun → Prints closing_most (printed_from (leaving s.opened (with_run s.run x)) (remainder (begun ++ rest))) out r after

@@ -1,8 +1,7 @@
 -- What is promised of a whole input: in whatever pieces it comes and whatever room the answers have, what is written is its printout, or its report.
 -- proofs/Promises.antt and, of reports, proofs/Reporting.antt have a proof of each promise, under its name in small letters with hyphens.
-use Rattle.std.specs.Prelude.{◌≡◌, Bool, false, List, [], ◌∷◌, ◌++◌, ℕ, ◌≤◌, length, take, drop}
+use Rattle.std.specs.Prelude.{◌≡◌, Bool, false, List, [], ◌∷◌, ◌++◌, ℕ, ◌≤◌, length, take, drop, Result}
 use Rattle.lines.specs.declared.Next.TheVariants.{Unfinished}
-use Rattle.lines.specs.declared.Written.{Written}
 use Rattle.lines.specs.Clauses.{written_bytes}
 use Rattle.lines.specs.Printout.{printed_most, totals_most}
 use Rattle.lines.specs.Splitting.{next_line}
@@ -23,7 +22,7 @@ pub record Call : Type 0 where
 -- the last call
 pub record End : Type 0 where
   pub out : List ℕ
-  pub answer : Written
+  pub answer : Result ℕ ℕ
   pub after : List ℕ
 
 -- Calls on the rest of an input, as their contracts say: each gets bytes with which it goes on and the state that the last one left; where none ends

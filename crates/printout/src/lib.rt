@@ -11,7 +11,7 @@ pub const TALLY_LENT: usize = 3600;
 
 pub const NETWORK_LENT: usize = 2048;
 
-// The state of the program but for the lent buffers: whether a run is open, and the run.
+// The state of the program but for the lent buffers: whether a run is open, and the run, which is handed back as it was handed in also where none is open.
 #[derive(Clone, Copy)]
 pub struct Session {
     pub opened: bool,
@@ -19,7 +19,7 @@ pub struct Session {
 }
 
 impl Session {
-    // Before the first opening.
+    // Before the first opening: 0 everywhere, written out, since there is no Default for a table of 64 words.
     pub fn unopened() -> Session
         ensures { result ≡ unopened_session }
     {
@@ -47,7 +47,7 @@ impl Session {
 }
 
 // What bytes of an input left: the session, whether more bytes than a line may have were passed over since the last newline, how many bytes were
-// used, and how many printed.
+// used, and how many printed. Where such bytes were passed over the session, too, is the one to go on with.
 #[derive(Clone, Copy)]
 pub struct Served {
     pub session: Session,

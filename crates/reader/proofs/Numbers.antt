@@ -14,8 +14,7 @@ use Rattle.base.specs.Members.{Every, every_append}
 use Rattle.base.specs.Tests.{le?, eq?, by_cond, eq→eqb}
 use Rattle.lines.specs.Decimal.{digit, decimal, field_limit}
 use Rattle.lines.proofs.Decimals.{decimal-small, decimal-large}
-use Rattle.reader.specs.declared.Number.{Number}
-use Rattle.reader.specs.declared.Number.TheVariants.{Value, NoNumber}
+use Rattle.std.specs.Prelude.{Option, Some, None}
 use Rattle.reader.specs.Bytes.{is_digit, digit_run, spelled}
 use Rattle.reader.specs.Scan.{fitting, numeral, number_at}
 use Rattle.reader.proofs.BytesLaws.{IsDigit, digit-is, is_digit_lem}
@@ -105,19 +104,19 @@ shown-more n h g x =
 shown_of : (n : ℕ) → n < field_limit → Shown n
 shown_of n h = by-tenths Shown shown-one shown-more 19 n (omega arith) h
 
-numeral-shown : (n k : ℕ) → n < field_limit → (x : Shown n) → numeral (x.first ∷ x.others) k ≡ Value n k
+numeral-shown : (n k : ℕ) → n < field_limit → (x : Shown n) → numeral (x.first ∷ x.others) k ≡ Some (n, k)
 numeral-shown n k h x = ⊎_elim nothing something (eq? n 0)
   where
-    something : (n ≡ 0 → ⊥) → numeral (x.first ∷ x.others) k ≡ Value n k
+    something : (n ≡ 0 → ⊥) → numeral (x.first ∷ x.others) k ≡ Some (n, k)
     something z = rw (ne_eqb _ _ (x.no_zero (omega arith)), x.value, lt-ltb n field_limit h)
 
-    nothing : n ≡ 0 → numeral (x.first ∷ x.others) k ≡ Value n k
+    nothing : n ≡ 0 → numeral (x.first ∷ x.others) k ≡ Some (n, k)
     nothing z =
         let e : x.first ∷ x.others ≡ digit 0 ∷ [] = sym x.shown ∙ ap decimal z ∙ decimal-small 0 (omega arith) in
-        ap (λ (l : List ℕ). numeral l k) e ∙ ap (λ (m : ℕ). Value m k) (sym z)
+        ap (λ (l : List ℕ). numeral l k) e ∙ ap (λ (m : ℕ). Some (m, k)) (sym z)
 
 -- the digits and then none are read as the number
-pub number-back : (s r : List ℕ) (at n : ℕ) → n < field_limit → digit_run r ≡ [] → drop at s ≡ decimal n ++ r → number_at s at ≡ Value n (at + length (decimal n))
+pub number-back : (s r : List ℕ) (at n : ℕ) → n < field_limit → digit_run r ≡ [] → drop at s ≡ decimal n ++ r → number_at s at ≡ Some (n, at + length (decimal n))
 unfolding number_at
 number-back s r at n h q e =
     let x : Shown n = shown_of n h in
@@ -127,9 +126,9 @@ number-back s r at n h q e =
 -- ---- a number that is read is written
 
 -- what is read at a place as a number: its digits stand there
-abbrev pub Counted : List ℕ → ℕ → Number → Type 0
-Counted s at (Value n k) = (n < field_limit) × (drop at s ≡ decimal n ++ drop k s)
-Counted s at NoNumber = Unit {0}
+abbrev pub Counted : List ℕ → ℕ → Option (ℕ × ℕ) → Type 0
+Counted s at (Some (n, k)) = (n < field_limit) × (drop at s ≡ decimal n ++ drop k s)
+Counted s at None = Unit {0}
 
 empty : (l : List ℕ) → length l ≡ 0 → l ≡ []
 empty [] h = refl
@@ -146,11 +145,11 @@ digits-lead b l z d h =
 numeral-only : (s l : List ℕ) (at : ℕ) → Digits l → drop at s ≡ l ++ drop (at + length l) s → Counted s at (numeral l (at + length l))
 numeral-only s [] at d e = tt
 numeral-only s (b ∷ l) at d e =
-    by_cond (Counted s at) (eqb b (digit 0)) (cond (eqb (length l) 0) (Value 0 k) NoNumber) (fitting n k)
-    (λ z. by_cond (Counted s at) (eqb (length l) 0) (Value 0 k) NoNumber
+    by_cond (Counted s at) (eqb b (digit 0)) (cond (eqb (length l) 0) (Some (0, k)) None) (fitting n k)
+    (λ z. by_cond (Counted s at) (eqb (length l) 0) (Some (0, k)) None
     (λ y. (omega arith, stands 0 (ap₂ (λ (x : ℕ) (w : List ℕ). x ∷ w) (eqb→eq b (digit 0) z) (empty l (eqb→eq (length l) 0 y)) ∙ sym (decimal-small 0 (omega arith)))))
     (λ _. tt))
-    (λ z. by_cond (Counted s at) (ltb n field_limit) (Value n k) NoNumber
+    (λ z. by_cond (Counted s at) (ltb n field_limit) (Some (n, k)) None
     (λ y. let h : n < field_limit = ltb→lt n field_limit y in (h, stands n (digits-lead b l (λ (q : b ≡ digit 0). z (eq→eqb b (digit 0) q)) d h)))
     (λ _. tt))
   where

@@ -21,12 +21,12 @@ use Rattle.lines.specs.declared.Read.{Read}
 use Rattle.lines.specs.declared.Read.TheVariants.{NoForm}
 use Rattle.lines.specs.Decimal.{field_limit}
 use Rattle.lines.specs.Forms.{open_bracket, open_word, line_clocks, setup_form, usual_form, Below, EventLine, SetupBytes, SetupLine, trimmed}
-use Rattle.lines.specs.Clauses.{Reading, no_setup, opening_reading, no_form}
+use Rattle.lines.specs.Clauses.{Reading, no_setup}
 use Rattle.reader.specs.declared.Heading.{Heading}
-use Rattle.reader.specs.declared.Heading.TheVariants.{Parameters, NoHeading}
+use Rattle.std.specs.Prelude.{Option, Some, None}
 use Rattle.reader.specs.declared.Several.{Several}
 use Rattle.reader.specs.Scan.{Series, series_at, ReadsSeveral}
-use Rattle.reader.specs.Lines.{heading_most, heading_usual, heading_series, heading_at, ending_table, ending_heading, opening_at}
+use Rattle.reader.specs.Lines.{heading_of, heading_most, heading_usual, heading_series, heading_at, ending_table, ending_heading, opening_at, opening_as}
 use Rattle.reader.proofs.Words.{Left, left-none}
 use Rattle.reader.proofs.SeveralLaws.{as_many, filled-all}
 use Rattle.reader.proofs.Series.{none-at-table, spaced_before, Taken, series-only, series-there, picked_all}
@@ -64,15 +64,15 @@ module _ (s : List ℕ) (at : ℕ) (r : Several) (lent after : List ℕ) (x : Re
   unfolding heading_at
   heading-is = ap heading_series (ap (λ (j : ℕ). series_at j s at) (sym w) ∙ x.read)
 
-  pub no-heading : (r.count ≡ heading_most → ⊥) → (r.count ≡ heading_usual → ⊥) → NoHeading ≡ heading_at s at
+  pub no-heading : (r.count ≡ heading_most → ⊥) → (r.count ≡ heading_usual → ⊥) → None ≡ heading_at s at
   no-heading h h' = sym (heading-is ∙ rw (counted, ne_eqb r.count heading_most h, ne_eqb r.count heading_usual h'))
 
-  pub whole-heading : r.count ≡ heading_most → Parameters (plan_in after) (get_or after 5 0) r.end ≡ heading_at s at
+  pub whole-heading : r.count ≡ heading_most → Some (heading_of (plan_in after) (get_or after 5 0) r.end) ≡ heading_at s at
   whole-heading h =
       let all : take r.count after ≡ after = filled-all s at lent r after x (h ∙ sym w) in
       sym (heading-is ∙ rw (counted, eq-eqb r.count heading_most h, all))
 
-  pub usual-heading : r.count ≡ heading_usual → Parameters (usual_plan_in after) (get_or after 4 0) r.end ≡ heading_at s at
+  pub usual-heading : r.count ≡ heading_usual → Some (heading_of (usual_plan_in after) (get_or after 4 0) r.end) ≡ heading_at s at
   usual-heading h = sym (heading-is ∙ rw (counted, h, first 0 (omega arith), first 1 (omega arith), first 2 (omega arith), first 3 (omega arith), first 4 (omega arith)))
     where
       first : (i : ℕ) → i < heading_usual → get_or (take heading_usual after) i 0 ≡ get_or after i 0
@@ -122,29 +122,33 @@ setup-line s at k e ns plan faulty cs h numbers forms b least most t end =
           (t.bytes ∙ ap (table_before cs) (drop_of_length-le s (le_of_eq (sym end))) ∙ ap (λ (x : List ℕ). table_before x []) (sym l))));
     }
 
+-- what is read as an opening
+abbrev OpeningRead : List ℕ → Option Setup → Type 0
+OpeningRead s x = LineRead s (opening_as x)
+
 -- behind the word
-pub opening-only : (s : List ℕ) (at : ℕ) → s ≡ open_bracket ++ (open_word ++ drop at s) → LineRead s (opening_at s at)
+pub opening-only : (s : List ℕ) (at : ℕ) → s ≡ open_bracket ++ (open_word ++ drop at s) → OpeningRead s (opening_at s at)
 unfolding opening_at heading_at
 opening-only s at h = headed (series_at heading_most s at) (series-only heading_most s at)
   where
     told : (x : Series) → Taken s at x → (ns : List ℕ) (plan : Plan) (faulty : ℕ) → x.numbers ≡ heading ns faulty → MakesForm s ns plan faulty
-        → (Below (heading ns faulty) → Below (heading (plan_numbers plan) faulty)) → LineRead s (ending_heading s (Parameters plan faulty x.end))
+        → (Below (heading ns faulty) → Below (heading (plan_numbers plan) faulty)) → OpeningRead s (ending_heading s (Some (heading_of plan faulty x.end)))
     told x t ns plan faulty l forms below =
-        by_cond (LineRead s) (eqb plan.n 0) no_form _ (λ _. refl)
-        (λ least. by_cond (LineRead s) (ltb n_most plan.n) no_form _ (λ _. refl)
-        (λ most. by-table (LineRead s) s x.end plan.n (ending_table s plan faulty) (omega (arith, eqb-false plan.n 0 (T_false (eqb plan.n 0) least)))
-        (λ cs e c. by_cond (LineRead s) (eqb e (length s)) _ no_form
+        by_cond (OpeningRead s) (eqb plan.n 0) None _ (λ _. refl)
+        (λ least. by_cond (OpeningRead s) (ltb n_most plan.n) None _ (λ _. refl)
+        (λ most. by-table (OpeningRead s) s x.end plan.n (ending_table s plan faulty) (omega (arith, eqb-false plan.n 0 (T_false (eqb plan.n 0) least)))
+        (λ cs e c. by_cond (OpeningRead s) (eqb e (length s)) _ None
         (λ end. setup-line s at x.end e ns plan faulty cs h (t.bytes ∙ ap (λ (y : List ℕ). spaced_before y (drop x.end s)) l) forms
         (below (subst Below l t.below)) (T_false (eqb plan.n 0) least) (T_false (ltb n_most plan.n) most) c (eqb→eq e (length s) end)) (λ _. refl)) refl))
 
-    headed : (x : Series) → Taken s at x → LineRead s (ending_heading s (heading_series x))
+    headed : (x : Series) → Taken s at x → OpeningRead s (ending_heading s (heading_series x))
     headed x t =
         let ns : List ℕ = x.numbers in
-        let P : Heading → Type 0 = λ (y : Heading). LineRead s (ending_heading s y) in
-        by_cond P (eqb (length ns) heading_most) (Parameters (plan_in ns) (get_or ns 5 0) x.end) _
+        let P : Option Heading → Type 0 = λ (y : Option Heading). OpeningRead s (ending_heading s y) in
+        by_cond P (eqb (length ns) heading_most) (Some (heading_of (plan_in ns) (get_or ns 5 0) x.end)) _
         (λ six. told x t (plan_numbers (plan_in ns)) (plan_in ns) (get_or ns 5 0) (picked_all _ ns (eqb→eq (length ns) heading_most six))
         (λ cs e. inl (e ∙ sym (setup-parts (setup_with (plan_in ns) (get_or ns 5 0) cs)))) (λ b. b))
-        (λ _. by_cond P (eqb (length ns) heading_usual) (Parameters (usual_plan_in ns) (get_or ns 4 0) x.end) NoHeading
+        (λ _. by_cond P (eqb (length ns) heading_usual) (Some (heading_of (usual_plan_in ns) (get_or ns 4 0) x.end)) None
         (λ five. told x t (usual_numbers (usual_plan_in ns)) (usual_plan_in ns) (get_or ns 4 0) (picked_all _ ns (eqb→eq (length ns) heading_usual five))
         (λ cs e. inr (e ∙ sym (usual-parts (setup_with (usual_plan_in ns) (get_or ns 4 0) cs)), refl))
         (below-with (usual_numbers (usual_plan_in ns)) (get_or ns 4 0 ∷ []) per_leader_usual (omega arith))) (λ _. refl))
@@ -175,7 +179,7 @@ pub record Headed (s : List ℕ) (u : Setup) : Type 0 where
   pub bytes : Parts s numbers u
   few : length (heading numbers u.faulty) ≤ heading_most
   below : Below (heading numbers u.faulty)
-  told : (k : ℕ) → heading_series (record { numbers = heading numbers u.faulty; end = k }) ≡ Parameters u.plan u.faulty k
+  told : (k : ℕ) → heading_series (record { numbers = heading numbers u.faulty; end = k }) ≡ Some (heading_of u.plan u.faulty k)
 
 pub setup-headed : (s : List ℕ) (u : Setup) → SetupLine s u → Headed s u
 setup-headed s u l = by l.bytes
@@ -190,20 +194,20 @@ setup-headed s u l = by l.bytes
       bytes = e.0 ∙ usual-parts u;
       few = omega arith;
       below = below-without (usual_numbers u.plan) (u.faulty ∷ []) (per_leader u.plan) whole;
-      told = λ k. ap (λ (j : ℕ). Parameters (plan_in (usual_numbers u.plan ++ (j ∷ []))) u.faulty k) (sym e.1);
+      told = λ k. ap (λ (j : ℕ). Some (heading_of (plan_in (usual_numbers u.plan ++ (j ∷ []))) u.faulty k)) (sym e.1);
     }
 
-pub opening-there : (s : List ℕ) (at : ℕ) (u : Setup) → SetupLine s u → (h : Headed s u) → Left s at (behind_open h.numbers u) → opening_at s at ≡ opening_reading (trimmed u)
+pub opening-there : (s : List ℕ) (at : ℕ) (u : Setup) → SetupLine s u → (h : Headed s u) → Left s at (behind_open h.numbers u) → opening_at s at ≡ Some (trimmed u)
 unfolding opening_at heading_at trimmed
 opening-there s at u l h left =
     series-there P heading_most s at (λ x. ending_heading s (heading_series x)) (heading h.numbers u.faulty) (table_before (line_clocks u) []) left h.few
     h.below refl (λ k m. none-at-table s _ k m)
-    (λ k m. subst (λ (y : Heading). P (ending_heading s y)) (sym (h.told k)) (rw (c.some, c.few)
+    (λ k m. subst (λ (y : Option Heading). P (ending_heading s y)) (sym (h.told k)) (rw (c.some, c.few)
     (table-there P s k u.plan.n (ending_table s u.plan u.faulty) (line_clocks u) [] m c.clocks_in c.least
     (every-second _ (heading (plan_numbers u.plan) u.faulty) (line_clocks u) l.below) (λ e end. rw (eq-eqb e (length s) (left-none s e end), c.clocks_in)))))
   where
-    P : Reading → Type 0
-    P x = x ≡ opening_reading (trimmed u)
+    P : Option Setup → Type 0
+    P x = x ≡ Some (trimmed u)
 
     c : Sized u
     c = sized s u l

@@ -20,22 +20,22 @@ use Rattle.lines.specs.Splitting.{line_most, next_line, ended, cut_read}
 use Rattle.lines.specs.Promises.{NextForm, Formed, ReadsLines, JudgesLines, OneEvent, OneSetup, with_usual, ReadsSetups, NeverBoth, ShortForms, AllFormed, reading_of, readings_of, ReadsBack}
 use Rattle.lines.proofs.Readings.{judges}
 use Rattle.lines.proofs.Schedules.{before-form, cuts_back}
-use Rattle.reader.specs.Lines.{event_at, opening_at, reading}
+use Rattle.reader.specs.Lines.{event_at, event_as, opening_at, opening_as, reading}
+use Rattle.std.specs.Prelude.{Option, Some, None}
 use Rattle.reader.proofs.Words.{left-all, by_word, word-there, word-away}
 use Rattle.reader.proofs.Events.{EventRead, event-only, inside, inside-form, inside-no-opening, event-there}
 use Rattle.reader.proofs.Openings.{ReadAs, LineRead, below-with, below-without, opening-only, behind_open, Headed, setup-headed, opening-there}
 use Rattle.reader.proofs.Lengths.{event-length, opening-length}
 
-event-line : (s : List ℕ) (r : Read) → EventRead s r → ReadAs s r no_setup
-event-line s (Read.Event e) h = h
-event-line s Read.Opening h = absurd h
-event-line s NoForm h = refl
+event-line : (s : List ℕ) (x : Option Event) → EventRead s x → ReadAs s (event_as x) no_setup
+event-line s (Some e) h = h
+event-line s None h = refl
 
 line-only : (s : List ℕ) → LineRead s (reading s)
 unfolding reading
 line-only s =
     by_word (LineRead s) s 0 open_bracket _ no_form
-    (λ a e. by_word (LineRead s) s a open_word (opening_at s) _
+    (λ a e. by_word (LineRead s) s a open_word (λ b. opening_as (opening_at s b)) _
     (λ b f. opening-only s b (e ∙ ap (λ (r : List ℕ). open_bracket ++ r) f))
     (event-line s (event_at s a) (event-only s a e)))
     refl
@@ -46,7 +46,7 @@ event-back s e l =
     let P : Reading → Type 0 = λ (x : Reading). x ≡ event_reading e in
     word-there P s 0 open_bracket _ no_form (inside e) (left-all s _ (l.bytes ∙ inside-form e))
     (λ a h. word-away P s a open_word _ _ (inside e) h (inside-no-opening e)
-    (ap (λ (x : Read). read_as x no_setup) (event-there s a e h l.below l.formed)))
+    (ap (λ (x : Option Event). read_as (event_as x) no_setup) (event-there s a e h l.below l.formed)))
 
 setup-back : (s : List ℕ) (u : Setup) → SetupLine s u → reading s ≡ opening_reading (trimmed u)
 unfolding reading
@@ -54,7 +54,7 @@ setup-back s u l =
     let P : Reading → Type 0 = λ (x : Reading). x ≡ opening_reading (trimmed u) in
     let h : Headed s u = setup-headed s u l in
     word-there P s 0 open_bracket _ no_form (open_word ++ behind_open h.numbers u) (left-all s _ h.bytes)
-    (λ a m. word-there P s a open_word _ _ (behind_open h.numbers u) m (λ b n. opening-there s b u l h n))
+    (λ a m. word-there P s a open_word _ _ (behind_open h.numbers u) m (λ b n. ap opening_as (opening-there s b u l h n)))
 
 -- every line reads as what it is the form of, and as nothing else
 pub reading-reads : ReadsLines reading

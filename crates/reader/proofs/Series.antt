@@ -6,8 +6,7 @@ use mathlib.Core.List.{List, [], ◌∷◌, ◌++◌, append_assoc}
 use lib.ListN.{length, drop, get_or}
 use Rattle.lines.specs.Decimal.{decimal, field_limit}
 use Rattle.lines.specs.Forms.{open_bracket, close_bracket, one_blank, joined, spaced, Below}
-use Rattle.reader.specs.declared.Number.{Number}
-use Rattle.reader.specs.declared.Number.TheVariants.{Value, NoNumber}
+use Rattle.std.specs.Prelude.{Option, Some, None}
 use Rattle.reader.specs.Bytes.{digit_run}
 use Rattle.reader.specs.Scan.{number_at, on_number, next_number_at, Series, ending, following, series_at}
 use Rattle.reader.proofs.Numbers.{Counted, number-only, number-back}
@@ -19,15 +18,15 @@ pub by_number : {A : Type 0} (P : A → Type 0) (s : List ℕ) (at : ℕ) (f : �
     → ((n k : ℕ) → n < field_limit → drop at s ≡ decimal n ++ drop k s → P (f n k)) → P z → P (on_number (number_at s at) f z)
 by_number P s at f z g h = go (number_at s at) (number-only s at)
   where
-    go : (x : Number) → Counted s at x → P (on_number x f z)
-    go (Value n k) c = g n k c.0 c.1
-    go NoNumber c = h
+    go : (x : Option (ℕ × ℕ)) → Counted s at x → P (on_number x f z)
+    go (Some (n, k)) c = g n k c.0 c.1
+    go None c = h
 
 pub by_next : {A : Type 0} (P : A → Type 0) (s : List ℕ) (at : ℕ) (f : ℕ → ℕ → A) (z : A)
     → ((n k : ℕ) → n < field_limit → drop at s ≡ one_blank ++ (decimal n ++ drop k s) → P (f n k)) → P z → P (on_number (next_number_at s at) f z)
 unfolding next_number_at
 by_next P s at f z g h =
-    by_word (λ (x : Number). P (on_number x f z)) s at one_blank (number_at s) NoNumber
+    by_word (λ (x : Option (ℕ × ℕ)). P (on_number x f z)) s at one_blank (number_at s) None
     (λ k e. by_number P s k f z (λ n j m d. g n j m (e ∙ ap (λ (r : List ℕ). one_blank ++ r) d)) h) h
 
 -- ---- a number that stands there is read
@@ -40,19 +39,19 @@ pub next-there : {A : Type 0} (P : A → Type 0) (s : List ℕ) (at : ℕ) (f : 
     → Left s at (one_blank ++ (decimal n ++ r)) → n < field_limit → digit_run r ≡ [] → ((k : ℕ) → Left s k r → P (f n k)) → P (on_number (next_number_at s at) f z)
 unfolding next_number_at
 next-there P s at f z n r h m q g =
-    word-there (λ (x : Number). P (on_number x f z)) s at one_blank (number_at s) NoNumber (decimal n ++ r) h (λ k l. number-there P s k f z n r l m q g)
+    word-there (λ (x : Option (ℕ × ℕ)). P (on_number x f z)) s at one_blank (number_at s) None (decimal n ++ r) h (λ k l. number-there P s k f z n r l m q g)
 
 -- none stands at a bracket, be there a blank before it or not
-abbrev NoneAt : Number → Type 0
-NoneAt x = x ≡ NoNumber
+abbrev NoneAt : Option (ℕ × ℕ) → Type 0
+NoneAt x = x ≡ None
 
-pub none-at-table : (s r : List ℕ) (at : ℕ) → Left s at (one_blank ++ (open_bracket ++ r)) → next_number_at s at ≡ NoNumber
+pub none-at-table : (s r : List ℕ) (at : ℕ) → Left s at (one_blank ++ (open_bracket ++ r)) → next_number_at s at ≡ None
 unfolding next_number_at number_at
-none-at-table s r at h = word-there NoneAt s at one_blank (number_at s) NoNumber (open_bracket ++ r) h (λ k l. rw l.bytes refl)
+none-at-table s r at h = word-there NoneAt s at one_blank (number_at s) None (open_bracket ++ r) h (λ k l. rw l.bytes refl)
 
-pub none-at-end : (s r : List ℕ) (at : ℕ) → Left s at (close_bracket ++ r) → next_number_at s at ≡ NoNumber
+pub none-at-end : (s r : List ℕ) (at : ℕ) → Left s at (close_bracket ++ r) → next_number_at s at ≡ None
 unfolding next_number_at
-none-at-end s r at h = word-away NoneAt s at one_blank (number_at s) NoNumber (close_bracket ++ r) h refl refl
+none-at-end s r at h = word-away NoneAt s at one_blank (number_at s) None (close_bracket ++ r) h refl refl
 
 -- ---- a series
 
@@ -87,7 +86,7 @@ no_digit (n ∷ ns) r q = refl
 
 -- where they stand and no further one does, just these are read
 pub series-there : {A : Type 0} (P : A → Type 0) (j : ℕ) (s : List ℕ) (at : ℕ) (f : Series → A) (ns r : List ℕ)
-    → Left s at (spaced_before ns r) → length ns ≤ j → Below ns → digit_run r ≡ [] → ((k : ℕ) → Left s k r → next_number_at s k ≡ NoNumber)
+    → Left s at (spaced_before ns r) → length ns ≤ j → Below ns → digit_run r ≡ [] → ((k : ℕ) → Left s k r → next_number_at s k ≡ None)
     → ((k : ℕ) → Left s k r → P (f (record { numbers = ns; end = k }))) → P (f (series_at j s at))
 series-there P zero s at f [] r h l b q e g = g at h
 series-there P zero s at f (n ∷ ns) r h l b q e g = absurd (omega arith)

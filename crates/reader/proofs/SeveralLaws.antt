@@ -1,12 +1,12 @@
 -- Numbers read one by one into lent words. Assumes nothing.
-use mathlib.Core.Path.{◌≡◌, refl, sym, ap, ◌∙◌}
+use mathlib.Core.Path.{◌≡◌, sym, ap, ◌∙◌}
 use mathlib.Core.List.{List, [], ◌∷◌, ◌++◌, append-nil, append_assoc}
 use Prim.Native.Nat.{ℕ, suc, ◌+◌, ◌-◌, ◌≤◌, ◌<◌}
 use native.Mathlib.Numerals.{add-one}
 use native.Mathlib.Omega.{arith}
 use lib.ListN.{length, take, set, length-set}
 use lib.Seq.{take-suc-set, length-take-le, take_all}
-use Rattle.reader.specs.declared.Number.TheVariants.{Value, NoNumber}
+use Rattle.std.specs.Prelude.{Some, None}
 use Rattle.reader.specs.declared.Several.{Several}
 use Rattle.reader.specs.Scan.{next_number_at, Series, ending, following, series_at, ReadsSeveral}
 
@@ -22,11 +22,8 @@ pub record SoFar (s : List ℕ) (at j : ℕ) (numbers : List ℕ) (place i : ℕ
   pub rest : series_at j s at ≡ behind (take i numbers) (series_at (j - i) s place)
   pub whole : length numbers ≡ j
 
-pub several-none : (s : List ℕ) (at : ℕ) (numbers : List ℕ) → SoFar s at (length numbers) numbers at 0
-several-none s at numbers = record { most = omega arith; rest = let z : length numbers - 0 ≡ length numbers = omega arith in rw z refl; whole = refl }
-
 module _ (s : List ℕ) (at j : ℕ) (numbers : List ℕ) (place i : ℕ) (x : SoFar s at j numbers place i) where
-  pub several-more : i < j → (n k : ℕ) → next_number_at s place ≡ Value n k → SoFar s at j (set numbers i n) k (i + 1)
+  pub several-more : i < j → (n k : ℕ) → next_number_at s place ≡ Some (n, k) → SoFar s at j (set numbers i n) k (i + 1)
   several-more h n k e = record {
     most = omega arith;
     rest =
@@ -39,18 +36,12 @@ module _ (s : List ℕ) (at j : ℕ) (numbers : List ℕ) (place i : ℕ) (x : S
   ended : series_at (j - i) s place ≡ ending place → series_at j s at ≡ record { numbers = take i numbers; end = place }
   ended e = x.rest ∙ rw e (ap (λ (l : List ℕ). record { numbers = l; end = place }) (append-nil (take i numbers)))
 
-  pub several-stopped : i < j → next_number_at s place ≡ NoNumber → (lent : List ℕ) → length lent ≡ j
+  pub several-stopped : i < j → next_number_at s place ≡ None → (lent : List ℕ) → length lent ≡ j
       → ReadsSeveral s at lent (record { count = i; end = place }) numbers
   several-stopped h e lent w =
       let q : j - i ≡ suc (j - (i + 1)) = omega arith in
       let n : series_at (j - i) s place ≡ ending place = rw (q, e) in
       record { read = rw w (ended n); within = omega (arith, w); whole = x.whole ∙ sym w }
-
-  pub several_full : j ≤ i → (lent : List ℕ) → length lent ≡ j → ReadsSeveral s at lent (record { count = i; end = place }) numbers
-  several_full h lent w =
-      let q : j - i ≡ 0 = omega arith in
-      let n : series_at (j - i) s place ≡ ending place = rw q in
-      record { read = rw w (ended n); within = omega (arith, w, x.most); whole = x.whole ∙ sym w }
 
 -- ---- what was read
 

@@ -4,7 +4,7 @@ use mathlib.Core.Logic.{◌≢◌}
 use mathlib.Core.Bool.{false}
 use mathlib.Core.List.{List, ◌++◌}
 use Prim.Native.Nat.{ℕ}
-use lib.ListN.{length, drop}
+use lib.ListN.{length}
 use lib.Dec.{eqb, ltb}
 use borrow.Author.Tests.{eq-eqb, ne_eqb}
 use Rattle.base.specs.Tests.{T_false, by_cond}
@@ -13,36 +13,31 @@ use Rattle.types.specs.declared.Setup.{Setup}
 use Rattle.types.specs.Quantities.{n_most}
 use Rattle.lines.specs.declared.Read.{Read}
 use Rattle.lines.specs.Forms.{open_bracket, open_word}
-use Rattle.lines.specs.Clauses.{Reading, read_as, no_setup, opening_reading, no_form}
-use Rattle.reader.specs.declared.After.{After}
-use Rattle.reader.specs.declared.After.TheVariants.{At, Away}
+use Rattle.lines.specs.Clauses.{read_as, no_setup, opening_reading, no_form}
+use Rattle.std.specs.Prelude.{Option, Some, None}
+use Rattle.types.specs.declared.Event.{Event}
 use Rattle.reader.specs.declared.Heading.{Heading}
-use Rattle.reader.specs.declared.Heading.TheVariants.{Parameters, NoHeading}
 use Rattle.reader.specs.declared.Table.{Table}
 use Rattle.reader.specs.Scan.{after_word, on_after}
-use Rattle.reader.specs.Lines.{heading_at, table_at, ending_table, ending_heading, event_at, opening_at, reading, skimmed, opening_or, skimmed_reading}
-use Rattle.reader.proofs.Words.{Behind, word-only}
-use Rattle.reader.proofs.Events.{EventRead, event-only}
+use Rattle.reader.proofs.Words.{word-joined}
+use Rattle.reader.specs.Lines.{heading_at, table_at, ending_table, ending_heading, event_at, event_as, opening_at, opening_as, reading, skimmed, opening_or, skimmed_reading}
 
 -- ---- behind the word of an opening
 
 -- an opening has processors, and the setup of what is none has none
-abbrev Tells : Reading → Type 0
-Tells x = opening_or x.setup ≡ x
+abbrev Tells : Option Setup → Type 0
+Tells x = let y = opening_as x in opening_or y.setup ≡ y
 
-by_after : (x : After) (f : ℕ → Reading) → ((k : ℕ) → Tells (f k)) → Tells (on_after x f no_form)
-by_after (At k) f g = g k
-by_after Away f g = refl
+table-tells : (s : List ℕ) (plan : Plan) (faulty : ℕ) (x : Option Table) → eqb plan.n 0 ≡ false → Tells (ending_table s plan faulty x)
+table-tells s plan faulty (Some t) some = by_cond Tells (eqb t.end (length s)) _ None (λ _. rw some) (λ _. refl)
+table-tells s plan faulty None some = refl
 
-table-tells : (s : List ℕ) (plan : Plan) (faulty : ℕ) (t : Table) → eqb plan.n 0 ≡ false → Tells (ending_table s plan faulty t)
-table-tells s plan faulty t some = by_after t.end _ (λ k. by_cond Tells (eqb k (length s)) _ no_form (λ _. rw some) (λ _. refl))
-
-heading-tells : (s : List ℕ) (x : Heading) → Tells (ending_heading s x)
-heading-tells s (Parameters plan faulty k) =
-    by_cond Tells (eqb plan.n 0) no_form _ (λ _. refl)
-    (λ some. by_cond Tells (ltb n_most plan.n) no_form _ (λ _. refl)
-    (λ _. table-tells s plan faulty (table_at s k plan.n) (T_false (eqb plan.n 0) some)))
-heading-tells s NoHeading = refl
+heading-tells : (s : List ℕ) (x : Option Heading) → Tells (ending_heading s x)
+heading-tells s (Some h) =
+    by_cond Tells (eqb h.plan.n 0) None _ (λ _. refl)
+    (λ some. by_cond Tells (ltb n_most h.plan.n) None _ (λ _. refl)
+    (λ _. table-tells s h.plan h.faulty (table_at s h.end h.plan.n) (T_false (eqb h.plan.n 0) some)))
+heading-tells s None = refl
 
 opening-tells : (s : List ℕ) (at : ℕ) → Tells (opening_at s at)
 unfolding opening_at
@@ -50,27 +45,43 @@ opening-tells s at = heading-tells s (heading_at s at)
 
 -- ---- any line
 
-plain-tells : (s : List ℕ) (r : Read) → EventRead s r → skimmed_reading r no_setup ≡ read_as r no_setup
-plain-tells s (Read.Event e) h = refl
-plain-tells s Read.Opening h = absurd h
-plain-tells s Read.NoForm h = refl
+plain-tells : (x : Option Event) → skimmed_reading (event_as x) no_setup ≡ read_as (event_as x) no_setup
+plain-tells (Some e) = refl
+plain-tells None = refl
 
 pub skimmed-reading : (s : List ℕ) → skimmed_reading (skimmed s) (reading s).setup ≡ reading s
 unfolding skimmed reading
-skimmed-reading s = at_bracket (after_word s 0 open_bracket) (word-only s 0 open_bracket)
+skimmed-reading s = at_bracket (after_word s 0 open_bracket)
   where
-    at-word : (a : ℕ) → s ≡ open_bracket ++ drop a s → (x : After)
-        → let y = on_after x (opening_at s) (read_as (event_at s a) no_setup) in skimmed_reading (on_after x (λ b. Read.Opening) (event_at s a)) y.setup ≡ y
-    at-word a h (At b) = opening-tells s b
-    at-word a h Away = plain-tells s (event_at s a) (event-only s a h)
+    at-word : (a : ℕ) (x : Option ℕ)
+        → let y = on_after x (λ b. opening_as (opening_at s b)) (read_as (event_as (event_at s a)) no_setup) in
+        skimmed_reading (on_after x (λ b. Read.Opening) (event_as (event_at s a))) y.setup ≡ y
+    at-word a (Some b) = opening-tells s b
+    at-word a None = plain-tells (event_at s a)
 
-    at_bracket : (x : After) → Behind s 0 open_bracket x
-        → let y = on_after x (λ a. on_after (after_word s a open_word) (opening_at s) (read_as (event_at s a) no_setup)) no_form in
-        skimmed_reading (on_after x (λ a. on_after (after_word s a open_word) (λ b. Read.Opening) (event_at s a)) Read.NoForm) y.setup ≡ y
-    at_bracket (At a) h = at-word a h (after_word s a open_word)
-    at_bracket Away h = refl
+    at_bracket : (x : Option ℕ)
+        → let y = on_after x (λ a. on_after (after_word s a open_word) (λ b. opening_as (opening_at s b)) (read_as (event_as (event_at s a)) no_setup)) no_form in
+        skimmed_reading (on_after x (λ a. on_after (after_word s a open_word) (λ b. Read.Opening) (event_as (event_at s a))) Read.NoForm) y.setup ≡ y
+    at_bracket (Some a) = at-word a (after_word s a open_word)
+    at_bracket None = refl
 
 -- ---- as the code tells
+
+-- the setup of a line stands behind the bracket and the word of an opening
+pub setup-where : (s : List ℕ) → (reading s).setup ≡ (on_after (after_word s 0 (open_bracket ++ open_word)) (λ b. opening_as (opening_at s b)) no_form).setup
+unfolding reading
+setup-where s = rw (word-joined s 0 open_bracket open_word) (bracket (after_word s 0 open_bracket))
+  where
+    word : (a : ℕ) (x : Option ℕ)
+        → (on_after x (λ b. opening_as (opening_at s b)) (read_as (event_as (event_at s a)) no_setup)).setup ≡ (on_after x (λ b. opening_as (opening_at s b)) no_form).setup
+    word a (Some b) = refl
+    word a None = refl
+
+    bracket : (x : Option ℕ)
+        → (on_after x (λ a. on_after (after_word s a open_word) (λ b. opening_as (opening_at s b)) (read_as (event_as (event_at s a)) no_setup)) no_form).setup
+        ≡ (on_after (on_after x (λ a. after_word s a open_word) None) (λ b. opening_as (opening_at s b)) no_form).setup
+    bracket (Some a) = word a (after_word s a open_word)
+    bracket None = refl
 
 pub no-opening : (u : Setup) → u.plan.n ≡ 0 → opening_or u ≡ no_form
 no-opening u h = rw (eq-eqb u.plan.n 0 h)

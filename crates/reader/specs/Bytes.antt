@@ -1,15 +1,19 @@
 -- Bytes classed by digit range, bracket and blank; runs of digits.
-use Rattle.std.specs.Prelude.{ℕ, ◌+◌, ◌-◌, ◌*◌, Bool, ◌&&◌, cond, List, [], ◌∷◌, length, get_or, eqb, leb, ltb}
+use Rattle.std.specs.Prelude.{ℕ, ◌+◌, ◌-◌, ◌*◌, Bool, ◌&&◌, ◌||◌, cond, List, [], ◌∷◌, length, get_or, eqb, leb, ltb}
 use Rattle.lines.specs.Decimal.{digit}
 use Rattle.lines.specs.Forms.{open_byte, close_byte, blank_byte}
 use Rattle.reader.specs.declared.Class.{Class}
-use Rattle.reader.specs.declared.Class.TheVariants.{Digit, OpenBracket, CloseBracket, Blank, Other}
+use Rattle.reader.specs.declared.Class.TheVariants.{Digit, Mark, Other}
 
 abbrev pub is_digit : ℕ → Bool
 is_digit b = leb (digit 0) b && leb b (digit 9)
 
+-- a bracket or a blank
+abbrev pub is_mark : ℕ → Bool
+is_mark b = eqb b open_byte || (eqb b close_byte || eqb b blank_byte)
+
 unfoldable pub class_of : ℕ → Class
-class_of b = cond (is_digit b) (Digit (b - digit 0)) (cond (eqb b open_byte) OpenBracket (cond (eqb b close_byte) CloseBracket (cond (eqb b blank_byte) Blank Other)))
+class_of b = cond (is_digit b) (Digit (b - digit 0)) (cond (is_mark b) (Mark b) Other)
 
 -- and beyond the end none of these
 unfoldable pub class_at : List ℕ → ℕ → Class

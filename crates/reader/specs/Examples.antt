@@ -1,13 +1,11 @@
 -- What lines are read as, computed: forms, and lines that are none. Assumes nothing.
-use Rattle.std.specs.Prelude.{◌≡◌, refl, List, [], ◌∷◌, ◌++◌, map, ℕ, ◌^◌, replicate}
+use Rattle.std.specs.Prelude.{◌≡◌, refl, List, [], ◌∷◌, ◌++◌, map, ℕ, ◌^◌, replicate, None, Some}
 use Rattle.types.specs.declared.Message.TheVariants.{View, Vote, Vc, Qc}
 use Rattle.types.specs.declared.Event.TheVariants.{Deliver, Sign, Show, Settle, Tick}
 use Rattle.model.specs.Rows.{plan_with, standard, setup_of}
 use Rattle.lines.specs.Decimal.{decimal}
 use Rattle.lines.specs.Forms.{open_bracket, close_bracket, one_blank, open_word, tick_word, joined, spaced, carrying_form, sign_word, show_word, clocks_form, opening_form, message_form, event_form}
 use Rattle.lines.specs.Clauses.{event_reading, opening_reading, no_form}
-use Rattle.reader.specs.declared.Decimal.TheVariants.{Is, NoDecimal}
-use Rattle.reader.specs.Bytes.{class_of, class_at}
 use Rattle.reader.specs.Scan.{after_word, number_at, next_number_at, Series, ending, series_at}
 use Rattle.reader.specs.Decimals.{decimal_of}
 use Rattle.reader.specs.Lines.{kind_found_at, message_at, ending_at, deliver_at, sign_at, show_at, ticks_at, event_at, heading_at, first_clock_at, table_end_at, table_at, opening_at, reading}
@@ -39,7 +37,7 @@ good =
 pub good-read : map reading good ≡ (
     event_reading (Deliver (View 0 0)) ∷ event_reading (Sign (Vote 10 2)) ∷ event_reading (Show (Qc 100 0)) ∷ event_reading Settle ∷ event_reading (Tick 18446744073709551615)
     ∷ opening_reading (setup_of standard 8 four) ∷ opening_reading (setup_of standard 8 four) ∷ opening_reading (setup_of (plan_with 4 2 4 6 8) 3 four) ∷ [])
-unfolding good reading event_at opening_at heading_at table_at first_clock_at table_end_at deliver_at sign_at show_at ticks_at ending_at message_at kind_found_at next_number_at number_at after_word class_of class_at decimal event_form message_form
+unfolding good reading event_at opening_at heading_at table_at first_clock_at table_end_at deliver_at sign_at show_at ticks_at ending_at message_at kind_found_at next_number_at number_at after_word decimal event_form message_form
 good-read = refl
 
 -- the last openings: four and seven numbers before the table, a k and a mask of 2^64
@@ -54,7 +52,7 @@ bad =
 
 -- "a line that fails check 1"
 pub bad-read : map reading bad ≡ map (λ s. no_form) bad
-unfolding bad reading event_at opening_at heading_at table_at first_clock_at table_end_at deliver_at sign_at show_at ticks_at ending_at message_at kind_found_at next_number_at number_at after_word class_of class_at decimal event_form message_form
+unfolding bad reading event_at opening_at heading_at table_at first_clock_at table_end_at deliver_at sign_at show_at ticks_at ending_at message_at kind_found_at next_number_at number_at after_word decimal event_form message_form
 bad-read = refl
 
 -- ---- a series of at most three numbers: two, three and a fourth behind them, then none, a leading zero, a second blank, a number too high
@@ -74,13 +72,13 @@ series-read = refl
 
 -- ---- texts that are one number, and texts that are none: nothing, a leading zero, a sign, a blank behind, a newline behind, a number too high
 
-pub numbers-read : map decimal_of (decimal 0 ∷ decimal 10 ∷ decimal 18446744073709551615 ∷ []) ≡ (Is 0 ∷ Is 10 ∷ Is 18446744073709551615 ∷ [])
+pub numbers-read : map decimal_of (decimal 0 ∷ decimal 10 ∷ decimal 18446744073709551615 ∷ []) ≡ (Some 0 ∷ Some 10 ∷ Some 18446744073709551615 ∷ [])
 unfolding decimal_of number_at decimal
 numbers-read = refl
 
 pub no-numbers : List (List ℕ)
 no-numbers = [] ∷ (48 ∷ 49 ∷ []) ∷ (48 ∷ 48 ∷ []) ∷ (43 ∷ 49 ∷ []) ∷ (45 ∷ 49 ∷ []) ∷ (49 ∷ 32 ∷ []) ∷ (49 ∷ 10 ∷ []) ∷ decimal (2 ^ 64) ∷ []
 
-pub none_read : map decimal_of no-numbers ≡ map (λ s. NoDecimal) no-numbers
+pub none_read : map decimal_of no-numbers ≡ map (λ s. None) no-numbers
 unfolding no-numbers decimal_of number_at decimal
 none_read = refl

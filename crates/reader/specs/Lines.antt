@@ -1,5 +1,5 @@
 -- What a line is read as, from the left. That this is the reading of the forms and of nothing else is proved (proofs/RoundTrip).
-use Rattle.std.specs.Prelude.{ℕ, ◌-◌, cond, List, ◌∷◌, ◌++◌, length, get_or, replicate, eqb, ltb}
+use Rattle.std.specs.Prelude.{ℕ, ◌-◌, cond, List, ◌∷◌, ◌++◌, Option, Some, None, length, get_or, replicate, eqb, ltb}
 use Rattle.types.specs.declared.Plan.{Plan}
 use Rattle.types.specs.declared.Message.{Message}
 use Rattle.types.specs.declared.Message.TheVariants.{View, Vote, Vc, Qc}
@@ -13,29 +13,20 @@ use Rattle.lines.specs.declared.Read.{Read}
 use Rattle.lines.specs.declared.Read.TheVariants.{NoForm}
 use Rattle.lines.specs.Forms.{open_bracket, close_bracket, one_blank, open_word, deliver_word, sign_word, show_word, settle_word, tick_word, view_word, vote_word, vc_word, qc_word}
 use Rattle.lines.specs.Clauses.{Reading, read_as, no_setup, event_reading, opening_reading, no_form}
-use Rattle.reader.specs.declared.After.{After}
-use Rattle.reader.specs.declared.After.TheVariants.{At, Away}
-use Rattle.reader.specs.declared.Number.{Number}
-use Rattle.reader.specs.declared.Number.TheVariants.{NoNumber}
 use Rattle.reader.specs.declared.Kind.{Kind}
-use Rattle.reader.specs.declared.KindFound.{KindFound}
-use Rattle.reader.specs.declared.KindFound.TheVariants.{Is, NoKind}
-use Rattle.reader.specs.declared.Said.{Said}
-use Rattle.reader.specs.declared.Said.TheVariants.{Told, NoMessage}
 use Rattle.reader.specs.declared.Heading.{Heading}
-use Rattle.reader.specs.declared.Heading.TheVariants.{Parameters, NoHeading}
 use Rattle.reader.specs.declared.Table.{Table}
 use Rattle.reader.specs.Scan.{after_word, number_at, on_after, on_number, next_number_at, Series, series_at}
 
 -- ---- "(view w p)", and so for vote, vc, qc
 
 -- the kind whose word stands at the place, and the place after it
-unfoldable pub kind_found_at : List ℕ → ℕ → KindFound
+unfoldable pub kind_found_at : List ℕ → ℕ → Option (Kind × ℕ)
 kind_found_at s at =
-    on_after (after_word s at view_word) (Is Kind.View)
-    (on_after (after_word s at vote_word) (Is Kind.Vote)
-    (on_after (after_word s at vc_word) (Is Kind.Vc)
-    (on_after (after_word s at qc_word) (Is Kind.Qc) NoKind)))
+    on_after (after_word s at view_word) (λ a. Some (Kind.View, a))
+    (on_after (after_word s at vote_word) (λ a. Some (Kind.Vote, a))
+    (on_after (after_word s at vc_word) (λ a. Some (Kind.Vc, a))
+    (on_after (after_word s at qc_word) (λ a. Some (Kind.Qc, a)) None)))
 
 abbrev pub message_of : Kind → ℕ → ℕ → Message
 message_of Kind.View w p = View w p
@@ -44,53 +35,57 @@ message_of Kind.Vc w p = Vc w p
 message_of Kind.Qc w p = Qc w p
 
 -- " w p)"
-abbrev pub pair_at : List ℕ → Kind → ℕ → Said
+abbrev pub pair_at : List ℕ → Kind → ℕ → Option (Message × ℕ)
 pair_at s k a =
     on_number (next_number_at s a)
-    (λ w b. on_number (next_number_at s b) (λ p c. on_after (after_word s c close_bracket) (Told (message_of k w p)) NoMessage) NoMessage) NoMessage
+    (λ w b. on_number (next_number_at s b) (λ p c. on_after (after_word s c close_bracket) (λ e. Some (message_of k w p, e)) None) None) None
 
-abbrev pub said_kind : List ℕ → KindFound → Said
-said_kind s (Is k a) = pair_at s k a
-said_kind s NoKind = NoMessage
+abbrev pub said_kind : List ℕ → Option (Kind × ℕ) → Option (Message × ℕ)
+said_kind s (Some (k, a)) = pair_at s k a
+said_kind s None = None
 
 -- the message behind a blank, and the place after it
-unfoldable pub message_at : List ℕ → ℕ → Said
-message_at s at = on_after (after_word s at one_blank) (λ a. on_after (after_word s a open_bracket) (λ b. said_kind s (kind_found_at s b)) NoMessage) NoMessage
+unfoldable pub message_at : List ℕ → ℕ → Option (Message × ℕ)
+message_at s at = on_after (after_word s at (one_blank ++ open_bracket)) (λ a. said_kind s (kind_found_at s a)) None
 
 -- ---- the events
 
 -- the event, if it has this form and the line ends behind a bracket at the place
-unfoldable pub ending_at : List ℕ → ℕ → Event → Read
-ending_at s at e = on_after (after_word s at close_bracket) (λ k. cond (eqb k (length s)) (cond (lacks_form e) NoForm (Read.Event e)) NoForm) NoForm
+unfoldable pub ending_at : List ℕ → ℕ → Event → Option Event
+ending_at s at e = on_after (after_word s at close_bracket) (λ k. cond (eqb k (length s)) (cond (lacks_form e) None (Some e)) None) None
 
 -- " (view w p))" behind the word of an event that carries a message
-abbrev pub ending_said : List ℕ → (Message → Event) → Said → Read
-ending_said s make (Told m k) = ending_at s k (make m)
-ending_said s make NoMessage = NoForm
+abbrev pub ending_said : List ℕ → (Message → Event) → Option (Message × ℕ) → Option Event
+ending_said s make (Some (m, k)) = ending_at s k (make m)
+ending_said s make None = None
 
-unfoldable pub deliver_at : List ℕ → ℕ → Read
+unfoldable pub deliver_at : List ℕ → ℕ → Option Event
 deliver_at s at = ending_said s Deliver (message_at s at)
 
-unfoldable pub sign_at : List ℕ → ℕ → Read
+unfoldable pub sign_at : List ℕ → ℕ → Option Event
 sign_at s at = ending_said s Sign (message_at s at)
 
-unfoldable pub show_at : List ℕ → ℕ → Read
+unfoldable pub show_at : List ℕ → ℕ → Option Event
 show_at s at = ending_said s Show (message_at s at)
 
 -- " m", and the bracket behind it
-unfoldable pub ticks_at : List ℕ → ℕ → Read
-ticks_at s at = on_number (next_number_at s at) (λ m k. ending_at s k (Tick m)) NoForm
+unfoldable pub ticks_at : List ℕ → ℕ → Option Event
+ticks_at s at = on_number (next_number_at s at) (λ m k. ending_at s k (Tick m)) None
 
 -- by the word behind the first bracket
-unfoldable pub event_at : List ℕ → ℕ → Read
+unfoldable pub event_at : List ℕ → ℕ → Option Event
 event_at s at =
     on_after (after_word s at deliver_word) (deliver_at s)
     (on_after (after_word s at tick_word) (ticks_at s)
     (on_after (after_word s at sign_word) (sign_at s)
     (on_after (after_word s at show_word) (show_at s)
-    (on_after (after_word s at settle_word) (λ a. ending_at s a Settle) NoForm))))
+    (on_after (after_word s at settle_word) (λ a. ending_at s a Settle) None))))
 
 -- ---- the opening
+
+-- a plan and a mask, and the place after them
+abbrev pub heading_of : Plan → ℕ → ℕ → Heading
+heading_of plan faulty k = record { plan = plan; faulty = faulty; end = k }
 
 -- "n Δ Γ V mask" with k "after V": which numbers stand before the table, their count tells
 abbrev pub heading_most : ℕ
@@ -101,64 +96,69 @@ abbrev pub heading_usual : ℕ
 heading_usual = 5
 
 -- the mask comes last; "any opening line without it is read as k=3"
-abbrev pub heading_series : Series → Heading
+abbrev pub heading_series : Series → Option Heading
 heading_series x =
     let ns = x.numbers in
-    cond (eqb (length ns) heading_most) (Parameters (plan_in ns) (get_or ns 5 0) x.end)
-    (cond (eqb (length ns) heading_usual) (Parameters (usual_plan_in ns) (get_or ns 4 0) x.end) NoHeading)
+    cond (eqb (length ns) heading_most) (Some (heading_of (plan_in ns) (get_or ns 5 0) x.end))
+    (cond (eqb (length ns) heading_usual) (Some (heading_of (usual_plan_in ns) (get_or ns 4 0) x.end)) None)
 
-unfoldable pub heading_at : List ℕ → ℕ → Heading
+unfoldable pub heading_at : List ℕ → ℕ → Option Heading
 heading_at s at = heading_series (series_at heading_most s at)
 
 -- " (c0"
-unfoldable pub first_clock_at : List ℕ → ℕ → Number
-first_clock_at s at = on_after (after_word s at one_blank) (λ a. on_after (after_word s a open_bracket) (number_at s) NoNumber) NoNumber
+unfoldable pub first_clock_at : List ℕ → ℕ → Option (ℕ × ℕ)
+first_clock_at s at = on_after (after_word s at (one_blank ++ open_bracket)) (number_at s) None
 
 -- "))"
-unfoldable pub table_end_at : List ℕ → ℕ → After
-table_end_at s at = on_after (after_word s at close_bracket) (λ a. after_word s a close_bracket) Away
-
-abbrev pub no_table : Table
-no_table = record { end = Away; clocks = replicate table_clocks 0 }
+unfoldable pub table_end_at : List ℕ → ℕ → Option ℕ
+table_end_at s at = after_word s at (close_bracket ++ close_bracket)
 
 -- the clocks read, and 0 behind them
 abbrev pub table_of : List ℕ → ℕ → Table
-table_of cs k = record { end = At k; clocks = cs ++ replicate (table_clocks - length cs) 0 }
+table_of cs k = record { clocks = cs ++ replicate (table_clocks - length cs) 0; end = k }
 
 -- behind the first of n clocks, c: the others and the brackets
-abbrev pub table_series : List ℕ → ℕ → ℕ → Series → Table
-table_series s n c x = cond (eqb (length x.numbers) (n - 1)) (on_after (table_end_at s x.end) (table_of (c ∷ x.numbers)) no_table) no_table
+abbrev pub table_series : List ℕ → ℕ → ℕ → Series → Option Table
+table_series s n c x = cond (eqb (length x.numbers) (n - 1)) (on_after (table_end_at s x.end) (λ k. Some (table_of (c ∷ x.numbers) k)) None) None
 
 -- " (c0 c1 ..))", n clocks from 1
-unfoldable pub table_at : List ℕ → ℕ → ℕ → Table
-table_at s at n = on_number (first_clock_at s at) (λ c k. table_series s n c (series_at (n - 1) s k)) no_table
+unfoldable pub table_at : List ℕ → ℕ → ℕ → Option Table
+table_at s at n = on_number (first_clock_at s at) (λ c k. table_series s n c (series_at (n - 1) s k)) None
 
--- the opening, if the line ends behind its table
-abbrev pub ending_table : List ℕ → Plan → ℕ → Table → Reading
-ending_table s plan faulty t =
-    on_after t.end (λ k. cond (eqb k (length s)) (opening_reading (record { plan = plan; faulty = faulty; clocks = t.clocks })) no_form) no_form
+-- the setup, if the line ends behind its table
+abbrev pub ending_table : List ℕ → Plan → ℕ → Option Table → Option Setup
+ending_table s plan faulty (Some t) = cond (eqb t.end (length s)) (Some (record { plan = plan; faulty = faulty; clocks = t.clocks })) None
+ending_table s plan faulty None = None
 
-abbrev pub ending_heading : List ℕ → Heading → Reading
-ending_heading s (Parameters plan faulty k) =
-    cond (eqb plan.n 0) no_form (cond (ltb n_most plan.n) no_form (ending_table s plan faulty (table_at s k plan.n)))
-ending_heading s NoHeading = no_form
+abbrev pub ending_heading : List ℕ → Option Heading → Option Setup
+ending_heading s (Some h) =
+    cond (eqb h.plan.n 0) None (cond (ltb n_most h.plan.n) None (ending_table s h.plan h.faulty (table_at s h.end h.plan.n)))
+ending_heading s None = None
 
--- behind the word
-unfoldable pub opening_at : List ℕ → ℕ → Reading
+-- the setup behind the word of an opening
+unfoldable pub opening_at : List ℕ → ℕ → Option Setup
 opening_at s at = ending_heading s (heading_at s at)
 
 -- ---- a line
 
+abbrev pub event_as : Option Event → Read
+event_as (Some e) = Read.Event e
+event_as None = NoForm
+
+abbrev pub opening_as : Option Setup → Reading
+opening_as (Some u) = opening_reading u
+opening_as None = no_form
+
 unfoldable pub reading : List ℕ → Reading
 reading s =
     on_after (after_word s 0 open_bracket)
-    (λ a. on_after (after_word s a open_word) (opening_at s) (read_as (event_at s a) no_setup))
+    (λ a. on_after (after_word s a open_word) (λ b. opening_as (opening_at s b)) (read_as (event_as (event_at s a)) no_setup))
     no_form
 
 -- ---- a line skimmed: one that begins as an opening does is taken for one, whatever comes behind; any other is read
 
 unfoldable pub skimmed : List ℕ → Read
-skimmed s = on_after (after_word s 0 open_bracket) (λ a. on_after (after_word s a open_word) (λ b. Read.Opening) (event_at s a)) NoForm
+skimmed s = on_after (after_word s 0 open_bracket) (λ a. on_after (after_word s a open_word) (λ b. Read.Opening) (event_as (event_at s a))) NoForm
 
 -- what such a line is read as, its setup tells: no opening is of 0 processors
 abbrev pub opening_or : Setup → Reading

@@ -1,11 +1,7 @@
 -- Reading at a place of a line: a word, a number, numbers in a series.
-use Rattle.std.specs.Prelude.{ℕ, zero, suc, ◌+◌, ◌≤◌, ◌≡◌, Bool, true, false, ◌&&◌, cond, List, [], ◌∷◌, length, take, drop, eqb, ltb}
+use Rattle.std.specs.Prelude.{ℕ, zero, suc, ◌+◌, ◌≤◌, ◌≡◌, Bool, true, false, ◌&&◌, cond, List, [], ◌∷◌, Option, Some, None, length, take, drop, eqb, ltb}
 use Rattle.lines.specs.Decimal.{digit, field_limit}
 use Rattle.lines.specs.Forms.{one_blank}
-use Rattle.reader.specs.declared.After.{After}
-use Rattle.reader.specs.declared.After.TheVariants.{At, Away}
-use Rattle.reader.specs.declared.Number.{Number}
-use Rattle.reader.specs.declared.Number.TheVariants.{Value, NoNumber}
 use Rattle.reader.specs.declared.Several.{Several}
 use Rattle.reader.specs.Bytes.{digit_run, spelled}
 
@@ -18,34 +14,34 @@ starts [] (c ∷ w) = false
 starts (b ∷ s) (c ∷ w) = eqb b c && starts s w
 
 -- the place after w, if w stands at the place and the line reaches so far
-unfoldable pub after_word : List ℕ → ℕ → List ℕ → After
-after_word s at w = cond (ltb (length s) at) Away (cond (starts (drop at s) w) (At (at + length w)) Away)
+unfoldable pub after_word : List ℕ → ℕ → List ℕ → Option ℕ
+after_word s at w = cond (ltb (length s) at) None (cond (starts (drop at s) w) (Some (at + length w)) None)
 
 -- ---- a number
 
-abbrev pub fitting : ℕ → ℕ → Number
-fitting v k = cond (ltb v field_limit) (Value v k) NoNumber
+abbrev pub fitting : ℕ → ℕ → Option (ℕ × ℕ)
+fitting v k = cond (ltb v field_limit) (Some (v, k)) None
 
 -- what digits say that end before place k: "decimal without leading zeros, below 2^64"
-abbrev pub numeral : List ℕ → ℕ → Number
-numeral [] k = NoNumber
-numeral (b ∷ l) k = cond (eqb b (digit 0)) (cond (eqb (length l) 0) (Value 0 k) NoNumber) (fitting (spelled 0 (b ∷ l)) k)
+abbrev pub numeral : List ℕ → ℕ → Option (ℕ × ℕ)
+numeral [] k = None
+numeral (b ∷ l) k = cond (eqb b (digit 0)) (cond (eqb (length l) 0) (Some (0, k)) None) (fitting (spelled 0 (b ∷ l)) k)
 
 -- the number at a place, and the place after it
-unfoldable pub number_at : List ℕ → ℕ → Number
+unfoldable pub number_at : List ℕ → ℕ → Option (ℕ × ℕ)
 number_at s at = numeral (digit_run (drop at s)) (at + length (digit_run (drop at s)))
 
-abbrev pub on_after : {A : Type 0} → After → (ℕ → A) → A → A
-on_after (At k) f z = f k
-on_after Away f z = z
+abbrev pub on_after : {A : Type 0} → Option ℕ → (ℕ → A) → A → A
+on_after (Some k) f z = f k
+on_after None f z = z
 
-abbrev pub on_number : {A : Type 0} → Number → (ℕ → ℕ → A) → A → A
-on_number (Value n k) f z = f n k
-on_number NoNumber f z = z
+abbrev pub on_number : {A : Type 0} → Option (ℕ × ℕ) → (ℕ → ℕ → A) → A → A
+on_number (Some (n, k)) f z = f n k
+on_number None f z = z
 
 -- a blank and a number
-unfoldable pub next_number_at : List ℕ → ℕ → Number
-next_number_at s at = on_after (after_word s at one_blank) (number_at s) NoNumber
+unfoldable pub next_number_at : List ℕ → ℕ → Option (ℕ × ℕ)
+next_number_at s at = on_after (after_word s at one_blank) (number_at s) None
 
 -- ---- numbers in a series
 

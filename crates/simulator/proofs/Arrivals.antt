@@ -24,7 +24,8 @@ use Rattle.model.specs.Checks.{at_end, reaches_end}
 use Rattle.model.specs.Processors.{Moved, moving, messages_of, moving_by}
 use Rattle.liveness.proofs.TickLaws.{clock_up}
 use Rattle.pacemaker.proofs.AnswerLaws.{tick-clock}
-use Rattle.simulator.specs.declared.Reaction.{Reaction}
+use Rattle.simulator.specs.declared.Move.{Move}
+use Rattle.std.specs.Prelude.{Ok}
 use Rattle.simulator.specs.Inner.{arrival_move, Arrives, seat, arrived_below, ends_at}
 use Rattle.simulator.proofs.Entries.{entries-clocks, entries-views}
 
@@ -122,16 +123,16 @@ module _ (s : State) where
         go false = refl
 
     -- one processor more
-    module _ (k : ℕ) (low : k < r.plan.n) (x : Reaction) (arrives : Arrives r.plan r.faulty (seat r k) x) (goes_on : x.ends ≡ false) where
+    module _ (k : ℕ) (low : k < r.plan.n) (x : Move) (arrives : Arrives r.plan r.faulty (seat r k) (Ok x)) where
       pub same-processor : x.processor ≡ (moving r.plan k (clock_of (changed a (below k)) k) (view_of (changed a (below k)) k) (arrival a k)).processor
-      same-processor = arrives.processor goes_on ∙ ap (λ (m : Moved). m.processor) (arrival-is k low)
+      same-processor = arrives.1 ∙ ap (λ (m : Moved). m.processor) (arrival-is k low)
 
       pub same_sent : messages_of k x.sends ≡ (moving r.plan k (clock_of (changed a (below k)) k) (view_of (changed a (below k)) k) (arrival a k)).sent
-      same_sent = arrives.sent goes_on ∙ ap (λ (m : Moved). m.sent) (arrival-is k low)
+      same_sent = arrives.2 ∙ ap (λ (m : Moved). m.sent) (arrival-is k low)
 
       pub clocks-more : clocks_on r (k + 1) ≡ set (clocks_on r k) k x.processor.clock
       unfolding clocks_on
-      clocks-more = ap (clocks_on r) (add-one k) ∙ (rw (ap (λ (c : Processor). c.clock) (arrives.processor goes_on)) (go (is_correct r k)))
+      clocks-more = ap (clocks_on r) (add-one k) ∙ (rw (ap (λ (c : Processor). c.clock) (arrives.1)) (go (is_correct r k)))
         where
           go : (b : Bool) → cond b (set (clocks_on r k) k (clock_of r k + 1)) (clocks_on r k)
               ≡ set (clocks_on r k) k (cond b (moving_by r.plan (seat r k) Tick) (moving r.plan k (clock_of r k) (view_of r k) stay)).processor.clock

@@ -2,7 +2,8 @@
 use mathlib.Core.Path.{◌≡◌, refl, sym, ap, ap₂, ◌∙◌, subst}
 use mathlib.Core.Bool.{Bool, true, false, not, ◌&&◌, cond}
 use mathlib.Core.List.{List}
-use Prim.Native.Nat.{ℕ, ◌+◌, ◌≤◌, ◌<◌}
+use Rattle.std.specs.Prelude.{Ok, Err, is_ok}
+use Prim.Native.Nat.{ℕ, zero, suc, ◌+◌, ◌≤◌, ◌<◌}
 use native.Mathlib.Omega.{arith}
 use lib.Dec.{leb, ltb}
 use lib.ListN.{length}
@@ -15,25 +16,38 @@ use Rattle.types.specs.declared.Message.TheVariants.{View, Vote, Vc, Qc}
 use Rattle.types.specs.declared.Run.{Run}
 use Rattle.types.specs.declared.Traffic.{Traffic}
 use Rattle.types.specs.declared.Form.TheVariants.{Packed}
-use Rattle.types.specs.declared.Sends.{Sends}
-use Rattle.types.specs.declared.Sends.TheVariants.{Nothing}
 use Rattle.types.specs.declared.Input.TheVariants.{Vc as VcIn, Qc as QcIn}
 use Rattle.types.specs.Quantities.{n_most, views_most, initial}
 use Rattle.types.specs.Traffic.{traffic_sent}
-use Rattle.types.specs.Messages.{view_stage, vote_stage, view_in, processor_in, stage_of, is_signature}
+use Rattle.types.specs.Messages.{view_stage, vote_stage, view_in, processor_in, stage_of}
 use Rattle.model.specs.State.{state_of, with_held, with_traffic, view_of, is_correct}
-use Rattle.model.specs.Moves.{Change, changed, by_view, by_quorum, forms, hearing, handling, made, formed_messages, heard_change}
-use Rattle.model.specs.Checks.{plan_outside, no_processor, no_view, named_outside, not_initial, reaches_end}
+use Rattle.model.specs.Moves.{Change, changed, by_view, by_quorum, forms, hearing, handling, made, heard_change}
+use Rattle.model.specs.Checks.{plan_outside, no_processor, no_view, named_outside, not_initial, reaches_end, passed, refusal}
 use Rattle.liveness.proofs.Answers.{no-yes}
 use Rattle.liveness.proofs.Judging.{named-within}
 use Rattle.model.specs.Processors.{moving_by}
 use Rattle.pacemaker.proofs.LimitLaws.{within as limits}
 use Rattle.buffers.specs.Network.{packable, is-sayable}
+use Rattle.simulator.specs.declared.Move.{Move}
 use Rattle.simulator.specs.declared.Reaction.{Reaction}
-use Rattle.simulator.specs.Inner.{Posts, AllPackable, sent_by, Reacts, moved_change, change_by, sent_for, Fit, seat, named_check, Decides}
+use Rattle.simulator.specs.declared.Reaction.TheVariants.{Heard, Moved as MovedBy}
+use Rattle.simulator.specs.Inner.{Posts, AllPackable, Reacts, change_by, sent_for, Fit, seat, named_check, Decides}
 use Rattle.simulator.proofs.Moving.{moved-taking, stays-below, taking-reaches}
-use Rattle.simulator.proofs.Packing.{none-packs, taking-packs}
+use Rattle.simulator.proofs.Packing.{taking-packs}
 use Rattle.simulator.proofs.Ticking.{state-by}
+
+-- ---- a check passes, or refuses by its number
+
+number-passed : (k : ℕ) → refusal (passed k) ≡ k
+number-passed zero = refl
+number-passed (suc k) = refl
+
+pub check-passes : (k : ℕ) → Ok tt ≡ passed k → k ≡ 0
+check-passes k e = sym (ap refusal e ∙ number-passed k)
+
+pub check-refuses : (k e : ℕ) → Err e ≡ passed k → (e ≡ k) × (0 < e)
+check-refuses zero e q = no-yes (sym (ap is_ok q))
+check-refuses (suc k) e q = let same : e ≡ suc k = ap refusal q in (same, omega arith)
 
 -- ---- checks 10 and 11
 
@@ -44,25 +58,25 @@ module _ (plan : Plan) (m : Message) where
   abbrev uninitial : Bool
   uninitial = not_initial plan (stage_of m) (view_in m)
 
-  pub no-such-processor : (p : ℕ) → p ≡ processor_in m → plan.n ≤ p → 10 ≡ named_check plan m
-  no-such-processor p e l = cond_yes outside 10 10 _ (or-first (no_processor plan (processor_in m)) (no_view plan (view_in m)) (ap (no_processor plan) (sym e) ∙ le-leb _ _ l)) refl
+  pub no-such-processor : (p : ℕ) → p ≡ processor_in m → plan.n ≤ p → Err 10 ≡ passed (named_check plan m)
+  no-such-processor p e l = ap passed (cond_yes outside 10 10 _ (or-first (no_processor plan (processor_in m)) (no_view plan (view_in m)) (ap (no_processor plan) (sym e) ∙ le-leb _ _ l)) refl)
 
-  pub no-such-view : (w : ℕ) → w ≡ view_in m → plan.views ≤ w → 10 ≡ named_check plan m
-  no-such-view w e l = cond_yes outside 10 10 _ (or-second (no_processor plan (processor_in m)) (no_view plan (view_in m)) (ap (no_view plan) (sym e) ∙ le-leb _ _ l)) refl
+  pub no-such-view : (w : ℕ) → w ≡ view_in m → plan.views ≤ w → Err 10 ≡ passed (named_check plan m)
+  no-such-view w e l = ap passed (cond_yes outside 10 10 _ (or-second (no_processor plan (processor_in m)) (no_view plan (view_in m)) (ap (no_view plan) (sym e) ∙ le-leb _ _ l)) refl)
 
   module _ (p w : ℕ) (is-p : p ≡ processor_in m) (is-w : w ≡ view_in m) (p-low : p < plan.n) (w-low : w < plan.views) where
     within : outside ≡ false
     within = or-neither (no_processor plan (processor_in m)) (no_view plan (view_in m)) (ap (no_processor plan) (sym is-p) ∙ lt-leb _ _ p-low)
         (ap (no_view plan) (sym is-w) ∙ lt-leb _ _ w-low)
 
-    pub second-stage : stage_of m ≡ true → 0 ≡ named_check plan m
-    second-stage e = cond_no outside 0 10 _ within (cond_no uninitial 0 11 0 (and-not-first (not (stage_of m)) (not (initial plan (view_in m))) (not_yes _ e)) refl)
+    pub second-stage : stage_of m ≡ true → Ok tt ≡ passed (named_check plan m)
+    second-stage e = ap passed (cond_no outside 0 10 _ within (cond_no uninitial 0 11 0 (and-not-first (not (stage_of m)) (not (initial plan (view_in m))) (not_yes _ e)) refl))
 
-    pub at-initial : initial plan (view_in m) ≡ true → 0 ≡ named_check plan m
-    at-initial e = cond_no outside 0 10 _ within (cond_no uninitial 0 11 0 (and-not-second (not (stage_of m)) (not (initial plan (view_in m))) (not_yes _ e)) refl)
+    pub at-initial : initial plan (view_in m) ≡ true → Ok tt ≡ passed (named_check plan m)
+    at-initial e = ap passed (cond_no outside 0 10 _ within (cond_no uninitial 0 11 0 (and-not-second (not (stage_of m)) (not (initial plan (view_in m))) (not_yes _ e)) refl))
 
-    pub not-at-initial : stage_of m ≡ false → initial plan (view_in m) ≡ false → 11 ≡ named_check plan m
-    not-at-initial e f = cond_no outside 11 10 _ within (cond_yes uninitial 11 11 0 (and_both _ _ (not-no _ e) (not-no _ f)) refl)
+    pub not-at-initial : stage_of m ≡ false → initial plan (view_in m) ≡ false → Err 11 ≡ passed (named_check plan m)
+    not-at-initial e f = ap passed (cond_no outside 11 10 _ within (cond_yes uninitial 11 11 0 (and_both _ _ (not-no _ e) (not-no _ f)) refl))
 
   -- what passes them
   pub named-passed : named_check plan m ≡ 0 → (outside ≡ false) × (uninitial ≡ false)
@@ -113,76 +127,51 @@ named-refused {A} refusal plan m k x e l = go (outside plan m) (uninitial plan m
 -- ---- what a reaction sends
 
 pub change-sent : (r : Run) (t : List ℕ) (m : Message) (x : Reaction) → (change_by r t m x).sent ≡ sent_for r.plan r.faulty m x
-change-sent r t (View w p) x = refl
-change-sent r t (Vote w p) x = refl
-change-sent r t (Vc w p) x = refl
-change-sent r t (Qc w p) x = refl
-
--- ---- a signature is heard, a certificate moves its receiver
-
-module _ (r : Run) (t : List ℕ) (x : Reaction) where
-  pub signature-change : (m : Message) → is_signature m ≡ true → change_by r t m x ≡ heard_change (stage_of m) r t (view_in m) (processor_in m) x.formed
-  signature-change (View w p) e = refl
-  signature-change (Vote w p) e = refl
-  signature-change (Vc w p) e = no-yes (sym e)
-  signature-change (Qc w p) e = no-yes (sym e)
-
-  pub certificate-change : (m : Message) → is_signature m ≡ false → change_by r t m x ≡ moved_change r t (processor_in m) x
-  certificate-change (View w p) e = no-yes e
-  certificate-change (Vote w p) e = no-yes e
-  certificate-change (Vc w p) e = refl
-  certificate-change (Qc w p) e = refl
-
-module _ (plan : Plan) (faulty : ℕ) (x : Reaction) where
-  pub signature-sent : (m : Message) → is_signature m ≡ true → sent_for plan faulty m x ≡ formed_messages plan faulty (stage_of m) (view_in m) x.formed
-  signature-sent (View w p) e = refl
-  signature-sent (Vote w p) e = refl
-  signature-sent (Vc w p) e = no-yes (sym e)
-  signature-sent (Qc w p) e = no-yes (sym e)
-
-  pub certificate-sent : (m : Message) → is_signature m ≡ false → sent_for plan faulty m x ≡ sent_by plan faulty (processor_in m) x.sends
-  certificate-sent (View w p) e = no-yes e
-  certificate-sent (Vote w p) e = no-yes e
-  certificate-sent (Vc w p) e = refl
-  certificate-sent (Qc w p) e = refl
+change-sent r t m (Heard formed) = refl
+change-sent r t m (MovedBy x) = refl
 
 -- ---- what a message makes of whom it reaches
 
-module _ (r : Run) (t : List ℕ) (fit : Fit r) (x : Reaction) where
-  decides-heard : (stage : Bool) (w p : ℕ) → x.ends ≡ false → x.formed ≡ forms stage r t w p
-      → (x.ends ≡ reaches_end r (hearing stage r t w p)) × (heard_change stage r t w p x.formed ≡ hearing stage r t w p)
+module _ (r : Run) (t : List ℕ) (fit : Fit r) where
+  decides-heard : (stage : Bool) (w p : ℕ) (formed : Bool) → formed ≡ forms stage r t w p
+      → (reaches_end r (hearing stage r t w p) ≡ false) × (heard_change stage r t w p formed ≡ hearing stage r t w p)
   unfolding hearing
-  decides-heard stage w p e f = (
-    e ∙ sym (stays-below r fit (hearing stage r t w p) refl),
-    ap (heard_change stage r t w p) f,
-  )
+  decides-heard stage w p formed f = (stays-below r fit (hearing stage r t w p) refl, ap (heard_change stage r t w p) f)
 
-  pub decides-view : (w p : ℕ) → x.ends ≡ false → x.formed ≡ forms view_stage r t w p → x.sends ≡ Nothing → Decides r t (View w p) x
+  pub decides-view : (w p : ℕ) (formed : Bool) → formed ≡ forms view_stage r t w p → Decides r t (View w p) (Ok (Heard formed))
   unfolding handling
-  decides-view w p e f n = let d = decides-heard view_stage w p e f in record { ends = d.0; change = λ _. d.1; packs = λ _. subst (λ (y : Sends). AllPackable (sent_by r.plan r.faulty p y)) (sym n) (none-packs r.plan r.faulty) }
+  decides-view w p formed f = let d = decides-heard view_stage w p formed f in (d.0, d.1, tt)
 
-  pub decides-vote : (w p : ℕ) → x.ends ≡ false → x.formed ≡ forms vote_stage r t w p → x.sends ≡ Nothing → Decides r t (Vote w p) x
+  pub decides-vote : (w p : ℕ) (formed : Bool) → formed ≡ forms vote_stage r t w p → Decides r t (Vote w p) (Ok (Heard formed))
   unfolding handling
-  decides-vote w p e f n = let d = decides-heard vote_stage w p e f in record { ends = d.0; change = λ _. d.1; packs = λ _. subst (λ (y : Sends). AllPackable (sent_by r.plan r.faulty p y)) (sym n) (none-packs r.plan r.faulty) }
+  decides-vote w p formed f = let d = decides-heard vote_stage w p formed f in (d.0, d.1, tt)
 
   module _ (p : ℕ) (ok : is_correct r p ≡ true) (low : p < length r.clocks) (seated : p < n_most) (w : ℕ) (small : w < views_most) where
-    pub decides-vc : Reacts r.plan (seat r p) (moving_by r.plan (seat r p) (VcIn w)) x → Decides r t (Vc w p) x
+    pub decides-vc : (x : Move) → Reacts r.plan (seat r p) (moving_by r.plan (seat r p) (VcIn w)) (Ok x) → Decides r t (Vc w p) (Ok (MovedBy x))
     unfolding handling
-    decides-vc a = record {
-      ends = a.ends ∙ sym (taking-reaches r fit t p (by_view r.plan (view_of r p) w) ok low);
-      change = λ e. moved-taking r t p (by_view r.plan (view_of r p) w) x (a.processor e) (a.sent e);
-      packs = λ e. subst (λ (c : Change). AllPackable c.sent) (sym (moved-taking r t p (by_view r.plan (view_of r p) w) x (a.processor e) (a.sent e)))
-          (taking-packs r t p w (initial r.plan w && ltb (view_of r p) w) seated (omega arith));
-    }
+    decides-vc x a =
+        let e = moved-taking r t p (by_view r.plan (view_of r p) w) x a.1 a.2 in (
+          taking-reaches r fit t p (by_view r.plan (view_of r p) w) ok low ∙ a.0,
+          e,
+          subst (λ (c : Change). AllPackable c.sent) (sym e) (taking-packs r t p w (initial r.plan w && ltb (view_of r p) w) seated (omega arith)),
+        )
 
-    pub decides-qc : Reacts r.plan (seat r p) (moving_by r.plan (seat r p) (QcIn w)) x → Decides r t (Qc w p) x
+    pub refuses-vc : (k : ℕ) → Reacts r.plan (seat r p) (moving_by r.plan (seat r p) (VcIn w)) (Err k) → Decides r t (Vc w p) (Err k)
     unfolding handling
-    decides-qc a = record {
-      ends = a.ends ∙ sym (taking-reaches r fit t p (by_quorum (view_of r p) w) ok low);
-      change = λ e. moved-taking r t p (by_quorum (view_of r p) w) x (a.processor e) (a.sent e);
-      packs = λ e. subst (λ (c : Change). AllPackable c.sent) (sym (moved-taking r t p (by_quorum (view_of r p) w) x (a.processor e) (a.sent e)))
-          (taking-packs r t p (w + 1) (leb (view_of r p) w) seated (omega arith));
-    }
+    refuses-vc k a = (taking-reaches r fit t p (by_view r.plan (view_of r p) w) ok low ∙ a.0, a.1)
+
+    pub decides-qc : (x : Move) → Reacts r.plan (seat r p) (moving_by r.plan (seat r p) (QcIn w)) (Ok x) → Decides r t (Qc w p) (Ok (MovedBy x))
+    unfolding handling
+    decides-qc x a =
+        let e = moved-taking r t p (by_quorum (view_of r p) w) x a.1 a.2 in (
+          taking-reaches r fit t p (by_quorum (view_of r p) w) ok low ∙ a.0,
+          e,
+          subst (λ (c : Change). AllPackable c.sent) (sym e) (taking-packs r t p (w + 1) (leb (view_of r p) w) seated (omega arith)),
+        )
+
+    pub refuses-qc : (k : ℕ) → Reacts r.plan (seat r p) (moving_by r.plan (seat r p) (QcIn w)) (Err k) → Decides r t (Qc w p) (Err k)
+    unfolding handling
+    refuses-qc k a = (taking-reaches r fit t p (by_quorum (view_of r p) w) ok low ∙ a.0, a.1)
 
 -- ---- a reaction done
 

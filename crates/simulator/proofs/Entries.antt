@@ -16,7 +16,7 @@ use Rattle.model.specs.State.{clock_of, view_of, capacity}
 use Rattle.model.specs.Moves.{Change, changed, to_correct, Entry, stay, into, entry_clock, entry_messages, entering, taking, entries}
 use Rattle.model.specs.Processors.{Moved, messages_of, moving}
 use Rattle.liveness.proofs.FirstEntries.{correct-fewer, entry-few}
-use Rattle.simulator.specs.declared.Reaction.{Reaction}
+use Rattle.simulator.specs.declared.Move.{Move}
 use Rattle.buffers.specs.Network.{packable}
 use Rattle.simulator.specs.Inner.{Posts, AllPackable, sent_by, entered_by, moved_change}
 use Rattle.simulator.proofs.Moving.{moved-taking}
@@ -84,7 +84,7 @@ module _ (e : ℕ → Entry) (r : Run) (t : List ℕ) where
   sent-below k n l = let z : n - k + k ≡ n = omega arith in subst (λ (i : ℕ). length (below k).sent ≤ length (below i).sent) z (sent-mono k (n - k))
 
   -- a reaction that is this processor's turn
-  module _ (k : ℕ) (x : Reaction) (same-processor : x.processor ≡ (turn k).processor) (same_sent : messages_of k x.sends ≡ (turn k).sent) where
+  module _ (k : ℕ) (x : Move) (same-processor : x.processor ≡ (turn k).processor) (same_sent : messages_of k x.sends ≡ (turn k).sent) where
     change-more : moved_change (changed r (below k)) (below k).tally k x ≡ taking (changed r (below k)) (below k).tally k (e k)
     change-more = moved-taking (changed r (below k)) (below k).tally k (e k) x same-processor same_sent
 

@@ -31,6 +31,8 @@ use Rattle.liveness.proofs.Answers.{no-yes}
 use Rattle.liveness.proofs.Unchecked.{handling-sums}
 use Rattle.leaps.proofs.Leaping.{still-made}
 use Rattle.simulator.specs.declared.Reaction.{Reaction}
+use Rattle.simulator.specs.declared.Reaction.TheVariants.{Heard, Moved as MovedBy}
+use Rattle.std.specs.Prelude.{Result, Ok, Err}
 use Rattle.simulator.specs.Inner.{change_by, sent_for, Decides, ReachesCorrect, named_check, finished, head_without, leaving, handled}
 use Rattle.simulator.proofs.Fitness.{fit_of, room_of}
 use Rattle.simulator.proofs.Delivery.{room-left}
@@ -48,58 +50,25 @@ done-is s h c v t ws x e q = (λ i. record { state = state_of (run_from (e.0 i) 
 
 -- ---- checks 17 and 18 of a change, and the change made
 
--- the first of two checks that refuses, or 0
-abbrev outcome : Bool → Bool → ℕ
-outcome ends full = cond ends 17 (cond full 18 0)
-
-outcome-refused : (ends full : Bool) (s : State) (a : After) (k : ℕ) → k ≡ outcome ends full → 0 < k
-    → refused s k ≡ cond ends (refused s 17) (cond full (refused s 18) a)
-outcome-refused true full s a k e l = ap (refused s) e
-outcome-refused false true s a k e l = ap (refused s) e
-outcome-refused false false s a k e l = absurd (omega (arith, e, l))
-
-pub outcome-passed : (ends full : Bool) → outcome ends full ≡ 0 → (ends ≡ false) × (full ≡ false)
-outcome-passed true full e = absurd (omega (arith, e))
-outcome-passed false true e = absurd (omega (arith, e))
-outcome-passed false false e = (refl, refl)
-
 module _ (s s' : State) (c : Change) where
-  pub finish-refused : (k : ℕ) → k ≡ outcome (reaches_end s'.run c) (overfull s' c) → 0 < k → refused s k ≡ finished s s' c
-  finish-refused k e l = outcome-refused (reaches_end s'.run c) (overfull s' c) s (done (made s' c)) k e l
+  pub finish-ends : reaches_end s'.run c ≡ true → refused s 17 ≡ finished s s' c
+  finish-ends e = rw e refl
+
+  pub finish-full : reaches_end s'.run c ≡ false → overfull s' c ≡ true → refused s 18 ≡ finished s s' c
+  finish-full e f = rw (e, f) refl
 
   pub finish-done : reaches_end s'.run c ≡ false → overfull s' c ≡ false → done (made s' c) ≡ finished s s' c
   finish-done e f = rw (e, f) refl
 
--- what was decided of a change tells its outcome
-module _ (r : Run) (t : List ℕ) (m : Message) (x : Reaction) (d : Decides r t m x) where
-  decided-sent : x.ends ≡ false → sent_for r.plan r.faulty m x ≡ (handling r t m).sent
-  decided-sent goes_on = sym (change-sent r t m x) ∙ ap (λ (c : Change). c.sent) (d.change goes_on)
-
-  pub decided-outcome : (h k : ℕ) → outcome x.ends (ltb k (h + length (sent_for r.plan r.faulty m x)))
-      ≡ outcome (reaches_end r (handling r t m)) (ltb k (h + length (handling r t m).sent))
-  decided-outcome h k = go x.ends refl
-    where
-      go : (b : Bool) → x.ends ≡ b → outcome x.ends (ltb k (h + length (sent_for r.plan r.faulty m x)))
-          ≡ outcome (reaches_end r (handling r t m)) (ltb k (h + length (handling r t m).sent))
-      go true e = ap (λ (b : Bool). outcome b (ltb k (h + length (sent_for r.plan r.faulty m x)))) e
-          ∙ ap (λ (b : Bool). outcome b (ltb k (h + length (handling r t m).sent))) (sym e ∙ d.ends)
-      go false e = ap (λ (ms : List Message). outcome x.ends (ltb k (h + length ms))) (decided-sent e)
-          ∙ ap (λ (b : Bool). outcome b (ltb k (h + length (handling r t m).sent))) d.ends
-
 -- nothing of it looks at the sums
 change-counted : (r : Run) (y : Traffic) (t : List ℕ) (m : Message) (x : Reaction) → change_by (with_traffic y r) t m x ≡ change_by r t m x
-change-counted r y t (View w p) x = refl
-change-counted r y t (Vote w p) x = refl
-change-counted r y t (Vc w p) x = refl
-change-counted r y t (Qc w p) x = refl
+change-counted r y t m (Heard formed) = refl
+change-counted r y t m (MovedBy x) = refl
 
-pub decides-counted : (r : Run) (y : Traffic) (t : List ℕ) (m : Message) (x : Reaction) → Decides r t m x → Decides (with_traffic y r) t m x
+pub decides-counted : (r : Run) (y : Traffic) (t : List ℕ) (m : Message) (x : Result Reaction ℕ) → Decides r t m x → Decides (with_traffic y r) t m x
 unfolding reaches_end
-decides-counted r y t m x d = record {
-  ends = d.ends ∙ ap (reaches_end r) (sym (handling-sums y r t m));
-  change = λ e. change-counted r y t m x ∙ d.change e ∙ sym (handling-sums y r t m);
-  packs = d.packs;
-}
+decides-counted r y t m (Ok x) d = (ap (reaches_end r) (handling-sums y r t m) ∙ d.0, change-counted r y t m x ∙ d.1 ∙ sym (handling-sums y r t m), d.2)
+decides-counted r y t m (Err k) d = (ap (reaches_end r) (handling-sums y r t m) ∙ d.0, d.1)
 
 -- a head with other sums
 abbrev pub counting : Head → Traffic → Head
@@ -113,19 +82,20 @@ counting h x = record {
   traffic = x;
 }
 
--- the outcome of a message that is handled, by what was decided on a head without it
-pub handled-outcome : (before : Head) (cs vs t ws : List ℕ) (m : Message) (i : ℕ) → before.held ≤ capacity Packed ws → (h : Head) → h ≡ head_without before i
-    → (x : Reaction) → Decides (run_from h cs vs) t m x → (room k : ℕ) → room ≡ capacity Packed ws
-    → k ≡ outcome x.ends (ltb room (h.held + length (sent_for h.plan h.faulty m x)))
-    → let s' = leaving (state_of (run_from before cs vs) t ws) m i in let c = handling s'.run t m in k ≡ outcome (reaches_end s'.run c) (overfull s' c)
-handled-outcome before cs vs t ws m i fits h e x d room k r q =
-    let s : State = state_of (run_from before cs vs) t ws in
-    let s' : State = leaving s m i in
-    let c : Change = handling s'.run s.tally m in
-    q ∙ ap₂ (λ (y : Head) (n : ℕ). outcome x.ends (ltb n (y.held + length (sent_for y.plan y.faulty m x)))) e (r ∙ sym (room-left s.run t ws m i fits).0)
-    ∙ decided-outcome s'.run s.tally m x
-    (decides-counted (run_from (head_without before i) cs vs) s'.run.traffic t m x (subst (λ (y : Head). Decides (run_from y cs vs) t m x) e d))
-    s'.run.held (room_in s')
+-- what was decided of a message on a head without it, of the state that it leaves
+module _ (before : Head) (cs vs t ws : List ℕ) (m : Message) (i : ℕ) (h : Head) (is-left : h ≡ head_without before i) where
+  abbrev left : State
+  left = leaving (state_of (run_from before cs vs) t ws) m i
+
+  pub handled-decides : (x : Result Reaction ℕ) → Decides (run_from h cs vs) t m x → Decides left.run t m x
+  handled-decides x d = decides-counted (run_from (head_without before i) cs vs) left.run.traffic t m x (subst (λ (y : Head). Decides (run_from y cs vs) t m x) is-left d)
+
+  pub handled-full : before.held ≤ capacity Packed ws → (x : Reaction) → Decides (run_from h cs vs) t m (Ok x) → (room : ℕ) → room ≡ capacity Packed ws
+      → ltb room (h.held + length (sent_for h.plan h.faulty m x)) ≡ overfull left (handling left.run t m)
+  handled-full fits x d room r =
+      ap₂ (λ (y : Head) (n : ℕ). ltb n (y.held + length (sent_for y.plan y.faulty m x))) is-left (r ∙ sym (room-left (run_from before cs vs) t ws m i fits).0)
+      ∙ ap (λ (ms : List Message). ltb (room_in left) (left.run.held + length ms))
+      (sym (change-sent left.run t m x) ∙ ap (λ (c : Change). c.sent) (handled-decides (Ok x) d).1)
 
 -- ---- what is named
 

@@ -18,7 +18,7 @@ use Rattle.model.specs.Checks.{clock_outside, at_end, reaches_end}
 use Rattle.model.specs.Processors.{Moved, messages_of, moving}
 use Rattle.liveness.proofs.Link.{correct_below}
 use Rattle.liveness.proofs.Judging.{neither}
-use Rattle.simulator.specs.declared.Reaction.{Reaction}
+use Rattle.simulator.specs.declared.Move.{Move}
 use Rattle.simulator.specs.Inner.{Fit, moved_change}
 use Rattle.simulator.proofs.Sending.{entered-into, entered-none}
 
@@ -31,7 +31,7 @@ module _ (r : Run) (t : List ℕ) (p : ℕ) where
   moved e = moving r.plan p (clock_of r p) (view_of r p) e
 
   -- a reaction that is a move of p changes what the move changes
-  pub moved-taking : (e : Entry) (x : Reaction) → x.processor ≡ (moved e).processor → messages_of p x.sends ≡ (moved e).sent
+  pub moved-taking : (e : Entry) (x : Move) → x.processor ≡ (moved e).processor → messages_of p x.sends ≡ (moved e).sent
       → moved_change r t p x ≡ taking r t p e
   unfolding taking entering to_correct
   moved-taking stay x c m = change-by _ _

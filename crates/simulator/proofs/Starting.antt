@@ -1,15 +1,16 @@
 -- The opening: the table of start clocks, and the first entries, one processor after the other. Assumes nothing.
+use Rattle.std.specs.Prelude.{Err, Ok, Result}
 use mathlib.Core.Path.{◌≡◌, refl, sym, ap, ap₂, ◌∙◌, subst}
 use mathlib.Core.Bool.{Bool, true, false, cond}
 use mathlib.Core.Logic.{◌⊎◌, inl, inr, ◌≢◌}
 use mathlib.Core.List.{List}
 use Prim.Native.Nat.{ℕ, suc, ◌+◌, ◌*◌, ◌/◌, ◌≤◌, ◌<◌}
 use native.Mathlib.Omega.{arith}
-use lib.Dec.{eqb, ltb}
+use lib.Dec.{ltb}
 use lib.ListN.{length, get_or, set, length-set}
 use lib.Seq.{get_or-set_same, get_or-set_other, ext_get_or}
-use borrow.Author.Tests.{eq-eqb, ne_eqb, ltb-false}
-use Rattle.base.specs.Choice.{cond_yes, cond_no, or_parts}
+use borrow.Author.Tests.{ltb-false}
+use Rattle.base.specs.Choice.{or_parts}
 use Rattle.base.specs.Tests.{le?, by_cond}
 use Rattle.base.specs.ScanLaws.{length-listed, get_or-listed}
 use Rattle.types.specs.declared.Plan.{Plan}
@@ -31,9 +32,9 @@ use Rattle.model.specs.Opening.{start_clocks, blank_run, blank, first_entry, ope
 use Rattle.liveness.proofs.Link.{Planned}
 use Rattle.liveness.proofs.FirstEntries.{Mid, mid_all}
 use Rattle.checks.specs.Setups.{setup_check}
-use Rattle.checks.proofs.Opens.{Passed, setup-passed, setup-check}
+use Rattle.checks.proofs.Opens.{Passed, by_result, setup-passed, setup-check}
 use Rattle.buffers.specs.Zeros.{cleared, cleared-all, cleared-length}
-use Rattle.simulator.specs.declared.Reaction.{Reaction}
+use Rattle.simulator.specs.declared.Move.{Move}
 use Rattle.simulator.specs.Inner.{Posts, AllPackable, pairs, sent_by, entered_by}
 use Rattle.simulator.specs.Opening.{first_sends, entered_first}
 use Rattle.simulator.specs.Clauses.{Opens}
@@ -75,7 +76,7 @@ pub record Ready (u : Setup) (tally network : ℕ) : Type 0 where
   pub rows : row_words * u.plan.views ≤ tally
   pub room : network_least Packed u.plan ≤ network
 
-pub ready : (u : Setup) (tally network : ℕ) → setup_check Packed u tally network ≡ 0 → Ready u tally network
+pub ready : (u : Setup) (tally network : ℕ) → setup_check Packed u tally network ≡ Ok tt → Ready u tally network
 ready u tally network e =
     let c : Passed u tally network = setup-passed u tally network e in
     let a = or_parts (ltb tally (row_words * u.plan.views)) (network_outside Packed u.plan network) c.lengths in
@@ -114,8 +115,8 @@ module _ (u : Setup) (t : List ℕ) where
         go true = rw (zero-starts u.plan) refl
         go false = refl
 
-    abbrev pub reaction : Reaction
-    reaction = record { formed = false; processor = (moving u.plan k (clock_of r k) (view_of r k) (first_entry u k)).processor; sends = sends; ends = false }
+    abbrev pub reaction : Move
+    reaction = record { processor = (moving u.plan k (clock_of r k) (view_of r k) (first_entry u k)).processor; sends = sends }
 
     -- one processor more
     pub tally-turn : (t' t'' : List ℕ) → t' ≡ (below k).tally → t'' ≡ entered_by t' k sends → t'' ≡ (below (k + 1)).tally
@@ -170,21 +171,20 @@ unfolding opened blank
 opened-same u r r' t ws = refl
 
 module _ (u : Setup) (run : Run) (t ws : List ℕ) where
-  abbrev check : ℕ
+  abbrev check : Result (Unit {0}) ℕ
   check = setup_check Packed u (length t) (length ws)
 
-  pub opens-done : (next : Run) (t' ws' : List ℕ) → check ≡ 0 → state_of next t' ws' ≡ opened u (state_of (blank_run u) t ws)
+  pub opens-done : (next : Run) (t' ws' : List ℕ) → check ≡ Ok tt → state_of next t' ws' ≡ opened u (state_of (blank_run u) t ws)
       → Opens u (state_of run t ws) (done (state_of (run_from (head_of next) next.clocks next.views) t' ws'))
   unfolding opening
   opens-done next t' ws' z e =
       ap (λ (r : Run). done (state_of r t' ws')) (head-back next)
-      ∙ cond_yes (eqb check 0) (done (state_of next t' ws')) (done (opened u (state_of run t ws))) (refused (state_of run t ws) check) (eq-eqb check 0 z)
-      (ap done (e ∙ opened-same u (blank_run u) run t ws))
+      ∙ ap done (e ∙ opened-same u (blank_run u) run t ws)
+      ∙ ap (by_result (refused (state_of run t ws)) (done (opened u (state_of run t ws)))) (sym z)
       ∙ sym (setup-check u (state_of run t ws) (done (opened u (state_of run t ws))))
 
-  pub opens-refused : (r : ℕ) → r ≡ check → r ≢ 0 → Opens u (state_of run t ws) (refused (state_of run t ws) r)
+  pub opens-refused : (r : ℕ) → check ≡ Err r → Opens u (state_of run t ws) (refused (state_of run t ws) r)
   unfolding opening
-  opens-refused r e z =
-      cond_no (eqb check 0) (refused (state_of run t ws) r) (done (opened u (state_of run t ws))) (refused (state_of run t ws) check)
-      (ne_eqb check 0 (λ x. z (e ∙ x))) (ap (refused (state_of run t ws)) e)
+  opens-refused r z =
+      ap (by_result (refused (state_of run t ws)) (done (opened u (state_of run t ws)))) (sym z)
       ∙ sym (setup-check u (state_of run t ws) (done (opened u (state_of run t ws))))

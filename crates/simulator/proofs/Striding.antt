@@ -29,7 +29,7 @@ use Rattle.leaps.proofs.Leaping.{clock-later, steady-later, quiet-ticks-add}
 use Rattle.simulator.specs.Inner.{Reacts, Fit, Whole, Went, TickedTo, ran_to}
 use Rattle.simulator.specs.Strides.{Strides, Ready, Advances}
 use Rattle.simulator.proofs.Fitness.{fit_of, time_told, some-correct, clock-below, end-most}
-use Rattle.simulator.proofs.Reactions.{reaction}
+use Rattle.std.specs.Prelude.{Ok}
 use Rattle.simulator.proofs.Once.{once-overdue}
 
 -- ---- several ticks
@@ -89,7 +89,7 @@ strides-ready s₀ s count sound x =
 
 -- what the pacemaker's step would say of one before the next initial view's time
 pub quiet-reacts : (plan : Plan) (c : Processor) → processor_unsound plan c ≡ false → (next time : ℕ) → next ≡ next_initial_word plan c.view → time ≡ clock_time_word plan next
-    → c.clock + 1 < time → Reacts plan c (moving_by plan c Tick) (reaction (record { number = c.number; clock = c.clock + 1; view = c.view }) Nothing false)
+    → c.clock + 1 < time → Reacts plan c (moving_by plan c Tick) (Ok (record { processor = record { number = c.number; clock = c.clock + 1; view = c.view }; sends = Nothing }))
 quiet-reacts plan c e next time is-next is-time l =
     let x = sound plan c e in
     let inside : clock_outside plan c.clock c.view ≡ false = (or_parts (plan_outside plan) (clock_outside plan c.clock c.view) e).1 in
@@ -97,11 +97,7 @@ quiet-reacts plan c e next time is-next is-time l =
     let m : moving_by plan c Tick ≡ moving plan c.number (c.clock + 1) c.view stay =
     ap (moving plan c.number (c.clock + 1) c.view) (no-arrival plan c.clock c.view x.reached (omega arith)) in
     let g : c.clock + 1 < end_time plan = omega (arith, next_small plan x.within c.clock c.view inside) in
-    record {
-      ends = sym (ap (λ (y : Moved). at_end plan y.processor.clock) m ∙ lt-leb _ _ g);
-      processor = λ _. sym (ap (λ (y : Moved). y.processor) m);
-      sent = λ _. sym (ap (λ (y : Moved). y.sent) m);
-    }
+    (ap (λ (y : Moved). at_end plan y.processor.clock) m ∙ lt-leb _ _ g, sym (ap (λ (y : Moved). y.processor) m), sym (ap (λ (y : Moved). y.sent) m))
 
 -- ---- a leap
 

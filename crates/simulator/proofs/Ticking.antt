@@ -14,7 +14,8 @@ use Rattle.types.specs.Traffic.{traffic_sent}
 use Rattle.model.specs.State.{State, state_of, run_of, with_held, with_time, with_clocks, with_views, with_traffic, clock_of, view_of, capacity}
 use Rattle.model.specs.Moves.{Change, changed, Entry, clocks_on, advanced, arrival, arrivals, made}
 use Rattle.model.specs.Processors.{messages_of}
-use Rattle.simulator.specs.declared.Reaction.{Reaction}
+use Rattle.simulator.specs.declared.Move.{Move}
+use Rattle.std.specs.Prelude.{Ok}
 use Rattle.liveness.proofs.Clocks.{arrived}
 use Rattle.simulator.specs.Inner.{Posts, AllPackable, Fit, Whole, ends_at, pairs, sent_by, entered_by, Arrives, seat, arrived_below}
 use Rattle.simulator.proofs.Fitness.{planned-of}
@@ -39,13 +40,13 @@ module _ (s : State) where
       (ap (λ (y : Run). view_of y k) e ∙ entries-views entry (advanced s).run s.tally k k (omega arith))
 
   -- one processor more, in either pass
-  module _ (long : s.run.plan.n ≤ length s.run.clocks) (k : ℕ) (low : k < s.run.plan.n) (x : Reaction)
-      (arrives : Arrives s.run.plan s.run.faulty (seat s.run k) x) (goes_on : x.ends ≡ false) where
+  module _ (long : s.run.plan.n ≤ length s.run.clocks) (k : ℕ) (low : k < s.run.plan.n) (x : Move)
+      (arrives : Arrives s.run.plan s.run.faulty (seat s.run k) (Ok x)) where
     abbrev is_processor : x.processor ≡ (turn entry (advanced s).run s.tally k).processor
-    is_processor = same-processor s long k low x arrives goes_on
+    is_processor = same-processor s long k low x arrives
 
     abbrev is_sent : messages_of k x.sends ≡ (turn entry (advanced s).run s.tally k).sent
-    is_sent = same_sent s long k low x arrives goes_on
+    is_sent = same_sent s long k low x arrives
 
     pub sent-length : length (arrived_below s (k + 1)).sent ≡ length (arrived_below s k).sent + length (sent_by s.run.plan s.run.faulty k x.sends)
     sent-length = entered.sent-length entry (advanced s).run s.tally k x is_processor is_sent
@@ -56,7 +57,7 @@ module _ (s : State) where
     next-turn next e =
         ap (λ (y : Run). with_views (set y.views k x.processor.view) (with_clocks (set y.clocks k x.processor.clock) y)) e
         ∙ ap₂ (λ (v c : List ℕ). with_views v (with_clocks c s.run))
-        (sym (entered.views-more entry (advanced s).run s.tally k x is_processor is_sent)) (sym (clocks-more s long k low x arrives goes_on))
+        (sym (entered.views-more entry (advanced s).run s.tally k x is_processor is_sent)) (sym (clocks-more s long k low x arrives))
 
     pub tally-turn : (t t' : List ℕ) → t ≡ (arrived_below s k).tally → t' ≡ entered_by t k x.sends → t' ≡ (arrived_below s (k + 1)).tally
     tally-turn = entered.tally-turn entry (advanced s).run s.tally k x is_processor is_sent

@@ -1,6 +1,7 @@
 -- What the public functions of the simulator do, by the model's definitions.
-use Rattle.std.specs.Prelude.{◌≡◌, cond, List, ℕ, length}
+use Rattle.std.specs.Prelude.{◌≡◌, true, false, List, Result, Ok, Err, ℕ, length}
 use Rattle.types.specs.declared.Event.{Event}
+use Rattle.types.specs.declared.Head.{Head}
 use Rattle.types.specs.declared.Setup.{Setup}
 use Rattle.model.specs.State.{State, After}
 use Rattle.model.specs.Opening.{opening}
@@ -25,9 +26,14 @@ Applies e s a = a ≡ applied e s
 abbrev pub AppliesAll : List ℕ → State → State → List ℕ → Type 0
 AppliesAll ws s s' ws' = record { state = s'; words = ws' } ≡ words_applied ws s
 
+-- the head that a load leaves, which stays where the load is refused
+abbrev pub head_after : Head → Result Piece ℕ → Head
+head_after h (Ok r) = r.head
+head_after h (Err k) = h
+
 -- that a load went on from x, up to so many steps, in the lent bytes `out`: it left the run and the lent buffers s', r and the bytes `after`. A run
--- that is unsound, but for its time, answers 9
-abbrev pub WritesLoad : ℕ → ℕ → Point → List ℕ → State → Piece → List ℕ → Type 0
-WritesLoad steps settle x out s' r after =
-    PutLoad (further_load steps settle x (length out)) out (point_of s' r.seed r.step) r.full r.bytes after
-    × (r.check ≡ cond (unsound_for_good x.state) 9 0)
+-- that is unsound, but for its time, answers 9, and all stays as it was
+abbrev pub WritesLoad : ℕ → ℕ → Point → List ℕ → State → Result Piece ℕ → List ℕ → Type 0
+WritesLoad steps settle x out s' (Ok r) after =
+    (unsound_for_good x.state ≡ false) × PutLoad (further_load steps settle x (length out)) out (point_of s' r.seed r.step) r.full r.bytes after
+WritesLoad steps settle x out s' (Err k) after = (unsound_for_good x.state ≡ true) × (k ≡ 9) × (s' ≡ x.state) × (after ≡ out)

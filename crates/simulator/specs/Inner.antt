@@ -1,5 +1,5 @@
 -- What the contracts of the inner functions cite: the parts of a change, and what a run must have for it to be made.
-use Rattle.std.specs.Prelude.{◌≡◌, Bool, true, false, ◌&&◌, cond, List, [], ◌∷◌, ℕ, zero, suc, ◌+◌, ◌-◌, ◌*◌, ◌^◌, ◌≤◌, ◌<◌, ltb, length}
+use Rattle.std.specs.Prelude.{◌≡◌, Bool, true, false, ◌&&◌, cond, List, [], ◌∷◌, Result, Ok, Err, ℕ, zero, suc, ◌+◌, ◌-◌, ◌*◌, ◌^◌, ◌≤◌, ◌<◌, ltb, length}
 use Rattle.types.specs.declared.Plan.{Plan}
 use Rattle.types.specs.declared.Message.{Message}
 use Rattle.types.specs.declared.Message.TheVariants.{View, Vote, Vc, Qc}
@@ -16,15 +16,18 @@ use Rattle.types.specs.Quantities.{n_most, correct}
 use Rattle.base.specs.Members.{Every}
 use Rattle.base.specs.Scan.{some}
 use Rattle.types.specs.Traffic.{traffic_delivered}
-use Rattle.types.specs.Messages.{processor_in, view_stage, vote_stage, lacks_form}
+use Rattle.types.specs.Messages.{processor_in, view_in, stage_of, lacks_form}
 use Rattle.model.specs.State.{State, After, state_of, run_from, with_run, with_network, with_held, with_traffic, clock_of, view_of, is_correct, entered_word, added, posted, capacity, room_in, check_of, refused, done}
 use Rattle.model.specs.Moves.{Change, to_correct, moved_to, formed_messages, heard_change, stay, entries, handling, advanced, arrival, arrivals, made}
 use Rattle.model.specs.Checks.{judged, plan_outside, faulty_outside, unsound, clock_outside, at_end, reaches_end}
 use Rattle.model.specs.Events.{outcome_checks, named_checks, wait_since, tick_once, Ticks, tick_run, applied}
 use Rattle.model.specs.Processors.{Moved, messages_of, moving, moving_by}
+use Rattle.simulator.specs.declared.Move.{Move}
 use Rattle.simulator.specs.declared.Reaction.{Reaction}
+use Rattle.simulator.specs.declared.Reaction.TheVariants.{Heard, Moved as MovedBy}
 use Rattle.simulator.specs.declared.Task.{Task}
-use Rattle.simulator.specs.declared.Task.TheVariants.{Refuse, Finish, Handle, Run as RunTicks}
+use Rattle.simulator.specs.declared.ticks.Ticked.{Ticked}
+use Rattle.simulator.specs.declared.Task.TheVariants.{Finish, Handle, Run as RunTicks}
 use Rattle.buffers.specs.Network.{packable, taken}
 
 -- ---- messages sent
@@ -64,31 +67,33 @@ pairs (suc k) = View 0 0 ∷ Vote 0 0 ∷ pairs k
 
 -- ---- a reaction
 
--- that it is what an input makes of a processor: rules 1 to 3, and check 17
-pub record Reacts (plan : Plan) (c : Processor) (m : Moved) (x : Reaction) : Type 0 where
-  pub ends : x.ends ≡ at_end plan m.processor.clock
-  pub processor : x.ends ≡ false → x.processor ≡ m.processor
-  pub sent : x.ends ≡ false → messages_of c.number x.sends ≡ m.sent
+-- that it is what an input makes of a processor: rules 1 to 3, or check 17
+abbrev pub Reacts : Plan → Processor → Moved → Result Move ℕ → Type 0
+Reacts plan c m (Ok x) = (at_end plan m.processor.clock ≡ false) × (x.processor ≡ m.processor) × (messages_of c.number x.sends ≡ m.sent)
+Reacts plan c m (Err k) = (at_end plan m.processor.clock ≡ true) × (k ≡ 17)
 
 -- a tick's move of a processor that may be faulty, which then stays as it is
 abbrev pub arrival_move : Plan → ℕ → Processor → Moved
 arrival_move plan faulty c = cond (correct plan faulty c.number) (moving_by plan c Tick) (moving plan c.number c.clock c.view stay)
 
-pub record Arrives (plan : Plan) (faulty : ℕ) (c : Processor) (x : Reaction) : Type 0 where
-  pub ends : x.ends ≡ (correct plan faulty c.number && at_end plan (c.clock + 1))
-  pub processor : x.ends ≡ false → x.processor ≡ (arrival_move plan faulty c).processor
-  pub sent : x.ends ≡ false → messages_of c.number x.sends ≡ (arrival_move plan faulty c).sent
+-- whether it ends its clock
+abbrev pub arrival_ends : Plan → ℕ → Processor → Bool
+arrival_ends plan faulty c = correct plan faulty c.number && at_end plan (c.clock + 1)
+
+-- that it is what a tick makes of the processor, or check 17
+abbrev pub Arrives : Plan → ℕ → Processor → Result Move ℕ → Type 0
+Arrives plan faulty c (Ok x) = (arrival_ends plan faulty c ≡ false) × (x.processor ≡ (arrival_move plan faulty c).processor)
+    × (messages_of c.number x.sends ≡ (arrival_move plan faulty c).sent)
+Arrives plan faulty c (Err k) = (arrival_ends plan faulty c ≡ true) × (k ≡ 17)
 
 -- the change of a processor that moves
-abbrev pub moved_change : Run → List ℕ → ℕ → Reaction → Change
+abbrev pub moved_change : Run → List ℕ → ℕ → Move → Change
 moved_change r t p x = moved_to r (entered_by t p x.sends) p x.processor.clock x.processor.view (messages_of p x.sends)
 
 -- what it changes, the message being m
 abbrev pub change_by : Run → List ℕ → Message → Reaction → Change
-change_by r t (View w p) x = heard_change view_stage r t w p x.formed
-change_by r t (Vote w p) x = heard_change vote_stage r t w p x.formed
-change_by r t (Vc w p) x = moved_change r t p x
-change_by r t (Qc w p) x = moved_change r t p x
+change_by r t m (Heard formed) = heard_change (stage_of m) r t (view_in m) (processor_in m) formed
+change_by r t m (MovedBy x) = moved_change r t (processor_in m) x
 
 -- ---- what a run has that check 9 passed, as far as moves need it
 
@@ -151,6 +156,16 @@ pub record TickedTo (s s' : State) (check : ℕ) : Type 0 where
   pub number : check ≡ check_of (tick_once s).answer
   pub went : check ≡ 0 → Went s s'
 
+-- the head that ticks leave, which stays where a check refuses the first
+abbrev pub head_ticked : Head → Result Ticked ℕ → Head
+head_ticked h (Ok x) = x.head
+head_ticked h (Err k) = h
+
+-- how many were done
+abbrev pub count_ticked : Result Ticked ℕ → ℕ
+count_ticked (Ok x) = x.count
+count_ticked (Err k) = 0
+
 -- so many ticks, ended by this check
 abbrev pub ran_to : State → ℕ → ℕ → Ticks
 ran_to s count check = record { state = s; count = count; check = check }
@@ -168,18 +183,20 @@ ReachesCorrect r (Vote w p) = Unit {0}
 ReachesCorrect r (Vc w p) = is_correct r p ≡ true
 ReachesCorrect r (Qc w p) = is_correct r p ≡ true
 
--- that a reaction is what the message makes of whom it reaches
-pub record Decides (r : Run) (t : List ℕ) (m : Message) (x : Reaction) : Type 0 where
-  pub ends : x.ends ≡ reaches_end r (handling r t m)
-  pub change : x.ends ≡ false → change_by r t m x ≡ handling r t m
-  pub packs : x.ends ≡ false → AllPackable (sent_by r.plan r.faulty (processor_in m) x.sends)
+-- what a processor sends that moves has packed words
+abbrev pub MovePacks : Plan → ℕ → Message → Reaction → Type 0
+MovePacks plan faulty m (Heard formed) = Unit {0}
+MovePacks plan faulty m (MovedBy x) = AllPackable (sent_by plan faulty (processor_in m) x.sends)
+
+-- that it is what the message makes of whom it reaches, or check 17
+abbrev pub Decides : Run → List ℕ → Message → Result Reaction ℕ → Type 0
+Decides r t m (Ok x) = (reaches_end r (handling r t m) ≡ false) × (change_by r t m x ≡ handling r t m) × MovePacks r.plan r.faulty m x
+Decides r t m (Err k) = (reaches_end r (handling r t m) ≡ true) × (k ≡ 17)
 
 -- the messages of a reaction
 abbrev pub sent_for : Plan → ℕ → Message → Reaction → List Message
-sent_for plan faulty (View w p) x = formed_messages plan faulty view_stage w x.formed
-sent_for plan faulty (Vote w p) x = formed_messages plan faulty vote_stage w x.formed
-sent_for plan faulty (Vc w p) x = sent_by plan faulty p x.sends
-sent_for plan faulty (Qc w p) x = sent_by plan faulty p x.sends
+sent_for plan faulty m (Heard formed) = formed_messages plan faulty (stage_of m) (view_in m) formed
+sent_for plan faulty m (MovedBy x) = sent_by plan faulty (processor_in m) x.sends
 
 -- a change of s', what an event leaves of s before it changes anything, judged by checks 17 and 18 and made
 abbrev pub finished : State → State → Change → After
@@ -223,9 +240,9 @@ pub record CanHandle (s : State) (m : Message) : Type 0 where
 abbrev pub Admitted : Event → State → Type 0
 Admitted e s = (lacks_form e ≡ false) × (unsound s ≡ false)
 
--- that doing the task is applying the event
-abbrev pub Tasks : Event → State → Task → Type 0
-Tasks e s (Refuse k) = refused s k ≡ applied e s
-Tasks e s (Finish x) = done (with_run (run_from x s.run.clocks s.run.views) s) ≡ applied e s
-Tasks e s (Handle m i) = CanHandle s m × (handled s m i ≡ applied e s)
-Tasks e s (RunTicks m) = (0 < m) × (unsound s ≡ false) × (tick_run m s ≡ applied e s)
+-- that doing the task, or the refusal by a check, is applying the event
+abbrev pub Tasks : Event → State → Result Task ℕ → Type 0
+Tasks e s (Err k) = refused s k ≡ applied e s
+Tasks e s (Ok (Finish x)) = done (with_run (run_from x s.run.clocks s.run.views) s) ≡ applied e s
+Tasks e s (Ok (Handle m i)) = CanHandle s m × (handled s m i ≡ applied e s)
+Tasks e s (Ok (RunTicks m)) = (0 < m) × (unsound s ≡ false) × (tick_run m s ≡ applied e s)

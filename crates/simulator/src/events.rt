@@ -8,9 +8,9 @@ ghost use Rattle.model.specs.Moves.{ripe, made, formed_messages, heard_change};
 ghost use Rattle.model.specs.Checks.{plan_outside, faulty_outside};
 ghost use Rattle.model.specs.Events.{wait_since};
 ghost use Rattle.buffers.specs.Network.{views_packable};
-ghost use Rattle.simulator.specs.Inner.{AllPackable, sent_by, Fit, Decides, ReachesCorrect, seat, named_check, CanEnter, moved_change, change_by, sent_for, head_without, traffic_without, CanHandle, handled};
+ghost use Rattle.simulator.specs.Inner.{Fit, Decides, ReachesCorrect, seat, named_check, MovePacks, CanEnter, moved_change, change_by, sent_for, head_without, traffic_without, CanHandle, handled};
 
-use crate::{Reaction, moves, ticks};
+use crate::{Move, Reaction, moves, ticks};
 use types::{Answer, AppliedHead, Form, Head, Input, Message, Plan, Processor, Sends, Traffic};
 
 // A refusal: the check's number alone.
@@ -18,7 +18,7 @@ pub(crate) fn refuse(head: Head, check: u64) -> AppliedHead
     ensures { (result.head ≡ head) × (result.answer ≡ Answer.Refused check) }
 {
     AppliedHead {
-        head: head,
+        head,
         answer: Answer::Refused(check),
     }
 }
@@ -27,10 +27,9 @@ pub(crate) fn refuse(head: Head, check: u64) -> AppliedHead
 pub(crate) fn done(head: Head) -> AppliedHead
     ensures { (result.head ≡ head) × (result.answer ≡ Answer.Done 0 head.held) }
 {
-    let held = head.held;
     AppliedHead {
-        head: head,
-        answer: Answer::Done(0, held),
+        head,
+        answer: Answer::Done(0, head.held),
     }
 }
 
@@ -56,48 +55,40 @@ fn leader_view(plan: Plan, w: u64, views: &[u64; 64]) -> u64
     views[i]
 }
 
-// What a signature makes of the leader that hears it.
-fn decide_heard(
-    plan: Plan,
-    stage: bool,
-    w: u64,
-    p: u64,
-    views: &[u64; 64],
-    tally: &[u64],
-) -> Reaction
+// Whether the leader that hears a signature forms the certificate.
+fn decide_heard(plan: Plan, stage: bool, w: u64, p: u64, views: &[u64; 64], tally: &[u64]) -> bool
     requires { (0 < plan.n) × (plan.n ≤ 64) × (p < 64) }
-    ensures { (result.ends ≡ false) × (result.formed ≡ ripe stage plan (get_or views.now (lead plan w) 0) tally.now w p) × (result.sends ≡ Sends.Nothing) }
+    ensures { result ≡ ripe stage plan (get_or views.now (lead plan w) 0) tally.now w p }
 {
-    let own = leader_view(plan, w, views);
-    let formed = moves::would_form(stage, plan, own, w, p, tally);
-    Reaction {
-        formed: formed,
-        processor: Processor {
-            number: p,
-            clock: 0,
-            view: own,
-        },
-        sends: Sends::Nothing,
-        ends: false,
-    }
+    moves::would_form(stage, plan, leader_view(plan, w, views), w, p, tally)
 }
 
-// What a message makes of whom it reaches.
+// What a message makes of whom it reaches; or check 17, where a clock would reach the end.
 fn decide(
     head: Head,
     message: Message,
     clocks: &[u64; 64],
     views: &[u64; 64],
     tally: &[u64],
-) -> Reaction
+) -> Result<Reaction, u64>
     requires { Fit (run_from head clocks.now views.now) × (named_check head.plan message ≡ 0) × ReachesCorrect (run_from head clocks.now views.now) message }
     ensures { Decides (run_from head clocks.now views.now) tally.now message result }
 {
     match message {
-        Message::View(w, p) => decide_heard(head.plan, false, w, p, views, tally),
-        Message::Vote(w, p) => decide_heard(head.plan, true, w, p, views, tally),
-        Message::Vc(w, p) => ticks::react(head.plan, seat_of(p, clocks, views), Input::Vc(w)),
-        Message::Qc(w, p) => ticks::react(head.plan, seat_of(p, clocks, views), Input::Qc(w)),
+        Message::View(w, p) => {
+            Ok(Reaction::Heard(decide_heard(head.plan, false, w, p, views, tally)))
+        }
+        Message::Vote(w, p) => {
+            Ok(Reaction::Heard(decide_heard(head.plan, true, w, p, views, tally)))
+        }
+        Message::Vc(w, p) => {
+            let seat = seat_of(p, clocks, views);
+            Ok(Reaction::Moved(ticks::react(head.plan, seat, Input::Vc(w))?))
+        }
+        Message::Qc(w, p) => {
+            let seat = seat_of(p, clocks, views);
+            Ok(Reaction::Moved(ticks::react(head.plan, seat, Input::Qc(w))?))
+        }
     }
 }
 
@@ -106,12 +97,9 @@ fn count_sent(plan: Plan, faulty: u64, message: Message, x: Reaction) -> usize
     requires { (plan_outside plan ≡ false) × (faulty_outside plan faulty ≡ false) }
     ensures { (result ≡ length (sent_for plan faulty message x)) × (result ≤ 64) }
 {
-    let sends = x.sends;
-    match message {
-        Message::View(_, _) => moves::count_formed(plan, faulty, x.formed),
-        Message::Vote(_, _) => moves::count_formed(plan, faulty, x.formed),
-        Message::Vc(_, p) => moves::count_entry(plan, faulty, p, sends),
-        Message::Qc(_, p) => moves::count_entry(plan, faulty, p, sends),
+    match x {
+        Reaction::Heard(formed) => moves::count_formed(plan, faulty, formed),
+        Reaction::Moved(y) => moves::count_entry(plan, faulty, message.processor(), y.sends),
     }
 }
 
@@ -145,17 +133,18 @@ fn listen(
         head.time,
     );
     let traffic = moves::note_formed(head.traffic, stage, w, held - head.held);
-    let mut next = head;
-    next.held = held;
-    next.traffic = traffic;
-    next
+    Head {
+        held,
+        traffic,
+        ..head
+    }
 }
 
 // A processor moves.
 fn move_on(
     head: Head,
     p: u64,
-    x: Reaction,
+    x: Move,
     clocks: &mut [u64; 64],
     views: &mut [u64; 64],
     tally: &mut [u64],
@@ -182,10 +171,11 @@ fn move_on(
     clocks[i] = x.processor.clock;
     views[i] = x.processor.view;
     let traffic = moves::note_entry(head.traffic, p, sends, held - head.held);
-    let mut next = head;
-    next.held = held;
-    next.traffic = traffic;
-    next
+    Head {
+        held,
+        traffic,
+        ..head
+    }
 }
 
 // What was decided is done.
@@ -199,38 +189,29 @@ fn perform(
     network: &mut [u64],
 ) -> Head
     requires { (0 < head.plan.n) × (processor_in message < 64) × (head.held + length (sent_for head.plan head.faulty message x) ≤ capacity Form.Packed network.old)
-        × (head.plan.n ≤ 64) × (view_in message < views_packable) × AllPackable (sent_by head.plan head.faulty (processor_in message) x.sends) }
+        × (head.plan.n ≤ 64) × (view_in message < views_packable) × MovePacks head.plan head.faulty message x }
     ensures { state_of (run_from result clocks.new views.new) tally.new network.new
         ≡ made (state_of (run_from head clocks.old views.old) tally.old network.old) (change_by (run_from head clocks.old views.old) tally.old message x) }
 {
-    if message.is_signature() {
-        return listen(head, message, x.formed, tally, network);
+    match x {
+        Reaction::Heard(formed) => listen(head, message, formed, tally, network),
+        Reaction::Moved(y) => move_on(head, message.processor(), y, clocks, views, tally, network),
     }
-    move_on(head, message.processor(), x, clocks, views, tally, network)
 }
 
-// What a message would come to by what was decided: 17, 18, or 0 for neither.
-fn outcome_check(head: Head, message: Message, x: Reaction, room: usize) -> u64
+// Whether more messages would be held than fit: check 18.
+fn overfills(head: Head, message: Message, x: Reaction, room: usize) -> bool
     requires { (plan_outside head.plan ≡ false) × (faulty_outside head.plan head.faulty ≡ false) × (head.held ≤ room) × (room < 2 ^ 63) }
-    ensures { result ≡ cond x.ends 17 (cond (ltb room (head.held + length (sent_for head.plan head.faulty message x))) 18 0) }
+    ensures { result ≡ ltb room (head.held + length (sent_for head.plan head.faulty message x)) }
 {
-    if x.ends {
-        return 17;
-    }
-    if room < head.held + count_sent(head.plan, head.faulty, message, x) {
-        return 18;
-    }
-    0
+    room < head.held + count_sent(head.plan, head.faulty, message, x)
 }
 
 // For how long a message was in flight.
 fn wait_since(sent: u64, time: u64) -> u64
     ensures { result ≡ time - sent }
 {
-    if time < sent {
-        return 0;
-    }
-    time - sent
+    time.saturating_sub(sent)
 }
 
 // The head without the message at a place, if one is held there.
@@ -238,11 +219,13 @@ fn head_without(head: Head, place: usize) -> Head
     ensures { result ≡ head_without head place }
 {
     if head.held <= place {
-        return head;
+        head
+    } else {
+        Head {
+            held: head.held - 1,
+            ..head
+        }
     }
-    let mut next = head;
-    next.held = head.held - 1;
-    next
 }
 
 // The sums with the message, which is delivered if it is held at the place named.
@@ -250,13 +233,11 @@ fn note_delivery(head: Head, message: Message, place: usize, network: &[u64]) ->
     ensures { result ≡ traffic_without head.traffic message (wait_since head.time Form.Packed network.now place) head.held place }
 {
     if head.held <= place {
-        return head.traffic;
+        head.traffic
+    } else {
+        let sent = buffers::sent(Form::Packed, network, place);
+        sums::deliver(head.traffic, message, wait_since(sent, head.time))
     }
-    sums::deliver(
-        head.traffic,
-        message,
-        wait_since(buffers::sent(Form::Packed, network, place), head.time),
-    )
 }
 
 // A message whose input no check refuses is handled: what it makes of whom it reaches is decided; then 17 and 18 are judged; then it leaves
@@ -275,10 +256,12 @@ pub(crate) fn handle(
         ≡ handled (state_of (run_from head clocks.old views.old) tally.old network.old) message place }
 {
     let mut next = head_without(head, place);
-    let x = decide(next, message, clocks, views, tally);
-    let check = outcome_check(next, message, x, buffers::capacity(Form::Packed, network));
-    if 0 < check {
-        return refuse(head, check);
+    let x = match decide(next, message, clocks, views, tally) {
+        Ok(x) => x,
+        Err(check) => return refuse(head, check),
+    };
+    if overfills(next, message, x, buffers::capacity(Form::Packed, network)) {
+        return refuse(head, 18);
     }
     let traffic = note_delivery(head, message, place, network);
     next.traffic = traffic;

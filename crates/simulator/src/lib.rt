@@ -13,24 +13,28 @@ ghost use Rattle.model.specs.State.{state_of, run_from, handed_back, left_behind
 ghost use Rattle.model.specs.Checks.{unsound_for_good};
 ghost use Rattle.liveness.specs.Promises.{Tabled, answer_from};
 ghost use Rattle.loads.specs.Loads.{point_of};
-ghost use Rattle.simulator.specs.Clauses.{Opens, Applies, AppliesAll, WritesLoad};
+ghost use Rattle.simulator.specs.Clauses.{Opens, Applies, AppliesAll, head_after, WritesLoad};
 
 use types::{
     Answer, Applied, AppliedHead, Event, Form, Head, Message, Processor, Run, Sends, Setup,
 };
 
-// What a message or a tick makes of the processor that it reaches. Of a signature it says whether the leader forms the certificate; of a
-// certificate or a tick, the processor's next state and what it sends, or that its clock would reach the end.
+// How a processor moves: its next state, and what it sends.
 #[derive(Clone, Copy)]
-pub(crate) struct Reaction {
-    pub(crate) formed: bool,
+pub(crate) struct Move {
     pub(crate) processor: Processor,
     pub(crate) sends: Sends,
-    pub(crate) ends: bool,
 }
 
-// A piece of a load: where the load stands after it, the bytes written, and whether more of them are needed; check 9 where nothing is chosen on
-// the run, else 0.
+// What a message makes of whom it reaches: whether the leader that hears a signature forms the certificate, or how a certificate's receiver moves. A leader
+// that forms none has heard the signature all the same, so the first is no want of the second.
+#[derive(Clone, Copy)]
+pub(crate) enum Reaction {
+    Heard(bool),
+    Moved(Move),
+}
+
+// A piece of a load: where the load stands after it, the bytes written, and whether more of them are needed.
 #[derive(Clone, Copy)]
 pub struct Piece {
     pub head: Head,
@@ -38,14 +42,12 @@ pub struct Piece {
     pub step: u64,
     pub bytes: usize,
     pub full: bool,
-    pub check: u64,
 }
 
-// What an event's input comes to: a check that refuses it; a head that is left, all else being as it was; a message to be handled, and the place
-// where it is held, or how many are held where it is not one of them; or ticks to be run.
+// What an event whose input no check refuses comes to: a head that is left, all else being as it was; a message to be handled, and the place where
+// it is held, or how many are held where it is not one of them, as `buffers::find` answers and `buffers::remove` takes it; or ticks to be run.
 #[derive(Clone, Copy)]
 pub(crate) enum Task {
-    Refuse(u64),
     Finish(Head),
     Handle(Message, usize),
     Run(u64),
@@ -63,21 +65,23 @@ pub fn open_lent(
     ensures { Opens setup (state_of (run_from head clocks.old views.old) tally.old network.old)
         (left_behind result clocks.new views.new tally.new network.new) }
 {
-    let check = checks::setup_check(setup, tally.len(), network.len());
-    if check == 0 {
-        let next = opening::start(setup, tally, network);
-        let first_clocks = next.clocks;
-        let first_views = next.views;
-        *clocks = first_clocks;
-        *views = first_views;
-        return AppliedHead {
-            head: types::head_of(next),
-            answer: Answer::Done(0, next.held),
-        };
-    }
-    AppliedHead {
-        head: head,
-        answer: Answer::Refused(check),
+    match checks::setup_check(setup, tally.len(), network.len()) {
+        Ok(()) => {
+            let next = opening::start(setup, tally, network);
+            // By name first: a table is not stored straight from a field where the tables are lent.
+            let first_clocks = next.clocks;
+            let first_views = next.views;
+            *clocks = first_clocks;
+            *views = first_views;
+            AppliedHead {
+                head: types::head_of(next),
+                answer: Answer::Done(0, next.held),
+            }
+        }
+        Err(check) => AppliedHead {
+            head,
+            answer: Answer::Refused(check),
+        },
     }
 }
 
@@ -95,14 +99,13 @@ fn apply_judged(
     ensures { Applies event (state_of (run_from head clocks.old views.old) tally.old network.old)
         (left_behind result clocks.new views.new tally.new network.new) }
 {
-    let task = tasks::judge(head, broken, event, tally, network);
-    match task {
-        Task::Refuse(check) => events::refuse(head, check),
-        Task::Finish(next) => events::done(next),
-        Task::Handle(message, place) => {
+    match tasks::judge(head, broken, event, tally, network) {
+        Err(check) => events::refuse(head, check),
+        Ok(Task::Finish(next)) => events::done(next),
+        Ok(Task::Handle(message, place)) => {
             events::handle(head, message, place, clocks, views, tally, network)
         }
-        Task::Run(m) => ticks::run_ticks(head, m, clocks, views, tally, network),
+        Ok(Task::Run(m)) => ticks::run_ticks(head, m, clocks, views, tally, network),
     }
 }
 
@@ -124,7 +127,7 @@ pub fn open(run: Run, setup: Setup, tally: &mut [u64], network: &mut [u64]) -> A
     let answer = outcome.answer;
     Applied {
         run: types::gather(head, &clocks, &views),
-        answer: answer,
+        answer,
     }
 }
 
@@ -141,7 +144,7 @@ pub fn apply(run: Run, event: Event, tally: &mut [u64], network: &mut [u64]) -> 
     let answer = outcome.answer;
     Applied {
         run: types::gather(next, &clocks, &views),
-        answer: answer,
+        answer,
     }
 }
 
@@ -162,15 +165,13 @@ fn apply_words(
 {
     let count = events.len() / words::EVENT_WORDS;
     let mut current = head;
-    let mut i = 0;
-    while i < count {
+    for i in 0..count {
         let event = words::event_at(events, i);
         let outcome = apply_judged(current, broken, event, clocks, views, tally, network);
         let next = outcome.head;
         let answer = outcome.answer;
         words::put_answer(events, i, answer, next.held);
         current = next;
-        i += 1;
     }
     current
 }
@@ -196,14 +197,11 @@ pub fn apply_events(
 fn is_accepted(check: u64, ticks: u64) -> bool
     ensures { (held : ℕ) → result ≡ accepted (answer_from check ticks held) }
 {
-    if check == 0 {
-        return true;
-    }
-    0 < ticks
+    check == 0 || 0 < ticks
 }
 
 // A load out of a seed number goes on, from the step named and up to `steps` steps: event by event is chosen and applied, and its line written, for
-// as long as it has room and is accepted. What of check 9 lasts is looked at once, and the time before each event.
+// as long as it has room and is accepted. What of check 9 lasts is looked at once, and refuses the load; the time is looked at before each event.
 pub fn write_load(
     head: Head,
     seed: u64,
@@ -215,65 +213,56 @@ pub fn write_load(
     tally: &mut [u64],
     network: &mut [u64],
     out: &mut [u8],
-) -> Piece
+) -> Result<Piece, u64>
     ensures { WritesLoad steps settle (point_of (state_of (run_from head clocks.old views.old) tally.old network.old) seed step) out.old
-        (state_of (run_from result.head clocks.new views.new) tally.new network.new) result out.new }
+        (state_of (run_from (head_after head result) clocks.new views.new) tally.new network.new) result out.new }
 {
     let broken = checks::unsound_for_good(Form::Packed, head, clocks, views, tally, network);
     if broken {
-        return Piece {
-            head: head,
-            seed: seed,
-            step: step,
-            bytes: 0,
-            full: false,
-            check: 9,
-        };
+        return Err(9);
     }
     let mut current = head;
     let mut last = seed;
     let mut next = step;
     let mut at = 0;
+    // No count from step to step: a turn says how many steps it took.
     while next < steps {
         let turn = loads::next_turn(current, last, next, settle, network);
         let event = turn.event;
         let bytes = writer::event_bytes(event);
         if out.len() - at < bytes {
-            return Piece {
+            return Ok(Piece {
                 head: current,
                 seed: last,
                 step: next,
                 bytes: at,
                 full: true,
-                check: 0,
-            };
+            });
         }
         let mut batch = [0u64; words::EVENT_WORDS];
         words::put_numbers(&mut batch, 0, words::numbers_of(event));
         let left = apply_words(current, false, clocks, views, tally, network, &mut batch);
         if is_accepted(batch[1], batch[2]) {
-            writer::write_event(event, &mut out[at..]);
+            let _ = writer::write_event(event, &mut out[at..]);
             current = left;
             last = turn.seed;
             next += turn.steps;
             at += bytes;
         } else {
-            return Piece {
+            return Ok(Piece {
                 head: left,
                 seed: last,
                 step: next,
                 bytes: at,
                 full: false,
-                check: 0,
-            };
+            });
         }
     }
-    Piece {
+    Ok(Piece {
         head: current,
         seed: last,
         step: next,
         bytes: at,
         full: false,
-        check: 0,
-    }
+    })
 }

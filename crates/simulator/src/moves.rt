@@ -26,9 +26,10 @@ pub(crate) fn send(
 {
     if plan.correct(faulty, message.addressee(plan)) {
         buffers::append(Form::Packed, network, held, message, time);
-        return held + 1;
+        held + 1
+    } else {
+        held
     }
-    held
 }
 
 // The certificate of a stage.
@@ -36,9 +37,10 @@ fn certificate_of(stage: bool, w: u64, p: u64) -> Message
     ensures { result ≡ certificate stage w p }
 {
     if stage {
-        return Message::Qc(w, p);
+        Message::Qc(w, p)
+    } else {
+        Message::Vc(w, p)
     }
-    Message::Vc(w, p)
 }
 
 // A certificate to every correct processor.
@@ -55,10 +57,8 @@ fn broadcast(
     ensures { Posts (to_correct plan faulty (to_each stage w plan.n)) held time network.old result network.new }
 {
     let mut h = held;
-    let mut q = 0;
-    while q < plan.n {
+    for q in 0..plan.n {
         h = send(network, h, plan, faulty, certificate_of(stage, w, q), time);
-        q += 1;
     }
     h
 }
@@ -125,11 +125,7 @@ pub(crate) fn enter(
 fn silent(sends: Sends) -> bool
     ensures { result ≡ true → sends ≡ Sends.Nothing }
 {
-    match sends {
-        Sends::Nothing => true,
-        Sends::Vote(_) => false,
-        Sends::ViewAndVote(_) => false,
-    }
+    matches!(sends, Sends::Nothing)
 }
 
 // The same in a tick, in which most processors send nothing: for those nothing is called.
@@ -147,9 +143,10 @@ pub(crate) fn enter_by_tick(
     ensures { Enters plan faulty p sends held time tally.old network.old result tally.new network.new }
 {
     if silent(sends) {
-        return held;
+        held
+    } else {
+        enter(tally, network, held, plan, faulty, p, sends, time)
     }
-    enter(tally, network, held, plan, faulty, p, sends, time)
 }
 
 // Whether the leader of view w is correct.
@@ -164,10 +161,7 @@ pub(crate) fn led(plan: Plan, faulty: u64, w: u64) -> bool
 fn share(goes: bool, k: usize) -> usize
     ensures { result ≡ cond goes k 0 }
 {
-    if goes {
-        return k;
-    }
-    0
+    if goes { k } else { 0 }
 }
 
 // How many messages go into the network of what processor p sends in one move.
@@ -187,9 +181,10 @@ pub(crate) fn signers_needed(plan: Plan, stage: bool) -> u64
     ensures { result ≡ needed stage plan }
 {
     if stage {
-        return plan.n - plan.tolerated();
+        plan.n - plan.tolerated()
+    } else {
+        plan.tolerated() + 1
     }
-    plan.tolerated() + 1
 }
 
 // Whether hearing p makes the leader of w, whose own view is given, form the certificate.
@@ -198,16 +193,9 @@ pub(crate) fn would_form(stage: bool, plan: Plan, own: u64, w: u64, p: u64, tall
     ensures { result ≡ ripe stage plan own tally.now w p }
 {
     let signers = base::insert(buffers::heard(tally, stage, w), p);
-    if base::size(signers) < signers_needed(plan, stage) {
-        return false;
-    }
-    if buffers::is_marked(tally, stage, w) {
-        return false;
-    }
-    if stage {
-        return true;
-    }
-    own <= w
+    signers_needed(plan, stage) <= base::size(signers)
+        && !buffers::is_marked(tally, stage, w)
+        && (stage || own <= w)
 }
 
 // The leader of w hears p, and forms the certificate or not.
@@ -229,9 +217,10 @@ pub(crate) fn hear(
     buffers::hear(tally, stage, w, p);
     if formed {
         buffers::mark(tally, stage, w);
-        return broadcast(network, held, plan, faulty, stage, w, time);
+        broadcast(network, held, plan, faulty, stage, w, time)
+    } else {
+        held
     }
-    held
 }
 
 // The sums with a certificate of which so many copies were posted.
@@ -270,7 +259,8 @@ pub(crate) fn count_formed(plan: Plan, faulty: u64, formed: bool) -> usize
     ensures { result ≡ cond formed (plan.n - size faulty) 0 }
 {
     if formed {
-        return (plan.n - base::size(faulty)) as usize;
+        (plan.n - base::size(faulty)) as usize
+    } else {
+        0
     }
-    0
 }

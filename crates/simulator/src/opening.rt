@@ -18,9 +18,10 @@ fn start_clock(plan: Plan, faulty: u64, q: u64, clock: u64) -> u64
     ensures { result ≡ cond (correct plan faulty q) clock 0 }
 {
     if plan.correct(faulty, q) {
-        return clock;
+        clock
+    } else {
+        NOT_READ
     }
-    NOT_READ
 }
 
 // The run before the first entry.
@@ -28,21 +29,17 @@ fn blank(setup: Setup) -> Run
     ensures { result ≡ blank_run setup }
 {
     let mut clocks = [0; 64];
-    let mut q = 0;
-    while q < Plan::N_MOST {
-        let i = q as usize;
-        clocks[i] = start_clock(setup.plan, setup.faulty, q, setup.clocks[i]);
-        q += 1;
+    for (i, clock) in clocks.iter_mut().enumerate() {
+        *clock = start_clock(setup.plan, setup.faulty, i as u64, setup.clocks[i]);
     }
-    let plan = setup.plan;
     Run {
-        plan: plan,
+        plan: setup.plan,
         faulty: setup.faulty,
         time: 0,
         settled: false,
         gst: 0,
         held: 0,
-        clocks: clocks,
+        clocks,
         views: [0; 64],
         traffic: Traffic::none(),
     }
@@ -53,9 +50,10 @@ fn first_sends(plan: Plan, faulty: u64, q: u64) -> Sends
     ensures { result ≡ first_sends plan faulty q }
 {
     if plan.correct(faulty, q) {
-        return Sends::ViewAndVote(0);
+        Sends::ViewAndVote(0)
+    } else {
+        Sends::Nothing
     }
-    Sends::Nothing
 }
 
 // Every correct processor enters view 0, by rising number. Answers how many messages are held then.
@@ -65,18 +63,16 @@ fn enter_all(setup: Setup, tally: &mut [u64], network: &mut [u64]) -> usize
 {
     let n = setup.plan.n;
     let mut held = 0;
-    let mut q = 0;
-    while q < n {
+    for q in 0..n {
         let sends = first_sends(setup.plan, setup.faulty, q);
         held = moves::enter(tally, network, held, setup.plan, setup.faulty, q, sends, 0);
-        q += 1;
     }
     held
 }
 
 // The setup, which checks 2 to 8 passed, is opened.
 pub(crate) fn start(setup: Setup, tally: &mut [u64], network: &mut [u64]) -> Run
-    requires { setup_check Form.Packed setup (length tally.old) (length network.old) ≡ 0 }
+    requires { setup_check Form.Packed setup (length tally.old) (length network.old) ≡ Ok tt }
     ensures { state_of result tally.new network.new ≡ opened setup (state_of (blank_run setup) tally.old network.old) }
 {
     let rows = setup.plan.views as usize;
@@ -85,6 +81,7 @@ pub(crate) fn start(setup: Setup, tally: &mut [u64], network: &mut [u64]) -> Run
     let mut run = blank(setup);
     let held = enter_all(setup, tally, network);
     let traffic = moves::note_pairs(run.traffic, held);
+    // Two fields are set: the run made anew from this one would copy its two tables.
     run.held = held;
     run.traffic = traffic;
     run

@@ -1,4 +1,5 @@
 -- The history of an input's last run leads to where the input ends, and its report is that of the run. Assumes nothing.
+use Rattle.std.proofs.Common.{Ok, Result, MatchResult}
 use mathlib.Core.Path.{◌≡◌, refl, sym, ap, ◌∙◌, subst}
 use mathlib.Core.Bool.{Bool, true, false, ◌||◌, cond}
 use mathlib.Core.List.{List, [], ◌∷◌}
@@ -75,12 +76,12 @@ history-sound u before es x l =
 
 -- it is that of the events
 pub history-totals : (u : Setup) (before : State) (es : List Event) (x : Standing) → RunAfter u before es x
-    → totals x.state ≡ history_totals u before es
+    → totals x.state ≡ Ok (history_totals u before es)
 history-totals u before es x l =
     ap totals l.state ∙ report-is-history u before l.opens es
 
 pub history-adds : (h : History) (x : Standing) → HistoryLeads h x → HistoryAdds h
 history-adds never x l = tt
 history-adds (opened_with u before es) x l =
-    subst (λ (y : Totals). y.traffic.sent ≡ both_counts y.traffic.delivered y.held)
-    (ap totals (sym l.state) ∙ history-totals u before es x l) (report-adds u before l.opens es).1
+    subst (λ (y : Result Totals ℕ). MatchResult y (λ z. z.traffic.sent ≡ both_counts z.traffic.delivered z.held) (λ check. ⊥))
+    (ap totals (sym l.state) ∙ history-totals u before es x l) (report-adds u before l.opens es)

@@ -1,4 +1,5 @@
 -- Reports: what is printed is of the state at hand, of the schedule's history, and never a refusal. Assumes nothing.
+use Rattle.std.specs.Prelude.{Ok, Result}
 use mathlib.Core.Path.{◌≡◌, sym, ap, ◌∙◌, subst}
 use mathlib.Core.Bool.{true, false, cond}
 use mathlib.Core.List.{List, []}
@@ -11,8 +12,6 @@ use Rattle.types.specs.Runs.{run_from, head_of, head-back}
 use Rattle.model.specs.State.{State, state_of}
 use Rattle.model.specs.Checks.{unsound}
 use Rattle.model.specs.Traffic.{held_counts, totals}
-use Rattle.lines.specs.declared.Written.{Written}
-use Rattle.lines.specs.declared.Written.TheVariants.{Bytes}
 use Rattle.lines.specs.Clauses.{Prints}
 use Rattle.lines.specs.Printout.{traffic_text, totals_text, totals_most}
 use Rattle.lines.specs.Splitting.{input_lines}
@@ -36,7 +35,7 @@ unfolding report_text
 closed-text x e = rw e
 
 -- the totals of the run, asked with its head and its tables
-pub reported : (s : Session) (t ws out : List ℕ) (h : Head) (x : Totals) (r : Written) (after : List ℕ) → s.opened ≡ true → h ≡ head_of s.run
+pub reported : (s : Session) (t ws out : List ℕ) (h : Head) (x : Result Totals ℕ) (r : Result ℕ ℕ) (after : List ℕ) → s.opened ≡ true → h ≡ head_of s.run
     → x ≡ totals (state_of (run_from h s.run.clocks s.run.views) t ws) → Prints totals_most (totals_text x) out r after
     → Prints totals_most (report_text (standing_of s t ws)) out r after
 reported s t ws out h x r after o e q p =
@@ -46,9 +45,9 @@ reported s t ws out h x r after o e q p =
     subst (λ (text : List ℕ). Prints totals_most text out r after) same p
 
 -- no run is open
-pub nothing-reported : (x : Standing) (out : List ℕ) → x.opened ≡ false → totals_most ≤ length out → Prints totals_most (report_text x) out (Bytes 0) out
+pub nothing-reported : (x : Standing) (out : List ℕ) → x.opened ≡ false → totals_most ≤ length out → Prints totals_most (report_text x) out (Ok 0) out
 nothing-reported x out o h =
-    subst (λ (text : List ℕ). Prints totals_most text out (Bytes 0) out) (sym (closed-text x o)) (put-prints totals_most [] out 0 out h (put-none out))
+    subst (λ (text : List ℕ). Prints totals_most text out (Ok 0) out) (sym (closed-text x o)) (put-prints totals_most [] out 0 out h (put-none out))
 
 -- ---- where some input led
 

@@ -1,5 +1,5 @@
 -- "The sums are those of the schedule's history": which run the lines of an input leave open, and the report that its history makes.
-use Rattle.std.specs.Prelude.{ℕ, cond, List, [], ◌∷◌, ◌++◌}
+use Rattle.std.specs.Prelude.{ℕ, cond, List, [], ◌∷◌, ◌++◌, Ok}
 use Rattle.types.specs.declared.Event.{Event}
 use Rattle.types.specs.declared.Setup.{Setup}
 use Rattle.model.specs.State.{State, accepted}
@@ -46,4 +46,4 @@ last_run s = history_from never at_start (input_lines s)
 
 abbrev pub history_text : History → List ℕ
 history_text never = []
-history_text (opened_with u before es) = totals_text (history_totals u before es)
+history_text (opened_with u before es) = totals_text (Ok (history_totals u before es))

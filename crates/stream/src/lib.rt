@@ -2,7 +2,7 @@
 // a report is printed. An error is one that the reader or the writer gave, or tells of a writer that takes no more.
 #![tactic(auto)]
 
-ghost use Rattle.std.specs.Prelude.{◌≡◌, cond, ◌+◌, ◌-◌, ◌≤◌, length, take, drop, replicate, IfOk};
+ghost use Rattle.std.specs.Prelude.{◌≡◌, ◌+◌, ◌-◌, ◌≤◌, length, take, drop, replicate, IfOk};
 ghost use Rattle.lines.specs.Clauses.{Prints};
 ghost use Rattle.lines.specs.Printout.{printed_most, totals_most};
 ghost use Rattle.std.proofs.Math.Seq.{paste};
@@ -11,7 +11,6 @@ ghost use Rattle.printout.specs.Traffic.{report_text};
 ghost use Rattle.transfer.specs.Moves.{Grows, Shrinks};
 ghost use Rattle.stream.specs.Threads.{Threads, Reaches};
 
-use lines::Written;
 use printout::Session;
 use std::io;
 use std::io::{Read, Write};
@@ -19,7 +18,8 @@ use std::io::{Read, Write};
 // The bytes of the window and of the buffer for what is printed.
 const BUFFER_BYTES: usize = 65536;
 
-// The session, whether bytes of a line that is too long were passed over, and a number of bytes: used, or left unused at the start of the window.
+// The session, whether bytes of a line that is too long were passed over, and a number of bytes: used, or left unused at the start of the window. With such
+// bytes behind the last newline the session goes on all the same.
 #[derive(Clone, Copy)]
 struct Progress {
     session: Session,
@@ -32,26 +32,25 @@ fn keep(window: &mut [u8], used: usize, filled: usize) -> usize
     requires { (used ≤ filled) × (filled ≤ length window.old) }
     ensures { (result ≡ filled - used) × (window.new ≡ paste window.old 0 (drop used window.old) result) }
 {
-    let unused = filled - used;
-    let mut i = 0;
-    while i < unused {
-        window[i] = window[used + i];
-        i += 1;
-    }
-    unused
+    window.copy_within(used..filled, 0);
+    filled - used
 }
 
-// How many of the printed bytes are written: where there is to be a report, none.
-fn shown(reporting: bool, printed: usize) -> usize
-    ensures { (result ≡ cond reporting 0 printed) × (result ≤ printed) }
-{
-    if reporting {
-        return 0;
+// Where the answers go of which nothing is to be seen.
+#[derive(Drop)]
+struct Discard;
+
+impl Write for Discard {
+    fn write(&mut self, buf: &[u8]) -> io::Result<usize> {
+        Ok(buf.len())
     }
-    printed
+
+    fn flush(&mut self) -> io::Result<()> {
+        Ok(())
+    }
 }
 
-// Every line that ends within the bytes is answered, and the answers written, unless there is to be a report.
+// Every line that ends within the bytes is answered, and the answers written.
 fn answer_all<W: Write>(
     session: Session,
     late: bool,
@@ -60,7 +59,6 @@ fn answer_all<W: Write>(
     network: &mut [u64],
     out: &mut [u8],
     to: &mut W,
-    reporting: bool,
 ) -> io::Result<Progress>
     ensures threads { IfOk result (Threads (standing_of session tally.old network.old) late bytes.now out.old
         tally.new network.new) }
@@ -69,19 +67,15 @@ fn answer_all<W: Write>(
     let mut state = session;
     let mut passed = late;
     let mut used = 0;
+    // No count from call to call: a call says how many bytes it used.
     while used < bytes.len() {
         let served = driver::answer_lines(state, passed, &bytes[used..], tally, network, out);
-        let printed = shown(reporting, served.printed);
-        transfer::write_whole(to, &out[..printed])?;
+        transfer::write_whole(to, &out[..served.printed])?;
         state = served.session;
         passed = served.late;
         used += served.used;
         if served.used == 0 {
-            return Ok(Progress {
-                session: state,
-                late: passed,
-                bytes: used,
-            });
+            break;
         }
     }
     Ok(Progress {
@@ -109,7 +103,6 @@ fn answer_input<R: Read, W: Write>(
     network: &mut [u64],
     window: &mut [u8],
     out: &mut [u8],
-    reporting: bool,
 ) -> io::Result<Progress>
     requires { (tally.old ≡ replicate tally_lent 0) × (network.old ≡ replicate network_lent 0) × (printed_most ≤ length out.old) }
     ensures reaches { IfOk result (Reaches tally.new network.new window.new) }
@@ -119,95 +112,53 @@ fn answer_input<R: Read, W: Write>(
     let mut session = Session::unopened();
     let mut late = false;
     let mut unused = 0;
-    let mut turns = u64::MAX;
-    while 0 < turns {
-        turns -= 1;
+    for _ in 0..u64::MAX {
         let got = read_behind(from, window, unused)?;
         if got == 0 {
-            return Ok(Progress {
-                session: session,
-                late: late,
-                bytes: unused,
-            });
+            break;
         }
         let filled = unused + got;
-        let answered = answer_all(
-            session,
-            late,
-            &window[..filled],
-            tally,
-            network,
-            out,
-            to,
-            reporting,
-        )?;
+        let answered = answer_all(session, late, &window[..filled], tally, network, out, to)?;
         session = answered.session;
         late = answered.late;
         unused = keep(window, answered.bytes, filled);
     }
     Ok(Progress {
-        session: session,
-        late: late,
+        session,
+        late,
         bytes: unused,
     })
 }
 
 // A text that was printed at the start of the bytes is written.
-fn write_text<W: Write>(text: Written, out: &[u8], to: &mut W) -> io::Result<()>
+fn write_text<W: Write>(text: Result<usize, u64>, out: &[u8], to: &mut W) -> io::Result<()>
     ensures { Grows (W.contents to.old) (W.contents to.new) }
 {
-    let Written::Bytes(printed) = text else {
-        return Ok(());
-    };
-    if printed <= out.len() {
-        return transfer::write_whole(to, &out[..printed]);
+    match text {
+        Ok(printed) if printed <= out.len() => { transfer::write_whole(to, &out[..printed]) }
+        _ => Ok(()),
     }
-    Ok(())
-}
-
-// What comes at the end is written.
-fn close_input<W: Write>(
-    session: Session,
-    late: bool,
-    rest: &[u8],
-    out: &mut [u8],
-    to: &mut W,
-) -> io::Result<()>
-    ensures { Grows (W.contents to.old) (W.contents to.new) }
-{
-    let end = driver::finish(session, late, rest, out);
-    write_text(end, out, to)
 }
 
 // The report of the run that is open; nothing where none is.
-fn print_report(session: Session, tally: &[u64], network: &[u64], out: &mut [u8]) -> Written
-    ensures { Prints totals_most (report_text (standing_of session tally.now network.now)) out.old result out.new }
-{
-    if session.opened {
-        let run = session.run;
-        let clocks = run.clocks;
-        let views = run.views;
-        let totals = sums::totals(types::head_of(run), &clocks, &views, tally, network);
-        return writer::write_totals(totals, out);
-    }
-    if out.len() < writer::TOTALS_MOST {
-        return Written::Refused(1);
-    }
-    Written::Bytes(0)
-}
-
-// The report is written.
-fn report_input<W: Write>(
+fn print_report(
     session: Session,
     tally: &[u64],
     network: &[u64],
     out: &mut [u8],
-    to: &mut W,
-) -> io::Result<()>
-    ensures { Grows (W.contents to.old) (W.contents to.new) }
+) -> Result<usize, u64>
+    ensures { Prints totals_most (report_text (standing_of session tally.now network.now)) out.old result out.new }
 {
-    let text = print_report(session, tally, network, out);
-    write_text(text, out, to)
+    if session.opened {
+        let run = session.run;
+        let head = types::head_of(run);
+        let totals = sums::totals(head, &run.clocks, &run.views, tally, network);
+        writer::write_totals(totals, out)
+    } else if out.len() < writer::TOTALS_MOST {
+        Err(1)
+    } else {
+        Ok(0)
+    }
 }
 
 // Reads a schedule to its end, and writes its printout or the report of its traffic.
@@ -219,21 +170,27 @@ fn serve<R: Read, W: Write>(from: &mut R, to: &mut W, reporting: bool) -> io::Re
     let mut network = [0u64; printout::NETWORK_LENT];
     let mut window = [0u8; BUFFER_BYTES];
     let mut out = [0u8; BUFFER_BYTES];
-    let answered = answer_input(
-        from,
-        to,
-        &mut tally,
-        &mut network,
-        &mut window,
-        &mut out,
-        reporting,
-    )?;
-    let session = answered.session;
     if reporting {
-        return report_input(session, &tally, &network, &mut out, to);
+        let at_end = answer_input(
+            from,
+            &mut Discard,
+            &mut tally,
+            &mut network,
+            &mut window,
+            &mut out,
+        )?;
+        let report = print_report(at_end.session, &tally, &network, &mut out);
+        write_text(report, &out, to)
+    } else {
+        let at_end = answer_input(from, to, &mut tally, &mut network, &mut window, &mut out)?;
+        let end = driver::finish(
+            at_end.session,
+            at_end.late,
+            &window[..at_end.bytes],
+            &mut out,
+        );
+        write_text(end, &out, to)
     }
-    let unused = answered.bytes;
-    close_input(session, answered.late, &window[..unused], &mut out, to)
 }
 
 // Reads a schedule to its end and writes its printout.

@@ -1,29 +1,16 @@
 // The sums of a run's traffic: messages that are sent and delivered are added to them. They wrap at 2^64. And what is told of them.
 #![tactic(auto)]
 
-ghost use Rattle.std.specs.Prelude.{◌≡◌, ◌<◌, ◌≤◌, false, replicate, ◌==◌, nat_eq};
-ghost use Rattle.base.specs.Count.{count};
+ghost use Rattle.std.specs.Prelude.{◌≡◌, ◌≤◌, replicate};
 ghost use Rattle.types.specs.Traffic.{counts_more, traffic_sent, traffic_delivered};
-ghost use Rattle.types.specs.Messages.{kind_least, kind_most};
-ghost use Rattle.model.specs.State.{state_of, run_from, held_at, capacity};
+ghost use Rattle.model.specs.State.{state_of, run_from, capacity};
 ghost use Rattle.model.specs.Traffic.{totals};
+ghost use Rattle.sums.specs.Held.{counts_held};
 
-use buffers::Stored;
 use types::{Counts, Form, Head, Message, Totals, Traffic};
 
-// The kinds of messages, as they are stored.
-const VIEW: u64 = 1;
-
-const VOTE: u64 = 2;
-
-const VC: u64 = 3;
-
-const QC: u64 = 4;
-
-// The check that refuses an unsound run, and what stands in its place where there is none.
+// The check that refuses an unsound run.
 const UNSOUND: u64 = 9;
-
-const NO_CHECK: u64 = 0;
 
 // So many more of one kind.
 fn count(counts: Counts, message: Message, k: u64) -> Counts
@@ -31,28 +18,20 @@ fn count(counts: Counts, message: Message, k: u64) -> Counts
 {
     match message {
         Message::View(_, _) => Counts {
-            views: std::num::wrapping_add_u64(counts.views, k),
-            votes: counts.votes,
-            vcs: counts.vcs,
-            qcs: counts.qcs,
+            views: counts.views.wrapping_add(k),
+            ..counts
         },
         Message::Vote(_, _) => Counts {
-            views: counts.views,
-            votes: std::num::wrapping_add_u64(counts.votes, k),
-            vcs: counts.vcs,
-            qcs: counts.qcs,
+            votes: counts.votes.wrapping_add(k),
+            ..counts
         },
         Message::Vc(_, _) => Counts {
-            views: counts.views,
-            votes: counts.votes,
-            vcs: std::num::wrapping_add_u64(counts.vcs, k),
-            qcs: counts.qcs,
+            vcs: counts.vcs.wrapping_add(k),
+            ..counts
         },
         Message::Qc(_, _) => Counts {
-            views: counts.views,
-            votes: counts.votes,
-            vcs: counts.vcs,
-            qcs: std::num::wrapping_add_u64(counts.qcs, k),
+            qcs: counts.qcs.wrapping_add(k),
+            ..counts
         },
     }
 }
@@ -61,11 +40,9 @@ fn count(counts: Counts, message: Message, k: u64) -> Counts
 pub fn send(traffic: Traffic, message: Message, k: u64) -> Traffic
     ensures { result ≡ traffic_sent traffic (replicate k message) }
 {
-    let delivered = traffic.delivered;
     Traffic {
         sent: count(traffic.sent, message, k),
-        delivered: delivered,
-        waits: traffic.waits,
+        ..traffic
     }
 }
 
@@ -73,38 +50,25 @@ pub fn send(traffic: Traffic, message: Message, k: u64) -> Traffic
 pub fn deliver(traffic: Traffic, message: Message, wait: u64) -> Traffic
     ensures { result ≡ traffic_delivered traffic message wait }
 {
-    let sent = traffic.sent;
     Traffic {
-        sent: sent,
         delivered: count(traffic.delivered, message, 1),
-        waits: std::num::wrapping_add_u64(traffic.waits, wait),
+        waits: traffic.waits.wrapping_add(wait),
+        ..traffic
     }
 }
 
-// Whether message i is of that kind.
-fn is_kind(network: &[u64], i: usize, kind: u64) -> bool
-    requires { (i < capacity Form.Packed network.now) × (kind_least ≤ kind) × (kind ≤ kind_most) }
-    ensures { result ≡ ((held_at Form.Packed network.now i).kind == kind) }
+// How many held messages are of each kind.
+fn count_held(network: &[u64], held: usize) -> Counts
+    requires { held ≤ capacity Form.Packed network.now }
+    ensures { result ≡ counts_held network.now held }
 {
-    let stored = buffers::decode(Form::Packed, network, i);
-    match stored {
-        Stored::Holds(message) => message.kind() == kind,
-        Stored::Unknown => false,
+    let mut counts = Counts::none();
+    for i in 0..held {
+        if let Some(message) = buffers::decode(Form::Packed, network, i) {
+            counts = count(counts, message, 1);
+        }
     }
-}
-
-// How many held messages are of that kind.
-fn count_kind(network: &[u64], held: usize, kind: u64) -> u64
-    requires { (held ≤ capacity Form.Packed network.now) × (kind_least ≤ kind) × (kind ≤ kind_most) }
-    ensures { result ≡ count held (λ i. nat_eq (held_at Form.Packed network.now i).kind kind) }
-{
-    let mut k = 0;
-    let mut i = 0;
-    while i < held {
-        k += is_kind(network, i, kind) as u64;
-        i += 1;
-    }
-    k
+    counts
 }
 
 // A run's traffic and the messages in flight by kind, or check 9.
@@ -114,25 +78,14 @@ pub fn totals(
     views: &[u64; 64],
     tally: &[u64],
     network: &[u64],
-) -> Totals
+) -> Result<Totals, u64>
     ensures { result ≡ totals (state_of (run_from head clocks.now views.now) tally.now network.now) }
 {
     if checks::unsound(Form::Packed, head, clocks, views, tally, network) {
-        return Totals {
-            check: UNSOUND,
-            traffic: Traffic::none(),
-            held: Counts::none(),
-        };
+        return Err(UNSOUND);
     }
-    let traffic = head.traffic;
-    Totals {
-        check: NO_CHECK,
-        traffic: traffic,
-        held: Counts {
-            views: count_kind(network, head.held, VIEW),
-            votes: count_kind(network, head.held, VOTE),
-            vcs: count_kind(network, head.held, VC),
-            qcs: count_kind(network, head.held, QC),
-        },
-    }
+    Ok(Totals {
+        traffic: head.traffic,
+        held: count_held(network, head.held),
+    })
 }

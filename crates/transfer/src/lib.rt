@@ -13,6 +13,7 @@ pub fn write_whole<W: Write>(to: &mut W, bytes: &[u8]) -> io::Result<()>
     ensures whole { OnOk result (Appends (W.contents to.old) (W.contents to.new) bytes.now) }
     ensures grows { Grows (W.contents to.old) (W.contents to.new) }
 {
+    // The library's `write_all` does not say what a call that failed left, and goes on after an interruption.
     let mut done = 0;
     while done < bytes.len() {
         let taken = to.write(&bytes[done..])?;
@@ -30,6 +31,7 @@ pub fn read_full<R: Read>(from: &mut R, buffer: &mut [u8]) -> io::Result<usize>
     ensures bytes { IfOk result (λ n. Consumes (R.remaining from.old) (R.remaining from.new) (take n buffer.new)) }
     ensures shrinks { Shrinks (R.remaining from.old) (R.remaining from.new) }
 {
+    // The library's `read_exact` does not say how many bytes came before the end. Each turn moves on by what its read gave.
     let mut done = 0;
     while done < buffer.len() {
         let come = from.read(&mut buffer[done..])?;

@@ -4,7 +4,7 @@
 
 ghost use Rattle.std.specs.Prelude.{◌≤◌, ◌<◌, length, IfOk};
 
-use lines::{Next, Read, Written};
+use lines::{Next, Read};
 use printout::{Served, Session};
 use std::io;
 use types::{Answer, Event, Setup};
@@ -18,19 +18,12 @@ const PIECE_BYTES: usize = 100;
 // Room for an answer, and mostly for one more.
 const OUT_BYTES: usize = 90;
 
-fn say(rt: &impl Print, text: &[u8]) -> io::Result<()> {
-    rt.write_all(text)
-}
-
 // What a call wrote into the lent bytes.
-fn say_written(rt: &impl Print, answer: Written, out: &[u8]) -> io::Result<()> {
-    let Written::Bytes(k) = answer else {
-        return Ok(());
-    };
-    if k <= out.len() {
-        return say(rt, &out[..k]);
+fn say_written(rt: &impl Print, answer: Result<usize, u64>, out: &[u8]) -> io::Result<()> {
+    match answer {
+        Ok(k) if k <= out.len() => rt.write_all(&out[..k]),
+        _ => Ok(()),
     }
-    Ok(())
 }
 
 // The end of the input.
@@ -55,8 +48,7 @@ fn serve(
 {
     let mut out = [0u8; OUT_BYTES];
     let served = driver::answer_lines(session, late, bytes, tally, network, &mut out);
-    let printed = served.printed;
-    say(rt, &out[..printed])?;
+    rt.write_all(&out[..served.printed])?;
     Ok(served)
 }
 
@@ -65,25 +57,20 @@ fn further(end: usize, length: usize) -> usize
     requires { end < length }
     ensures { (end < result) × (result ≤ length) }
 {
-    if length - end < PIECE_BYTES {
-        return length;
-    }
-    end + PIECE_BYTES
+    end + PIECE_BYTES.min(length - end)
 }
 
 // Piece by piece: a further one, where no line ends in what is at hand.
-fn in_pieces(
-    rt: &impl Print,
-    input: &[u8],
-    tally: &mut [u64],
-    network: &mut [u64],
-) -> io::Result<()> {
+fn in_pieces(rt: &impl Print, input: &[u8]) -> io::Result<()> {
+    let mut tally = [0u64; printout::TALLY_LENT];
+    let mut network = [0u64; printout::NETWORK_LENT];
     let mut session = Session::unopened();
     let mut late = false;
     let mut at = 0;
     let mut end = 0;
+    // No count from call to call: a call says how many bytes it used.
     loop {
-        let served = serve(rt, session, late, &input[at..end], tally, network)?;
+        let served = serve(rt, session, late, &input[at..end], &mut tally, &mut network)?;
         session = served.session;
         late = served.late;
         at += served.used;
@@ -108,8 +95,7 @@ fn answer_whole(
 ) -> io::Result<Session> {
     let mut out = [0u8; driver::PRINTED_MOST];
     let replied = driver::answer_line(session, line, tally, network, &mut out);
-    let written = replied.written;
-    say_written(rt, written, &out)?;
+    say_written(rt, replied.written, &out)?;
     Ok(replied.session)
 }
 
@@ -123,16 +109,11 @@ fn say_answer(rt: &impl Print, answer: Answer) -> io::Result<()> {
 
 // "(stopped a h r) for ticks ended by check 16, 17 or 18, a being 0 if the first was refused"
 fn say_applied(rt: &impl Print, event: Event, held: usize, answer: Answer) -> io::Result<()> {
-    let Event::Tick(_) = event else {
-        return say_answer(rt, answer);
+    let told = match (event, answer) {
+        (Event::Tick(_), Answer::Refused(check)) if 16 <= check => Answer::Stopped(0, held, check),
+        _ => answer,
     };
-    let Answer::Refused(check) = answer else {
-        return say_answer(rt, answer);
-    };
-    if check < 16 {
-        return say_answer(rt, answer);
-    }
-    say_answer(rt, Answer::Stopped(0, held, check))
+    say_answer(rt, told)
 }
 
 // A run is open after an accepted opening.
@@ -144,18 +125,10 @@ fn open(
     network: &mut [u64],
 ) -> io::Result<Session> {
     let applied = simulator::open(session.run, setup, tally, network);
-    let run = applied.run;
-    let answer = applied.answer;
-    say_answer(rt, answer)?;
-    let Answer::Done(_, _) = answer else {
-        return Ok(Session {
-            opened: session.opened,
-            run: run,
-        });
-    };
+    say_answer(rt, applied.answer)?;
     Ok(Session {
-        opened: true,
-        run: run,
+        opened: session.opened || matches!(applied.answer, Answer::Done(_, _)),
+        run: applied.run,
     })
 }
 
@@ -168,12 +141,8 @@ fn apply(
 ) -> io::Result<Session> {
     let applied = simulator::apply(session.run, event, tally, network);
     let run = applied.run;
-    let answer = applied.answer;
-    say_applied(rt, event, run.held, answer)?;
-    Ok(Session {
-        opened: session.opened,
-        run: run,
-    })
+    say_applied(rt, event, run.held, applied.answer)?;
+    Ok(Session { run, ..session })
 }
 
 // A line in parts: read, applied or opened, and its answer written.
@@ -184,15 +153,14 @@ fn take_apart(
     tally: &mut [u64],
     network: &mut [u64],
 ) -> io::Result<Session> {
-    let read = reader::read_line(line);
-    if let Read::Event(event) = read {
-        return apply(rt, session, event, tally, network);
+    match reader::read_line(line) {
+        Read::Event(event) => apply(rt, session, event, tally, network),
+        Read::Opening => open(rt, session, reader::read_setup(line), tally, network),
+        Read::NoForm => {
+            say_answer(rt, Answer::Refused(1))?;
+            Ok(session)
+        }
     }
-    let Read::Opening = read else {
-        say_answer(rt, Answer::Refused(1))?;
-        return Ok(session);
-    };
-    open(rt, session, reader::read_setup(line), tally, network)
 }
 
 // ---- line by line
@@ -201,67 +169,50 @@ fn take_apart(
 fn line_end(rest: &[u8]) -> usize
     ensures { result ≤ length rest.now }
 {
-    let next = lines::next_line(rest);
-    match next {
-        Next::Line(end) => end,
-        Next::Long(end) => end,
-        Next::Unfinished => rest.len(),
-        Next::Endless => rest.len(),
+    match lines::next_line(rest) {
+        Next::Line(end) | Next::Long(end) => end,
+        Next::Unfinished | Next::Endless => rest.len(),
     }
 }
 
-fn answer_either(
+// Every line of the input, by one of the two ways to answer one.
+fn line_by_line<F: Fn(Session, &[u8], &mut [u64], &mut [u64]) -> io::Result<Session>>(
     rt: &impl Print,
-    whole: bool,
-    session: Session,
-    line: &[u8],
-    tally: &mut [u64],
-    network: &mut [u64],
-) -> io::Result<Session> {
-    if whole {
-        return answer_whole(rt, session, line, tally, network);
-    }
-    take_apart(rt, session, line, tally, network)
-}
-
-fn line_by_line(
-    rt: &impl Print,
-    whole: bool,
+    answer: F,
     input: &[u8],
-    tally: &mut [u64],
-    network: &mut [u64],
-) -> io::Result<()> {
+) -> io::Result<()>
+    requires { F.IsAlwaysCallable answer }
+{
+    let mut tally = [0u64; printout::TALLY_LENT];
+    let mut network = [0u64; printout::NETWORK_LENT];
     let mut session = Session::unopened();
     let mut at = 0;
+    // No count from line to line: a turn takes a line and its newline.
     loop {
         let end = at + line_end(&input[at..]);
         if end == input.len() {
             return say_end(rt, session, false, &input[at..]);
         }
-        session = answer_either(rt, whole, session, &input[at..end], tally, network)?;
+        session = answer(session, &input[at..end], &mut tally, &mut network)?;
         at = end + 1;
     }
-}
-
-fn tell_pieces(rt: &impl Print, input: &[u8]) -> io::Result<()> {
-    let mut tally = [0u64; printout::TALLY_LENT];
-    let mut network = [0u64; printout::NETWORK_LENT];
-    in_pieces(rt, input, &mut tally, &mut network)
-}
-
-fn tell_lines(rt: &impl Print, whole: bool, input: &[u8]) -> io::Result<()> {
-    let mut tally = [0u64; printout::TALLY_LENT];
-    let mut network = [0u64; printout::NETWORK_LENT];
-    line_by_line(rt, whole, input, &mut tally, &mut network)
 }
 
 fn main(rt: HostRuntime) -> io::Result<()> {
     let mut input = [0u8; INPUT_BYTES];
     let n = transfer::read_full(&mut rt.stdin(), &mut input)?;
-    say(&rt, b"# answer_lines\n")?;
-    tell_pieces(&rt, &input[..n])?;
-    say(&rt, b"# answer_line\n")?;
-    tell_lines(&rt, true, &input[..n])?;
-    say(&rt, b"# open and apply\n")?;
-    tell_lines(&rt, false, &input[..n])
+    rt.write_all(b"# answer_lines\n")?;
+    in_pieces(&rt, &input[..n])?;
+    rt.write_all(b"# answer_line\n")?;
+    line_by_line(
+        &rt,
+        |session, line, tally, network| answer_whole(&rt, session, line, tally, network),
+        &input[..n],
+    )?;
+    rt.write_all(b"# open and apply\n")?;
+    line_by_line(
+        &rt,
+        |session, line, tally, network| take_apart(&rt, session, line, tally, network),
+        &input[..n],
+    )
 }

@@ -4,7 +4,7 @@
 ghost use Rattle.std.specs.Prelude.{◌≡◌, true, ◌<◌, ◌≤◌, length, take, IfOk};
 ghost use Rattle.lines.specs.Clauses.{line};
 
-use lines::{Next, Read, Written};
+use lines::{Next, Read};
 use std::io;
 use types::{Event, Message, Setup};
 
@@ -14,17 +14,13 @@ const INPUT_BYTES: usize = 131072;
 // Room for the longest form and its newline.
 const LINE_BYTES: usize = 1461;
 
-fn say(rt: &impl Print, text: &[u8]) -> io::Result<()> {
-    rt.write_all(text)
-}
-
 fn say_number(rt: &impl Print, n: u64) -> io::Result<()> {
     print!(rt; " {n}")
 }
 
 // Kind, view and processor.
 fn say_message(rt: &impl Print, word: &[u8], message: Message) -> io::Result<()> {
-    say(rt, word)?;
+    rt.write_all(word)?;
     say_number(rt, message.kind())?;
     say_number(rt, message.view())?;
     say_number(rt, message.processor())
@@ -35,9 +31,9 @@ fn say_event(rt: &impl Print, event: Event) -> io::Result<()> {
         Event::Deliver(m) => say_message(rt, b"deliver", m),
         Event::Sign(m) => say_message(rt, b"sign", m),
         Event::Show(m) => say_message(rt, b"show", m),
-        Event::Settle => say(rt, b"settle"),
+        Event::Settle => rt.write_all(b"settle"),
         Event::Tick(m) => {
-            say(rt, b"tick")?;
+            rt.write_all(b"tick")?;
             say_number(rt, m)
         }
     }
@@ -45,16 +41,14 @@ fn say_event(rt: &impl Print, event: Event) -> io::Result<()> {
 
 // All of them, those from n on too.
 fn say_clocks(rt: &impl Print, clocks: &[u64]) -> io::Result<()> {
-    let mut i = 0;
-    while i < clocks.len() {
-        say_number(rt, clocks[i])?;
-        i += 1;
+    for clock in clocks {
+        say_number(rt, *clock)?;
     }
     Ok(())
 }
 
 fn say_setup(rt: &impl Print, setup: Setup) -> io::Result<()> {
-    say(rt, b"open")?;
+    rt.write_all(b"open")?;
     let plan = setup.plan;
     say_number(rt, plan.n)?;
     say_number(rt, plan.delta)?;
@@ -62,68 +56,66 @@ fn say_setup(rt: &impl Print, setup: Setup) -> io::Result<()> {
     say_number(rt, plan.views)?;
     say_number(rt, plan.k)?;
     say_number(rt, setup.faulty)?;
-    let clocks = setup.clocks;
-    say_clocks(rt, &clocks)
+    say_clocks(rt, &setup.clocks)
 }
 
-// Whether the first k bytes of out are the form and a newline.
+// Whether the first k bytes of out are the form and a newline. Two steps: the second takes a part that is there only where the first has not answered.
 fn is_line(out: &[u8], k: usize, form: &[u8]) -> bool
     ensures { result ≡ true → take k out.now ≡ line form.now }
 {
-    if out.len() < k {
+    if k == 0 || out.len() < k || out[k - 1] != b'\n' {
         return false;
     }
-    if k == 0 {
-        return false;
-    }
-    let end = k - 1;
-    if out[end] != b'\n' {
-        return false;
-    }
-    &out[..end] == form
+    &out[..k - 1] == form
 }
 
 // The first k bytes, if there are as many.
 fn say_first(rt: &impl Print, out: &[u8], k: usize) -> io::Result<()> {
-    if out.len() < k {
-        return Ok(());
+    if k <= out.len() {
+        rt.write_all(&out[..k])
+    } else {
+        Ok(())
     }
-    say(rt, &out[..k])
 }
 
 // What writing answered: as many bytes of the line that was read, or the line that it wrote, if that is another.
-fn say_written(rt: &impl Print, answer: Written, out: &[u8], line: &[u8]) -> io::Result<()> {
-    let Written::Bytes(k) = answer else {
-        return say(rt, b" not written\n");
+fn say_written(
+    rt: &impl Print,
+    answer: Result<usize, u64>,
+    out: &[u8],
+    line: &[u8],
+) -> io::Result<()> {
+    let Ok(k) = answer else {
+        return rt.write_all(b" not written\n");
     };
     if is_line(out, k, line) {
-        say(rt, b" written")?;
+        rt.write_all(b" written")?;
         say_number(rt, k as u64)?;
-        return say(rt, b"\n");
+        return rt.write_all(b"\n");
     }
-    say(rt, b" written otherwise: ")?;
+    rt.write_all(b" written otherwise: ")?;
     say_first(rt, out, k)
 }
 
 fn say_refused(rt: &impl Print) -> io::Result<()> {
-    say(rt, b"refused 1\n")
+    rt.write_all(b"refused 1\n")
 }
 
 // The answer is an event, an opening, or anything else: check 1.
 fn tell_line(rt: &impl Print, line: &[u8]) -> io::Result<()> {
-    let read = reader::read_line(line);
     let mut out = [0u8; LINE_BYTES];
-    if let Read::Event(e) = read {
-        say_event(rt, e)?;
-        let answer = writer::write_event(e, &mut out);
-        return say_written(rt, answer, &out, line);
-    }
-    let Read::Opening = read else {
-        return say_refused(rt);
+    let answer = match reader::read_line(line) {
+        Read::Event(event) => {
+            say_event(rt, event)?;
+            writer::write_event(event, &mut out)
+        }
+        Read::Opening => {
+            let setup = reader::read_setup(line);
+            say_setup(rt, setup)?;
+            writer::write_setup(setup, &mut out)
+        }
+        Read::NoForm => return say_refused(rt),
     };
-    let setup = reader::read_setup(line);
-    say_setup(rt, setup)?;
-    let answer = writer::write_setup(setup, &mut out);
     say_written(rt, answer, &out, line)
 }
 
@@ -132,20 +124,25 @@ fn tell_next(rt: &impl Print, rest: &[u8]) -> io::Result<usize>
     requires { 0 < length rest.now }
     ensures { IfOk result (λ taken. (1 ≤ taken) × (taken ≤ length rest.now)) }
 {
-    let next = lines::next_line(rest);
-    if let Next::Line(end) = next {
-        tell_line(rt, &rest[..end])?;
-        return Ok(end + 1);
+    match lines::next_line(rest) {
+        Next::Line(end) => {
+            tell_line(rt, &rest[..end])?;
+            Ok(end + 1)
+        }
+        Next::Long(end) => {
+            say_refused(rt)?;
+            Ok(end + 1)
+        }
+        Next::Unfinished | Next::Endless => {
+            say_refused(rt)?;
+            Ok(rest.len())
+        }
     }
-    say_refused(rt)?;
-    if let Next::Long(end) = next {
-        return Ok(end + 1);
-    }
-    Ok(rest.len())
 }
 
 fn tell_all(rt: &impl Print, input: &[u8]) -> io::Result<()> {
     let mut at = 0;
+    // No count from line to line: a line says how many bytes it took.
     while at < input.len() {
         at += tell_next(rt, &input[at..])?;
     }
@@ -156,7 +153,7 @@ fn main(rt: HostRuntime) -> io::Result<()> {
     let mut input = [0u8; INPUT_BYTES];
     let n = transfer::read_full(&mut rt.stdin(), &mut input)?;
     if n == INPUT_BYTES {
-        return say(&rt, b"too much input\n");
+        return rt.write_all(b"too much input\n");
     }
     tell_all(&rt, &input[..n])
 }

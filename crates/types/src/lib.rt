@@ -23,8 +23,6 @@ impl Plan {
     pub const VIEWS_PER_LEADER: u64 = 3;
     // What `lead` answers where there are no processors.
     const NO_LEADER: u64 = 0;
-    // What `clock_time` and `next_initial` answer where their number does not fit.
-    const LARGEST: u64 = 18446744073709551615;
     // Two numbers below this, 2^32, have a product that fits.
     const HALF: u64 = 4294967296;
     // The limits of checks 2 to 4.
@@ -57,10 +55,9 @@ impl Plan {
     pub fn lead(self, w: u64) -> u64
         ensures { result ≡ lead_word self w }
     {
-        if self.n == 0 {
-            return Plan::NO_LEADER;
-        }
-        self.turns_over(w) % self.n
+        self.turns_over(w)
+            .checked_rem(self.n)
+            .unwrap_or(Plan::NO_LEADER)
     }
 
     // Whether w is a multiple of the views per leader.
@@ -77,59 +74,43 @@ impl Plan {
         self.turn_start(w)
     }
 
-    // The clock time of view w. The division is left to numbers that no sound plan has.
+    // The clock time of view w; the largest number where it does not fit.
     pub fn clock_time(self, w: u64) -> u64
         ensures { result ≡ clock_time_word self w }
     {
-        if w < Plan::HALF {
-            if self.gamma < Plan::HALF {
-                return w * self.gamma;
-            }
+        if w < Plan::HALF && self.gamma < Plan::HALF {
+            w * self.gamma
+        } else {
+            w.saturating_mul(self.gamma)
         }
-        if self.gamma == 0 {
-            return 0;
-        }
-        if Plan::LARGEST / self.gamma < w {
-            return Plan::LARGEST;
-        }
-        w * self.gamma
     }
 
-    // The first initial view above w.
+    // The first initial view above w; the largest number where it does not fit.
     pub fn next_initial(self, w: u64) -> u64
         ensures { result ≡ next_initial_word self w }
     {
-        let start = self.turns_over(w) * self.k;
-        if Plan::LARGEST - self.k < start {
-            return Plan::LARGEST;
-        }
-        start + self.k
+        (self.turns_over(w) * self.k).saturating_add(self.k)
     }
 
     // Whether the next initial view above w and its clock time fit.
     fn is_small(self, w: u64) -> bool
         ensures { result ≡ true → Small self w }
     {
-        if base::quotients::NUMBERS <= w {
-            return false;
-        }
-        if self.k < Plan::PER_LEADER_LEAST {
-            return false;
-        }
-        if Plan::PER_LEADER_MOST < self.k {
-            return false;
-        }
-        self.gamma < Plan::HALF
+        w < base::quotients::NUMBERS
+            && (Plan::PER_LEADER_LEAST..=Plan::PER_LEADER_MOST).contains(&self.k)
+            && self.gamma < Plan::HALF
     }
 
-    // The clock time of the first initial view above w. The long way is left to numbers that no sound plan has.
+    // The clock time of the first initial view above w. A plan's numbers are told small once for all the views of a run, which is faster than sums and products that
+    // saturate at each view; these are left to numbers that no sound plan has.
     pub fn arrival(self, w: u64) -> u64
         ensures { result ≡ arrival_time self w }
     {
         if self.is_small(w) {
-            return (self.turns_over(w) * self.k + self.k) * self.gamma;
+            (self.turns_over(w) * self.k + self.k) * self.gamma
+        } else {
+            self.clock_time(self.next_initial(w))
         }
-        self.clock_time(self.next_initial(w))
     }
 
     // The clock time that no correct clock reaches.
@@ -150,23 +131,14 @@ impl Plan {
     pub fn tolerated(self) -> u64
         ensures { result ≡ tolerated self }
     {
-        if self.n == 0 {
-            return 0;
-        }
-        (self.n - 1) / 3
+        self.n.saturating_sub(1) / 3
     }
 
     // Whether q is one of the processors and not in the faulty set.
     pub fn correct(self, faulty: u64, q: u64) -> bool
         ensures { result ≡ correct self faulty q }
     {
-        if self.n <= q {
-            return false;
-        }
-        if base::member(faulty, q) {
-            return false;
-        }
-        true
+        q < self.n && !base::member(faulty, q)
     }
 }
 
@@ -180,9 +152,6 @@ pub enum Message {
 }
 
 impl Message {
-    // View messages and votes have the kinds up to this one.
-    const LAST_SIGNATURE_KIND: u64 = 2;
-
     // The number by which a message of this kind is stored.
     pub fn kind(self) -> u64
         ensures { result ≡ kind_of self }
@@ -200,10 +169,7 @@ impl Message {
         ensures { result ≡ view_in self }
     {
         match self {
-            Message::View(w, _) => w,
-            Message::Vote(w, _) => w,
-            Message::Vc(w, _) => w,
-            Message::Qc(w, _) => w,
+            Message::View(w, _) | Message::Vote(w, _) | Message::Vc(w, _) | Message::Qc(w, _) => w,
         }
     }
 
@@ -212,10 +178,7 @@ impl Message {
         ensures { result ≡ processor_in self }
     {
         match self {
-            Message::View(_, p) => p,
-            Message::Vote(_, p) => p,
-            Message::Vc(_, p) => p,
-            Message::Qc(_, p) => p,
+            Message::View(_, p) | Message::Vote(_, p) | Message::Vc(_, p) | Message::Qc(_, p) => p,
         }
     }
 
@@ -224,10 +187,8 @@ impl Message {
         ensures { result ≡ addressee_word plan self }
     {
         match self {
-            Message::View(w, _) => plan.lead(w),
-            Message::Vote(w, _) => plan.lead(w),
-            Message::Vc(_, p) => p,
-            Message::Qc(_, p) => p,
+            Message::View(w, _) | Message::Vote(w, _) => plan.lead(w),
+            Message::Vc(_, p) | Message::Qc(_, p) => p,
         }
     }
 
@@ -235,19 +196,14 @@ impl Message {
     pub fn stage(self) -> bool
         ensures { result ≡ stage_of self }
     {
-        match self {
-            Message::View(_, _) => false,
-            Message::Vote(_, _) => true,
-            Message::Vc(_, _) => false,
-            Message::Qc(_, _) => true,
-        }
+        matches!(self, Message::Vote(_, _) | Message::Qc(_, _))
     }
 
-    // Whether it is a view message or a vote.
+    // Whether it is a view message or a vote; `stage` names another two of the four kinds.
     pub fn is_signature(self) -> bool
         ensures { result ≡ is_signature self }
     {
-        self.kind() <= Message::LAST_SIGNATURE_KIND
+        matches!(self, Message::View(_, _) | Message::Vote(_, _))
     }
 }
 
@@ -292,10 +248,9 @@ impl Event {
         ensures { result ≡ lacks_form self }
     {
         match self {
-            Event::Deliver(_) => false,
+            Event::Deliver(_) | Event::Settle => false,
             Event::Sign(m) => !m.is_signature(),
             Event::Show(m) => m.is_signature(),
-            Event::Settle => false,
             Event::Tick(m) => m == 0,
         }
     }
@@ -310,7 +265,7 @@ pub struct Setup {
 }
 
 // So many messages of each kind.
-#[derive(Clone, Copy)]
+#[derive(Clone, Copy, Default)]
 pub struct Counts {
     pub views: u64,
     pub votes: u64,
@@ -319,21 +274,16 @@ pub struct Counts {
 }
 
 impl Counts {
-    // No message of any kind.
+    // No message of any kind: the Default, under the name that other crates call it by.
     pub fn none() -> Counts
         ensures { result ≡ no_counts }
     {
-        Counts {
-            views: 0,
-            votes: 0,
-            vcs: 0,
-            qcs: 0,
-        }
+        Counts::default()
     }
 }
 
 // What was sent and what was delivered since the opening, and the sum of the times that the delivered ones were in flight; all modulo 2^64.
-#[derive(Clone, Copy)]
+#[derive(Clone, Copy, Default)]
 pub struct Traffic {
     pub sent: Counts,
     pub delivered: Counts,
@@ -341,27 +291,22 @@ pub struct Traffic {
 }
 
 impl Traffic {
-    // Nothing was sent yet.
+    // Nothing was sent yet, likewise.
     pub fn none() -> Traffic
         ensures { result ≡ no_traffic }
     {
-        Traffic {
-            sent: Counts::none(),
-            delivered: Counts::none(),
-            waits: 0,
-        }
+        Traffic::default()
     }
 }
 
-// A run's traffic, and the messages in flight; or the check that refuses to tell it.
+// A run's traffic, and the messages in flight.
 #[derive(Clone, Copy)]
 pub struct Totals {
-    pub check: u64,
     pub traffic: Traffic,
     pub held: Counts,
 }
 
-// The execution so far, without the lent buffers.
+// The execution so far, without the lent buffers. `gst` is a number of its own beside `settled`: in a run handed in that has not settled check 9 judges it too.
 #[derive(Clone, Copy)]
 pub struct Run {
     pub plan: Plan,
@@ -376,7 +321,7 @@ pub struct Run {
 }
 
 // The execution so far but for its two tables, which are lent beside it: so nothing large is handed from function to function.
-// Whether the network has settled is a number, 1 or another: a flag among numbers is slow to copy.
+// Whether the network has settled is a number, 1 or another: a flag among numbers is slow to copy (docs/PERFORMANCE.md, "What copying costs").
 #[derive(Clone, Copy)]
 pub struct Head {
     pub plan: Plan,
@@ -388,30 +333,25 @@ pub struct Head {
     pub traffic: Traffic,
 }
 
-// The number that says whether the network has settled.
+// The number that says whether the network has settled. It has a name, as the definition has: `head_of` and the words for C are told by it.
 pub fn settled_as(settled: bool) -> u64
     ensures { result ≡ settled_as settled }
 {
-    if settled {
-        return 1;
-    }
-    0
+    u64::from(settled)
 }
 
-// The head of a run.
+// The head of a run: no `From`, since its counterpart `gather` takes the tables too.
 pub fn head_of(run: Run) -> Head
     ensures { result ≡ head_of run }
 {
-    let plan = run.plan;
-    let traffic = run.traffic;
     Head {
-        plan: plan,
+        plan: run.plan,
         faulty: run.faulty,
         time: run.time,
         settled: settled_as(run.settled),
         gst: run.gst,
         held: run.held,
-        traffic: traffic,
+        traffic: run.traffic,
     }
 }
 
@@ -419,20 +359,16 @@ pub fn head_of(run: Run) -> Head
 pub fn gather(head: Head, clocks: &[u64; 64], views: &[u64; 64]) -> Run
     ensures { result ≡ run_from head clocks.now views.now }
 {
-    let own_clocks = *clocks;
-    let own_views = *views;
-    let plan = head.plan;
-    let traffic = head.traffic;
     Run {
-        plan: plan,
+        plan: head.plan,
         faulty: head.faulty,
         time: head.time,
         settled: head.settled == 1,
         gst: head.gst,
         held: head.held,
-        clocks: own_clocks,
-        views: own_views,
-        traffic: traffic,
+        clocks: *clocks,
+        views: *views,
+        traffic: head.traffic,
     }
 }
 
@@ -481,11 +417,4 @@ pub enum Sends {
     Nothing,
     Vote(u64),
     ViewAndVote(u64),
-}
-
-// The answer of one processor.
-#[derive(Clone, Copy)]
-pub enum Stepped {
-    Sent(Sends),
-    Refused(u64),
 }

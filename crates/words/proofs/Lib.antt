@@ -1,4 +1,3 @@
 -- Why the functions meet their contracts, and laws for those who apply the words.
-pub mod Placing
 pub mod Turning
 pub mod Single

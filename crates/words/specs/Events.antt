@@ -1,14 +1,12 @@
 -- An event as four words: form (1 deliver, 2 sign, 3 show, 4 settle, 5 tick), kind, view (of a tick: how many), processor; and its answer as
 -- four: form, check, ticks done, messages held.
-use Rattle.std.specs.Prelude.{cond, List, [], ◌∷◌, ◌++◌, ℕ, ◌+◌, ◌*◌, ◌/◌, eqb, ltb, length, get_or, take, drop}
+use Rattle.std.specs.Prelude.{cond, List, [], ◌∷◌, ◌++◌, ℕ, ◌+◌, ◌*◌, ◌/◌, eqb, ltb, length, get_or, take, drop, None, Option, Some}
 use Rattle.types.specs.declared.Message.{Message}
 use Rattle.types.specs.declared.Event.{Event}
 use Rattle.types.specs.declared.Event.TheVariants.{Deliver, Sign, Show, Settle, Tick}
 use Rattle.types.specs.declared.Answer.{Answer}
 use Rattle.types.specs.Messages.{kind_of, view_in, processor_in}
 use Rattle.model.specs.State.{check_of, ticks_of}
-use Rattle.buffers.specs.declared.Stored.{Stored}
-use Rattle.buffers.specs.declared.Stored.TheVariants.{Holds, Unknown}
 use Rattle.buffers.specs.Kinds.{stored_as}
 use Rattle.words.specs.declared.Numbers.{Numbers}
 
@@ -26,9 +24,9 @@ abbrev pub carried : ℕ → Message → Event
 carried form m = cond (eqb form 1) (Deliver m) (cond (eqb form 2) (Sign m) (cond (eqb form 3) (Show m) no_event))
 
 -- a kind outside 1 to 4 is of no message
-abbrev pub carried_as : ℕ → Stored → Event
-carried_as form (Holds m) = carried form m
-carried_as form Unknown = no_event
+abbrev pub carried_as : ℕ → Option Message → Event
+carried_as form (Some m) = carried form m
+carried_as form None = no_event
 
 -- of settle the other three are not read, of tick kind and processor are not
 unfoldable pub event_of : ℕ → ℕ → ℕ → ℕ → Event

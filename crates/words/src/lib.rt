@@ -1,4 +1,4 @@
-// Events and their answers in words, four each: how a list of events is lent, and what is left in its place.
+// Events and their answers in words, four each: how a list of events is lent, by C too, and what is left in its place. So a form and a kind are numbers here.
 #![tactic(auto)]
 
 ghost use Rattle.std.specs.Prelude.{◌≡◌};
@@ -6,7 +6,6 @@ ghost use Rattle.model.specs.State.{check_of, ticks_of};
 ghost use Rattle.buffers.specs.Kinds.{stored_as};
 ghost use Rattle.words.specs.Events.{carried, carried_as, event_of, event_at, four_numbers, message_numbers, event_numbers, numbers_put, answer_put};
 
-use buffers::Stored;
 use types::{Answer, Event, Message};
 
 // The words of an event, or of its answer.
@@ -21,7 +20,7 @@ pub struct Numbers {
     pub processor: u64,
 }
 
-// The event of a form that carries a message; 0 ticks for any other form.
+// The event of a form that carries a message; 0 ticks, which check 1 refuses, for any other form.
 fn carry(form: u64, message: Message) -> Event
     ensures { result ≡ carried form message }
 {
@@ -37,13 +36,14 @@ fn carry(form: u64, message: Message) -> Event
 fn carry_numbers(form: u64, kind: u64, view: u64, processor: u64) -> Event
     ensures { result ≡ carried_as form (stored_as kind view processor) }
 {
-    let Stored::Holds(message) = buffers::stored_as(kind, view, processor) else {
-        return Event::Tick(0);
-    };
-    carry(form, message)
+    match buffers::stored_as(kind, view, processor) {
+        Some(message) => carry(form, message),
+        None => Event::Tick(0),
+    }
 }
 
-// The event that four numbers are; 0 ticks where they are none.
+// The event that four numbers are; 0 ticks where they are none: each event of a batch is answered, and check 1 refuses 0 ticks.
+#[tactic(auto, unfolding(crate::specs::Events::event_of))]
 pub fn event_of(form: u64, kind: u64, view: u64, processor: u64) -> Event
     ensures { result ≡ event_of form kind view processor }
 {
@@ -58,11 +58,12 @@ pub fn event_of(form: u64, kind: u64, view: u64, processor: u64) -> Event
 pub fn event_at(words: &[u64], i: usize) -> Event
     ensures { result ≡ event_at words.now i }
 {
-    if words.len() / EVENT_WORDS <= i {
-        return Event::Tick(0);
+    if i < words.len() / EVENT_WORDS {
+        let at = EVENT_WORDS * i;
+        event_of(words[at], words[at + 1], words[at + 2], words[at + 3])
+    } else {
+        Event::Tick(0)
     }
-    let at = EVENT_WORDS * i;
-    event_of(words[at], words[at + 1], words[at + 2], words[at + 3])
 }
 
 // The numbers of a form that carries a message.
@@ -70,7 +71,7 @@ fn carried_numbers(form: u64, message: Message) -> Numbers
     ensures { result ≡ message_numbers form message }
 {
     Numbers {
-        form: form,
+        form,
         kind: message.kind(),
         view: message.view(),
         processor: message.processor(),
@@ -82,7 +83,7 @@ pub fn bare(form: u64, ticks: u64) -> Numbers
     ensures { result ≡ four_numbers form 0 ticks 0 }
 {
     Numbers {
-        form: form,
+        form,
         kind: 0,
         view: ticks,
         processor: 0,
@@ -103,18 +104,19 @@ pub fn numbers_of(event: Event) -> Numbers
 }
 
 // The numbers stand as event i of the words, where there are so many.
+#[tactic(auto, unfolding(crate::specs::Events::four_put))]
 pub fn put_numbers(words: &mut [u64], i: usize, numbers: Numbers)
     ensures { words.new ≡ numbers_put words.old i numbers }
 {
-    let room = words.len() / EVENT_WORDS;
-    if room <= i {
-        return;
+    if i < words.len() / EVENT_WORDS {
+        let at = EVENT_WORDS * i;
+        words[at..at + EVENT_WORDS].copy_from_slice(&[
+            numbers.form,
+            numbers.kind,
+            numbers.view,
+            numbers.processor,
+        ]);
     }
-    let at = EVENT_WORDS * i;
-    words[at] = numbers.form;
-    words[at + 1] = numbers.kind;
-    words[at + 2] = numbers.view;
-    words[at + 3] = numbers.processor;
 }
 
 // The check of an answer, or 0.
@@ -123,8 +125,7 @@ fn check_of(answer: Answer) -> u64
 {
     match answer {
         Answer::Done(_, _) => 0,
-        Answer::Stopped(_, _, check) => check,
-        Answer::Refused(check) => check,
+        Answer::Stopped(_, _, check) | Answer::Refused(check) => check,
     }
 }
 
@@ -133,26 +134,23 @@ fn ticks_of(answer: Answer) -> u64
     ensures { result ≡ ticks_of answer }
 {
     match answer {
-        Answer::Done(ticks, _) => ticks,
-        Answer::Stopped(ticks, _, _) => ticks,
+        Answer::Done(ticks, _) | Answer::Stopped(ticks, _, _) => ticks,
         Answer::Refused(_) => 0,
     }
 }
 
 // Event i becomes its answer, where there are so many: its form stays, then the check, the ticks done and the messages held.
+#[tactic(auto, unfolding(crate::specs::Events::four_put))]
 pub fn put_answer(words: &mut [u64], i: usize, answer: Answer, held: usize)
     ensures { words.new ≡ answer_put words.old i answer held }
 {
-    let room = words.len() / EVENT_WORDS;
-    if room <= i {
-        return;
+    if i < words.len() / EVENT_WORDS {
+        let answered = Numbers {
+            form: words[EVENT_WORDS * i],
+            kind: check_of(answer),
+            view: ticks_of(answer),
+            processor: held as u64,
+        };
+        put_numbers(words, i, answered);
     }
-    let form = words[EVENT_WORDS * i];
-    let answered = Numbers {
-        form: form,
-        kind: check_of(answer),
-        view: ticks_of(answer),
-        processor: held as u64,
-    };
-    put_numbers(words, i, answered);
 }

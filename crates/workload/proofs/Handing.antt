@@ -15,14 +15,14 @@ use Rattle.workload.proofs.Following.{load-accepted, load-leads}
 pub generated-accepted : GeneratedAccepted
 generated-accepted u before steps settle seed out tally network r after g table below x long =
     let l : Load = whole_load u before steps settle seed (length out) in
-    let k : length (schedule_of l.forms) ≡ r.bytes = sym g.0.put.bytes in
+    let k : length (schedule_of l.forms) ≡ r.bytes = sym g.1.put.bytes in
     let e : schedule_of l.forms ≡ take r.bytes after =
-    sym (ap (take r.bytes) g.0.put.text ∙ take_at (schedule_of l.forms) (drop r.bytes out) r.bytes k) in
+    sym (ap (take r.bytes) g.1.put.text ∙ take_at (schedule_of l.forms) (drop r.bytes out) r.bytes k) in
     record {
       accepts = subst (λ (w : List ℕ). AllAccepted x (input_lines w)) e (load-accepted u before steps settle seed (length out) table below x long);
       leads = λ some'.
           subst (λ (w : List ℕ). StandsAt (point_of (state_of r.run tally network) r.seed r.step) (standing_after x (input_lines w))) e
-          (subst (λ (p : Point). StandsAt p (standing_after x (input_lines (schedule_of l.forms)))) (sym g.0.point)
+          (subst (λ (p : Point). StandsAt p (standing_after x (input_lines (schedule_of l.forms)))) (sym g.1.point)
           (load-leads u before steps settle seed (length out) table below x long
           (λ z. let h : length (schedule_of l.forms) ≡ 0 = ap (λ (fs : List (List ℕ)). length (schedule_of fs)) z in omega (arith, ap length e))));
     }

@@ -1,38 +1,36 @@
 -- A load made: the opening judged, its line written, the run opened, and the steps behind it. Assumes nothing.
+use Rattle.std.specs.Prelude.{Err, Ok, Result}
 use mathlib.Core.Path.{◌≡◌, refl, sym, ap, ◌∙◌, subst}
 use mathlib.Core.Bool.{Bool, true, false, cond}
 use mathlib.Core.Logic.{◌≢◌, ⊎_elim}
-use mathlib.Core.List.{List, ◌++◌}
+use mathlib.Core.List.{List, [], ◌∷◌, ◌++◌}
 use Prim.Native.Nat.{ℕ, ◌+◌, ◌-◌, ◌≤◌, ◌<◌}
 use native.Mathlib.Omega.{arith}
 use native.Mathlib.Nat.{add_comm}
-use lib.Dec.{T, eqb}
+use lib.Dec.{T}
 use lib.ListN.{length}
 use borrow.Rule.Slice.PartMut.{mid_of, put_mid}
-use borrow.Author.Tests.{eq-eqb, ne_eqb, le-ltb}
-use Rattle.base.specs.Tests.{le?}
+use borrow.Author.Tests.{ne_eqb, le-ltb}
+use Rattle.base.specs.Tests.{le?, by_cond}
 use Rattle.types.specs.declared.Run.{Run}
 use Rattle.types.specs.declared.Setup.{Setup}
 use Rattle.types.specs.Quantities.{n_most}
 use Rattle.model.specs.State.{State, After, state_of, check_of, accepted, refused, done}
-use Rattle.model.specs.Checks.{unsound_for_good}
-use Rattle.model.specs.Opening.{opened, opening}
+use Rattle.model.specs.Checks.{Check, judged, refusal, unsound_for_good}
+use Rattle.model.specs.Opening.{opened, opening, setup_checks}
 use Rattle.liveness.proofs.Link.{Planned}
 use Rattle.liveness.proofs.Opens.{planned}
 use Rattle.liveness.proofs.Answers.{no-yes}
 use Rattle.liveness.proofs.Promises.{opened-so, opening-reaches}
-use Rattle.lines.specs.declared.Written.{Written}
-use Rattle.lines.specs.declared.Written.TheVariants.{Bytes, Refused}
 use Rattle.lines.specs.Forms.{setup_form, lacks_setup_form}
 use Rattle.lines.specs.Clauses.{line, Writes, Put}
 use Rattle.lines.specs.Promises.{schedule_of}
 use Rattle.lines.proofs.Putting.{put-none, put-inside, put-part, left_over, put_written, never-refused, few-written}
-use Rattle.checks.specs.Setups.{opening_check}
-use Rattle.checks.proofs.Opens.{setup-check}
+use Rattle.checks.specs.Setups.{setup_check, opening_check}
+use Rattle.checks.proofs.Opens.{by_result, setup-check}
 use Rattle.loads.specs.Loads.{Point, point_of, Load, halted, line_then, line_bytes, load_from, further_load, whole_load}
 use Rattle.loads.specs.Clauses.{PutLoad}
 use Rattle.loads.proofs.Turns.{further-sound, by_whole}
-use Rattle.workload.proofs.Endings.{load-refused}
 use Rattle.workload.proofs.Lasting.{reachable-good}
 
 -- a setup that opens has a line
@@ -43,21 +41,35 @@ setup-formed u before t =
     rw (ne_eqb u.plan.n 0 n) (le-ltb n_most u.plan.n p.n_at_most)
 
 -- a load of no line
-none-put : (l : Load) (out : List ℕ) (x : Point) (full : Bool) → l ≡ halted x full → PutLoad l out x full 0 out
-none-put l out x full e = subst (λ (m : Load). PutLoad m out x full 0 out) (sym e) (record { point = refl; full = refl; put = put-none out })
+none-put : (out : List ℕ) (x : Point) (full : Bool) → PutLoad (halted x full) out x full 0 out
+none-put out x full = record { point = refl; full = refl; put = put-none out }
 
--- ---- by the number of the first check of the opening
+-- ---- by the first check of the opening that refuses
 
-module _ (u : Setup) (s : State) (check : ℕ) (is : check ≡ opening_check u s) where
-  by-check : opening u s ≡ cond (eqb check 0) (done (opened u s)) (refused s check)
-  unfolding opening
-  by-check = setup-check u s (done (opened u s)) ∙ ap (λ (r : ℕ). cond (eqb r 0) (done (opened u s)) (refused s r)) (sym is)
+pub check-refused : (u : Setup) (s : State) (check : ℕ) → opening_check u s ≡ Err check → opening u s ≡ refused s check
+unfolding opening
+check-refused u s check e = setup-check u s (done (opened u s)) ∙ ap (by_result (refused s) (done (opened u s))) e
 
-  pub check-refused : 0 < check → opening u s ≡ refused s check
-  check-refused l = by-check ∙ ap (λ (b : Bool). cond b (done (opened u s)) (refused s check)) (ne_eqb check 0 (λ e. omega arith))
+pub check-opens : (u : Setup) (s : State) → opening_check u s ≡ Ok tt → opening u s ≡ done (opened u s)
+unfolding opening
+check-opens u s e = setup-check u s (done (opened u s)) ∙ ap (by_result (refused s) (done (opened u s))) e
 
-  pub check-opens : check ≤ 0 → opening u s ≡ done (opened u s)
-  check-opens l = by-check ∙ ap (λ (b : Bool). cond b (done (opened u s)) (refused s check)) (eq-eqb check 0 (omega arith))
+-- no check's number is 0
+abbrev Positive : List Check → Type 0
+Positive [] = Unit {0}
+Positive (c ∷ cs) = (0 < c.0) × Positive cs
+
+positive : (cs : List Check) → Positive cs → (k : ℕ) → judged {A = Result (Unit {0}) ℕ} (λ r. Err r) cs (Ok tt) ≡ Err k → 0 < k
+positive [] h k e = let q : ◌≡◌ {A = Result (Unit {0}) ℕ} (Ok tt) (Err k) = e in let z : ◌≡◌ {A = ℕ} 0 1 = cc in omega arith
+positive (c ∷ cs) h k e =
+    by_cond (λ (r : Result (Unit {0}) ℕ). r ≡ Err k → 0 < k) c.1 (Err c.0) (judged (λ r. Err r) cs (Ok tt))
+    (λ t q. omega (arith, h.0, ap refusal q)) (λ t q. positive cs h.1 k q) e
+
+pub check-positive : (u : Setup) (s : State) (k : ℕ) → opening_check u s ≡ Err k → 0 < k
+unfolding setup_check
+check-positive u s k e =
+    positive (setup_checks s.form u (length s.tally) (length s.network))
+    (omega arith, (omega arith, (omega arith, (omega arith, (omega arith, (omega arith, (omega arith, tt))))))) k e
 
 -- ---- the three ways that it goes
 
@@ -65,33 +77,28 @@ module _ (u : Setup) (s : State) (steps settle seed : ℕ) (out : List ℕ) wher
   abbrev load : Load
   load = whole_load u s steps settle seed (length out)
 
-  pub made-refused : (check : ℕ) → opening u s ≡ refused s check → PutLoad load out (point_of s seed 0) false 0 out × (check ≡ check_of (opening u s).answer)
-  made-refused check e =
-      let n : accepted (opening u s).answer ≡ false = ap (λ (a : After). accepted a.answer) e in
-      (none-put load out (point_of s seed 0) false (load-refused u s steps settle seed (length out) n), sym (ap (λ (a : After). check_of a.answer) e))
-
   module _ (e : opening u s ≡ done (opened u s)) where
     opens : accepted (opening u s).answer ≡ true
     opens = ap (λ (a : After). accepted a.answer) e
 
-    zero-check : ◌≡◌ {A = ℕ} 0 (check_of (opening u s).answer)
-    zero-check = sym (ap (λ (a : After). check_of a.answer) e)
+    pub zero-check : check_of (opening u s).answer ≡ 0
+    zero-check = ap (λ (a : After). check_of a.answer) e
 
-    module _ (r : Written) (after : List ℕ) (w : Writes (lacks_setup_form u) (setup_form u) out r after) where
+    module _ (r : Result ℕ ℕ) (after : List ℕ) (w : Writes (lacks_setup_form u) (setup_form u) out r after) where
       has-line : Writes false (setup_form u) out r after
       has-line = subst (λ (t : Bool). Writes t (setup_form u) out r after) (setup-formed u s (rw opens tt)) w
 
-      pub made-short : (k : ℕ) → r ≡ Refused k → PutLoad load out (point_of s seed 0) true 0 after × (◌≡◌ {A = ℕ} 0 (check_of (opening u s).answer))
+      pub made-short : (k : ℕ) → r ≡ Err k → (check_of (opening u s).answer ≡ 0) × PutLoad load out (point_of s seed 0) true 0 after
       made-short k q = (
+        zero-check,
         by_whole (λ (l : Load). PutLoad l out (point_of s seed 0) true 0 after) u s steps settle seed (length out)
             (λ n. no-yes (sym opens ∙ n))
-            (λ y h. subst (λ (f : List ℕ). PutLoad (halted (point_of s seed 0) true) out (point_of s seed 0) true 0 f) (sym (few-written _ _ _ _ has-line h).1) (none-put _ out _ true refl))
+            (λ y h. subst (λ (f : List ℕ). PutLoad (halted (point_of s seed 0) true) out (point_of s seed 0) true 0 f) (sym (few-written _ _ _ _ has-line h).1) (none-put out _ true))
             (λ y h. absurd (never-refused _ _ _ _ _ has-line h q)),
-        zero-check,
       )
 
       -- the line stands there, and the steps behind it
-      module _ (k : ℕ) (q : r ≡ Bytes k) (same : length after ≡ length out) (h : After) (left : h ≡ opening u s) where
+      module _ (k : ℕ) (q : r ≡ Ok k) (same : length after ≡ length out) (h : After) (left : h ≡ opening u s) where
         abbrev rest : List ℕ
         rest = mid_of k (length after - k) after
 
@@ -102,7 +109,7 @@ module _ (u : Setup) (s : State) (steps settle seed : ℕ) (out : List ℕ) wher
         good = subst (λ (a : After). unsound_for_good a.state ≡ false) (sym left) (reachable-good (opening u s).state (opening-reaches u s (rw opens tt)))
 
         not_short : length out < line_bytes (setup_form u) → ⊥
-        not_short l = let w' : Refused 1 ≡ Bytes k = sym (few-written (setup_form u) out after r has-line l).0 ∙ q in let z : ◌≡◌ {A = ℕ} 0 1 = cc in omega arith
+        not_short l = let w' : ◌≡◌ {A = Result ℕ ℕ} (Err 1) (Ok k) = sym (few-written (setup_form u) out after r has-line l).0 ∙ q in let z : ◌≡◌ {A = ℕ} 0 1 = cc in omega arith
 
         fits : line_bytes (setup_form u) ≤ length out
         fits = ⊎_elim (λ (l : line_bytes (setup_form u) ≤ length out). l) (λ (l : length out < line_bytes (setup_form u)). absurd (not_short l)) (le? (line_bytes (setup_form u)) (length out))
@@ -138,13 +145,15 @@ module _ (u : Setup) (s : State) (steps settle seed : ℕ) (out : List ℕ) wher
                     (put-part line-put line-inside p.put);
               })
 
-        pub made-check : (c : ℕ) → c ≡ cond (unsound_for_good h.state) 9 0 → c ≡ check_of (opening u s).answer
-        made-check c e = e ∙ ap (λ (b : Bool). cond b 9 0) good ∙ zero-check
+        -- the run that was opened is one that a load goes on from
+        pub not-refused : (c : ℕ) → c ≡ cond (unsound_for_good h.state) 9 0 → 0 < c → ⊥
+        not-refused c e l = let z : c ≡ 0 = e ∙ ap (λ (b : Bool). cond b 9 0) good in omega arith
 
--- a load goes on alike on the same run
-pub further-run : (t ws : List ℕ) (steps settle seed step : ℕ) {r r' : Run} → r ≡ r' → {out after : List ℕ} {k check : ℕ} {y : Point} {full : Bool}
-    → PutLoad (further_load steps settle (point_of (state_of r t ws) seed step) (length out)) out y full k after × (check ≡ cond (unsound_for_good (state_of r t ws)) 9 0)
-    → PutLoad (further_load steps settle (point_of (state_of r' t ws) seed step) (length out)) out y full k after × (check ≡ cond (unsound_for_good (state_of r' t ws)) 9 0)
-further-run t ws steps settle seed step e {out} {after} {k} {check} {y} {full} =
-    subst (λ (r : Run). PutLoad (further_load steps settle (point_of (state_of r t ws) seed step) (length out)) out y full k after
-    × (check ≡ cond (unsound_for_good (state_of r t ws)) 9 0)) e
+-- a load goes on alike on the same run, which is sound but for its time
+pub further-run : (t ws : List ℕ) (steps settle seed step : ℕ) {r r' : Run} → r ≡ r' → {out after : List ℕ} {k : ℕ} {y : Point} {full : Bool}
+    → (unsound_for_good (state_of r t ws) ≡ false) × PutLoad (further_load steps settle (point_of (state_of r t ws) seed step) (length out)) out y full k after
+    → ◌≡◌ {A = ℕ} (cond (unsound_for_good (state_of r' t ws)) 9 0) 0 × PutLoad (further_load steps settle (point_of (state_of r' t ws) seed step) (length out)) out y full k after
+further-run t ws steps settle seed step e {out} {after} {k} {y} {full} h =
+    subst (λ (v : Run). ◌≡◌ {A = ℕ} (cond (unsound_for_good (state_of v t ws)) 9 0) 0
+    × PutLoad (further_load steps settle (point_of (state_of v t ws) seed step) (length out)) out y full k after) e
+    (ap (λ (b : Bool). cond b 9 0) h.0, h.1)

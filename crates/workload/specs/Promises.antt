@@ -1,7 +1,7 @@
 -- What is promised of loads, of their definitions alone: a reader accepts every line, and stands in the end where the load does; how they end; and
 -- that pieces of a load are the load. proofs/Promises.antt has a proof of each, under its name in small letters with hyphens.
 pub use Rattle.printout.specs.Printout.{standing_after}
-use Rattle.std.specs.Prelude.{◌≡◌, true, false, ◌⊎◌, ◌≢◌, List, [], ◌∷◌, ℕ, ◌+◌, ◌-◌, ◌≤◌, ◌<◌, eqb, length, take}
+use Rattle.std.specs.Prelude.{◌≡◌, true, false, Ok, ◌⊎◌, ◌≢◌, List, [], ◌∷◌, ℕ, ◌+◌, ◌-◌, ◌≤◌, ◌<◌, eqb, length, take}
 use Rattle.types.specs.declared.Event.TheVariants.{Tick}
 use Rattle.types.specs.declared.Setup.{Setup}
 use Rattle.types.specs.Quantities.{table_clocks}
@@ -56,7 +56,7 @@ pub record Replayed (r : Generated) (tally network bytes : List ℕ) (x : Standi
 abbrev pub GeneratedAccepted : Type 0
 GeneratedAccepted =
     (u : Setup) (before : State) (steps settle seed : ℕ) (out tally network : List ℕ) (r : Generated) (after : List ℕ)
-    → Generates (check_of (opening u before).answer) (whole_load u before steps settle seed (length out)) out tally network r after
+    → Generates (check_of (opening u before).answer) (whole_load u before steps settle seed (length out)) before out tally network (Ok r) after
     → length u.clocks ≡ table_clocks → Below (setup_fields u)
     → (x : Standing) → AsLong before x.state
     → Replayed r tally network (take r.bytes after) x

@@ -6,13 +6,12 @@ ghost use Rattle.model.specs.State.{state_of, check_of};
 ghost use Rattle.model.specs.Checks.{unsound_for_good};
 ghost use Rattle.model.specs.Opening.{opening};
 ghost use Rattle.loads.specs.Loads.{point_of, further_load, whole_load};
-ghost use Rattle.workload.specs.Clauses.{Generates, start_with};
+ghost use Rattle.workload.specs.Clauses.{Generates};
 
-use lines::Written;
 use types::{Run, Setup};
 
 // What a load, or a piece of it, leaves: the run; where it stands, by its seed and its next step; the bytes written, and whether more of them are
-// needed; and the check that refused it, or 0.
+// needed.
 #[derive(Clone, Copy)]
 pub struct Generated {
     pub run: Run,
@@ -20,10 +19,9 @@ pub struct Generated {
     pub step: u64,
     pub bytes: usize,
     pub full: bool,
-    pub check: u64,
 }
 
-// A load goes on, from the step named and up to `steps` steps, on any run.
+// A load goes on, from the step named and up to `steps` steps, on any run; check 9 refuses it where nothing is chosen on the run.
 pub fn generate_more(
     run: Run,
     seed: u64,
@@ -33,9 +31,9 @@ pub fn generate_more(
     tally: &mut [u64],
     network: &mut [u64],
     out: &mut [u8],
-) -> Generated
+) -> Result<Generated, u64>
     ensures { Generates (cond (unsound_for_good (state_of run tally.old network.old)) 9 0)
-        (further_load steps settle (point_of (state_of run tally.old network.old) seed step) (length out.old)) out.old
+        (further_load steps settle (point_of (state_of run tally.old network.old) seed step) (length out.old)) (state_of run tally.old network.old) out.old
         tally.new network.new result out.new }
 {
     let mut clocks = run.clocks;
@@ -51,33 +49,18 @@ pub fn generate_more(
         tally,
         network,
         out,
-    );
+    )?;
     let head = piece.head;
-    Generated {
+    Ok(Generated {
         run: types::gather(head, &clocks, &views),
         seed: piece.seed,
         step: piece.step,
         bytes: piece.bytes,
         full: piece.full,
-        check: piece.check,
-    }
+    })
 }
 
-// Where a load is that has no line.
-fn at_start(run: Run, seed: u64, full: bool, check: u64) -> Generated
-    ensures { result ≡ start_with run seed full check }
-{
-    Generated {
-        run: run,
-        seed: seed,
-        step: 0,
-        bytes: 0,
-        full: full,
-        check: check,
-    }
-}
-
-// A load from its opening on, whatever run is at hand.
+// A load from its opening on, whatever run is at hand; or the check that refuses the opening.
 pub fn generate(
     run: Run,
     setup: Setup,
@@ -87,17 +70,20 @@ pub fn generate(
     tally: &mut [u64],
     network: &mut [u64],
     out: &mut [u8],
-) -> Generated
+) -> Result<Generated, u64>
     ensures { Generates (check_of (opening setup (state_of run tally.old network.old)).answer)
-        (whole_load setup (state_of run tally.old network.old) steps settle seed (length out.old)) out.old
+        (whole_load setup (state_of run tally.old network.old) steps settle seed (length out.old)) (state_of run tally.old network.old) out.old
         tally.new network.new result out.new }
 {
-    let check = checks::setup_check(setup, tally.len(), network.len());
-    if 0 < check {
-        return at_start(run, seed, false, check);
-    }
-    let Written::Bytes(first) = writer::write_setup(setup, out) else {
-        return at_start(run, seed, true, 0);
+    checks::setup_check(setup, tally.len(), network.len())?;
+    let Ok(first) = writer::write_setup(setup, out) else {
+        return Ok(Generated {
+            run,
+            seed,
+            step: 0,
+            bytes: 0,
+            full: true,
+        });
     };
     let opened = simulator::open(run, setup, tally, network);
     let mut load = generate_more(
@@ -109,7 +95,7 @@ pub fn generate(
         tally,
         network,
         &mut out[first..],
-    );
+    )?;
     load.bytes += first;
-    load
+    Ok(load)
 }

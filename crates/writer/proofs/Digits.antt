@@ -1,10 +1,10 @@
 -- The digits of a number, counted and written from the last to the first. Assumes nothing.
-use Rattle.std.proofs.Common.{◌≡◌, ℕ, zero, suc, ◌+◌, ◌-◌, ◌/◌, ◌%◌, ◌^◌, ◌<◌, ◌≤◌, ltb, List, [], ◌∷◌, ◌++◌, length, get_or, take, drop, set, sym, refl, ap, ◌∙◌, subst, add-zero, zero-lt-suc, div-lt_iff_lt-mul, pow-suc, arith, ltb→lt, length-append, length-drop, length-set, drop-cons, get_or-take, take-take, take_at}
+use Rattle.std.proofs.Common.{◌≡◌, ℕ, zero, suc, ◌+◌, ◌-◌, ◌/◌, ◌%◌, ◌^◌, ◌<◌, ◌≤◌, ltb, List, [], ◌∷◌, ◌++◌, length, get_or, take, drop, set, sym, refl, ap, ◌∙◌, subst, zero-lt-suc, div-lt_iff_lt-mul, pow-suc, arith, ltb→lt, length-append, length-drop, length-set, drop-cons, get_or-take, take-take, take_at}
 use lib.Seq.{take-length, drop-length, get_or_at}
 use Rattle.base.specs.Tests.{by_cond}
 use Rattle.lines.specs.Decimal.{digit, digits_in, decimal, field_limit}
 use Rattle.lines.proofs.Decimals.{length-small, length-large, length_most}
-use Rattle.writer.specs.Stamps.{stamp, Room, Stamped}
+use Rattle.writer.specs.Stamps.{stamp, Room}
 use Rattle.writer.proofs.Stamping.{stamp-none, stamp-before}
 
 -- ---- counting
@@ -12,9 +12,6 @@ use Rattle.writer.proofs.Stamping.{stamp-none, stamp-before}
 -- of n's digits so many are counted and those of v left, of which the first is counted too
 abbrev pub Counted : ℕ → ℕ → ℕ → Type 0
 Counted n digits v = (digits + length (decimal v) ≡ 1 + length (decimal n)) × (v < field_limit)
-
-pub counted_none : (n : ℕ) → n < field_limit → Counted n 1 n
-counted_none n h = (refl, h)
 
 pub counted-more : (n digits v : ℕ) → Counted n digits v → 10 ≤ v → Counted n (digits + 1) (v / 10)
 counted-more n digits v x l = (omega (arith, x.0, length-large v x.1 l), omega (arith, x.1))
@@ -89,13 +86,11 @@ digited-next d at n e k v r x =
       length-set e (at + k) (digit (v % 10)) ∙ x.3,
     )
 
-pub digited-more : (d : List ℕ) (at n : ℕ) (e : List ℕ) (left v : ℕ) → Room d at (decimal n) → Digited d at n e left v → 0 < left
-    → Digited d at n (set e (at + (left - 1)) (digit (v % 10))) (left - 1) (v / 10)
-digited-more d at n e left v r x h =
-    let k : left ≡ suc (left - 1) = omega arith in digited-next d at n e (left - 1) v r (subst (λ (i : ℕ). Digited d at n e i v) k x)
-
-pub digited-all : (d : List ℕ) (at n : ℕ) (e : List ℕ) (digits left v : ℕ) → Digited d at n e left v → left ≤ 0 → digits ≡ length (decimal n)
-    → Stamped d at (decimal n) (at + digits) e
-digited-all d at n e digits left v x h q =
-    let z : left ≡ 0 = omega arith in
-    record { behind = ap (λ (k : ℕ). at + k) q; bytes = x.2 ∙ ap (λ (k : ℕ). stamp d (at + k) (drop k (decimal n))) z ∙ ap (λ (k : ℕ). stamp d k (decimal n)) (add-zero at) }
+-- the next digit stands before place i
+pub digited-more : (d : List ℕ) (at n : ℕ) (e : List ℕ) (i v : ℕ) → Room d at (decimal n) → Digited d at n e (i - at) v → at < i
+    → Digited d at n (set e (i - 1) (digit (v % 10))) (i - 1 - at) (v / 10)
+digited-more d at n e i v r x h =
+    let left : i - at ≡ suc (i - 1 - at) = omega arith in
+    let place : at + (i - 1 - at) ≡ i - 1 = omega arith in
+    subst (λ (j : ℕ). Digited d at n (set e j (digit (v % 10))) (i - 1 - at) (v / 10)) place
+    (digited-next d at n e (i - 1 - at) v r (subst (λ (j : ℕ). Digited d at n e j v) left x))

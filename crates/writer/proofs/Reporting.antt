@@ -1,10 +1,8 @@
 -- The lines of a report, written one behind the other. Assumes nothing.
-use Rattle.std.proofs.Common.{◌≡◌, ℕ, ◌+◌, ◌-◌, ◌*◌, ◌≤◌, false, ◌≢◌, List, [], ◌∷◌, ◌++◌, length, take, drop, sym, refl, ap, ◌∙◌, subst, append_assoc, arith, length-append, drop-drop, le-ltb, eq-eqb, ne_eqb}
+use Rattle.std.proofs.Common.{◌≡◌, ℕ, ◌+◌, ◌-◌, ◌*◌, ◌≤◌, false, List, [], ◌∷◌, ◌++◌, length, take, drop, sym, refl, ap, ◌∙◌, subst, append_assoc, arith, length-append, drop-drop, le-ltb, Err, Ok, Result}
 use borrow.Rule.Slice.PartMut.{mid_of, put_mid}
 use Rattle.types.specs.declared.Answer.TheVariants as Answer
 use Rattle.types.specs.declared.Totals.{Totals}
-use Rattle.lines.specs.declared.Written.{Written}
-use Rattle.lines.specs.declared.Written.TheVariants.{Bytes, Refused}
 use Rattle.lines.specs.Decimal.{decimal}
 use Rattle.lines.specs.Forms.{newline, joined, spaced, numbers_form}
 use Rattle.lines.specs.Printout.{answer_form, traffic_text, totals_text, report_word_most, report_numbers_most, report_most}
@@ -28,16 +26,16 @@ line-most w l hw hl =
 
 -- ---- a line behind others
 
-module _ (w l d f : List ℕ) (at : ℕ) (r : Written) (room : at + report_most ≤ length d) (few : length w ≤ report_word_most) (most : length l ≤ report_numbers_most)
+module _ (w l d f : List ℕ) (at : ℕ) (r : Result ℕ ℕ) (room : at + report_most ≤ length d) (few : length w ≤ report_word_most) (most : length l ≤ report_numbers_most)
     (x : Writes false (numbers_form w l) (mid_of at (length d - at) d) r f) where
   fits : length (line (numbers_form w l)) ≤ length (mid_of at (length d - at) d)
   fits = omega (arith, line-most w l few most, left_over at d)
 
-  pub line-written : (k : ℕ) → r ≡ Bytes k → Put (line (numbers_form w l)) (drop at d) k f
+  pub line-written : (k : ℕ) → r ≡ Ok k → Put (line (numbers_form w l)) (drop at d) k f
   line-written k e = subst (λ (z : List ℕ). Put (line (numbers_form w l)) z k f) (rest-lent at d) (put_written (numbers_form w l) _ f r k x fits e)
 
   -- it is written there
-  pub line-stamped : (k : ℕ) → r ≡ Bytes k → Stamped d at (line (numbers_form w l)) (at + k) (put_mid at (length d - at) d f) × (at + k ≤ at + report_most)
+  pub line-stamped : (k : ℕ) → r ≡ Ok k → Stamped d at (line (numbers_form w l)) (at + k) (put_mid at (length d - at) d f) × (at + k ≤ at + report_most)
   unfolding stamp
   line-stamped k e =
       let W : List ℕ = line (numbers_form w l) in
@@ -52,7 +50,7 @@ module _ (w l d f : List ℕ) (at : ℕ) (r : Written) (room : at + report_most 
         omega (arith, p.bytes, line-most w l few most),
       )
 
-  pub line_refused : {A : Type 0} (c : ℕ) → r ≡ Refused c → A
+  pub line_refused : {A : Type 0} (c : ℕ) → r ≡ Err c → A
   line_refused c e = absurd (never-refused (numbers_form w l) _ f r c x fits e)
 
 -- the same line, of numbers that were asked for
@@ -68,13 +66,13 @@ six-stamped {d} a b c k m n =
 -- ---- the whole text
 
 -- written from the first byte on
-pub prints-stamped : (most : ℕ) (text d : List ℕ) (k : ℕ) (e : List ℕ) → most ≤ length d → Stamped d 0 text k e → Prints most text d (Bytes k) e
+pub prints-stamped : (most : ℕ) (text d : List ℕ) (k : ℕ) (e : List ℕ) → most ≤ length d → Stamped d 0 text k e → Prints most text d (Ok k) e
 prints-stamped most text d k e h s =
     let b : k ≡ length text = omega (arith, s.behind) in
     put-prints most text d k e h (record { bytes = b; text = s.bytes ∙ stamp-front d text ∙ ap (λ (i : ℕ). text ++ drop i d) (sym b) })
 
 -- one line
-pub prints-line : (most : ℕ) (form d : List ℕ) (r : Written) (e : List ℕ) → most ≤ length d → length (line form) ≤ most → Writes false form d r e
+pub prints-line : (most : ℕ) (form d : List ℕ) (r : Result ℕ ℕ) (e : List ℕ) → most ≤ length d → length (line form) ≤ most → Writes false form d r e
     → Prints most (line form) d r e
 prints-line most form d r e h l w =
     let n = le-ltb _ _ h in
@@ -82,10 +80,10 @@ prints-line most form d r e h l w =
     (rw n u.0, rw n u.1)
 
 -- which of the two it is
-pub text-told : (x : Totals) → x.check ≡ 0 → totals_text x ≡ traffic_text x.traffic x.held
+pub text-told : (x : Totals) → totals_text (Ok x) ≡ traffic_text x.traffic x.held
 unfolding totals_text
-text-told x e = rw (eq-eqb _ _ e)
+text-told x = refl
 
-pub text-refused : (x : Totals) → x.check ≢ 0 → totals_text x ≡ line (answer_form (Answer.Refused x.check))
+pub text-refused : (check : ℕ) → totals_text (Err check) ≡ line (answer_form (Answer.Refused check))
 unfolding totals_text
-text-refused x e = rw (ne_eqb _ _ e)
+text-refused check = refl

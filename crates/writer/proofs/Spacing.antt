@@ -1,6 +1,5 @@
 -- Numbers, each behind a blank, one after the other: counted and written. Assumes nothing.
-use Rattle.std.proofs.Common.{◌≡◌, ℕ, suc, ◌+◌, ◌*◌, ◌<◌, ◌≤◌, List, [], ◌∷◌, ◌++◌, length, get_or, take, drop, sym, refl, ap, ◌∙◌, subst, append_assoc, append-nil, add-one, arith, length-append, take-append-drop, take_all, drop-cons, take-suc}
-use Rattle.types.specs.Quantities.{n_most}
+use Rattle.std.proofs.Common.{◌≡◌, ℕ, suc, ◌+◌, ◌*◌, ◌<◌, ◌≤◌, List, [], ◌∷◌, ◌++◌, length, get_or, take, drop, sym, refl, ap, ◌∙◌, subst, append_assoc, append-nil, add-one, arith, length-append, take-append-drop, drop-cons, take-suc}
 use Rattle.lines.specs.Decimal.{decimal}
 use Rattle.lines.specs.Forms.{open_bracket, close_bracket, one_blank, joined, spaced, numbers_form}
 use Rattle.lines.proofs.Decimals.{length_most}
@@ -41,17 +40,11 @@ spaced-split ns i h =
 abbrev pub Measured : List ℕ → ℕ → ℕ → Type 0
 Measured ns bytes i = (i ≤ length ns) × (bytes ≡ length (joined (spaced (take i ns)))) × (bytes ≤ 21 * i)
 
-pub measured-none : (ns : List ℕ) → Measured ns 0 0
-measured-none ns = (omega arith, refl, omega arith)
-
 pub measured-more : (ns : List ℕ) (bytes i k : ℕ) → Measured ns bytes i → i < length ns → k ≡ length (decimal (get_or ns i 0)) → Measured ns (bytes + (1 + k)) (i + 1)
 measured-more ns bytes i k x h e =
     let f : length (joined (spaced (take (i + 1) ns))) ≡ length (joined (spaced (take i ns))) + suc (length (decimal (get_or ns i 0))) =
     ap length (spaced-more ns i h) ∙ length-append (joined (spaced (take i ns))) (one_blank ++ decimal (get_or ns i 0)) in
     (omega arith, omega (arith, x.1), omega (arith, x.2, length_most (get_or ns i 0)))
-
-pub measured-all : (ns : List ℕ) (bytes i : ℕ) → Measured ns bytes i → length ns ≤ i → length ns ≤ n_most → (bytes ≡ length (joined (spaced ns))) × (bytes ≤ 21 * n_most)
-measured-all ns bytes i x h l = (x.1 ∙ ap (λ (z : List ℕ). length (joined (spaced z))) (take_all i ns h), omega (arith, x.0, x.2))
 
 -- ---- written
 
@@ -73,9 +66,6 @@ listed_more d at ns e b i f k r x h s m =
     let l : at ≤ length d = omega (arith, r.fits) in
     let u : Stamped d at (joined (spaced (take i ns)) ++ (one_blank ++ decimal (get_or ns i 0))) k f = written_both l x.1 s in
     (omega arith, subst (λ (w : List ℕ). Stamped d at w k f) (sym (spaced-more ns i h)) u, m ∙ x.2)
-
-pub listed-all : (d : List ℕ) (at : ℕ) (ns e : List ℕ) (b i : ℕ) → Listed d at ns e b i → length ns ≤ i → Stamped d at (joined (spaced ns)) b e
-listed-all d at ns e b i x h = subst (λ (z : List ℕ). Stamped d at (joined (spaced z)) b e) (take_all i ns h) x.1
 
 -- ---- behind a word, in brackets
 

@@ -1,6 +1,7 @@
 -- Writes into lent bytes, one after the other. Assumes nothing.
-use Rattle.std.proofs.Common.{◌≡◌, ℕ, suc, ◌+◌, ◌<◌, ◌≤◌, List, [], ◌∷◌, ◌++◌, length, get_or, take, drop, set, sym, refl, ap, ◌∙◌, ap₂, append_assoc, append-nil, add-zero, add_assoc, add-one, arith, length-append, length-drop, length-set, take-append-drop, length-take-le, take_all, take-suc, drop-drop, take_at, drop_at}
+use Rattle.std.proofs.Common.{◌≡◌, ℕ, suc, ◌+◌, ◌-◌, ◌<◌, ◌≤◌, List, [], ◌∷◌, ◌++◌, length, get_or, take, drop, set, sym, refl, ap, ◌∙◌, ap₂, append_assoc, append-nil, add-zero, add_assoc, add-one, arith, length-append, length-drop, take-append-drop, length-take-le, take-suc, drop-drop, take_at, drop_at}
 use lib.Seq.{set_split, set_at}
+use borrow.Rule.Slice.PartMut.{put_mid}
 use Rattle.writer.specs.Stamps.{stamp, Room, Stamped}
 
 pub stamp-none : (d : List ℕ) (a : ℕ) → stamp d a [] ≡ d
@@ -52,29 +53,17 @@ stamp-before d a x w h =
 
 -- ---- a word
 
--- its first k bytes are written
-abbrev pub Copied : List ℕ → ℕ → List ℕ → List ℕ → ℕ → Type 0
-Copied d a w e k = (k ≤ length w) × (e ≡ stamp d a (take k w)) × (length e ≡ length d)
-
-pub copied_none : (d : List ℕ) (a : ℕ) (w : List ℕ) → Copied d a w d 0
-copied_none d a w = (omega arith, sym (stamp-none d a), refl)
-
-pub copied_more : (d : List ℕ) (a : ℕ) (w e : List ℕ) (k : ℕ) → Room d a w → Copied d a w e k → k < length w
-    → Copied d a w (set e (a + k) (get_or w k 0)) (k + 1)
-copied_more d a w e k r x h =
-    let n : length (take k w) ≡ k = length-take-le k w (omega arith) in
-    let l : a + k < length (stamp d a (take k w)) = omega (arith, stamp-length d a (take k w) (omega (arith, r.fits)), r.fits) in
-    let m : a ≤ length d = omega (arith, r.fits) in (
-      omega arith,
-      ap (λ (z : List ℕ). set z (a + k) (get_or w k 0)) x.1 ∙ set-stamp (stamp d a (take k w)) (a + k) (get_or w k 0) l
-          ∙ ap (λ (i : ℕ). stamp (stamp d a (take k w)) (a + i) (get_or w k 0 ∷ [])) (sym n)
-          ∙ stamp-stamp d a (take k w) (get_or w k 0 ∷ []) m ∙ rw (add-one, take-suc w k 0),
-      length-set e (a + k) (get_or w k 0) ∙ x.2,
-    )
-
-pub copied_all : (d : List ℕ) (a : ℕ) (w e : List ℕ) (k : ℕ) → Copied d a w e k → length w ≤ k → Stamped d a w (a + k) e
-copied_all d a w e k x h = let q : k ≡ length w = omega (arith, x.0) in
-    record { behind = ap (λ (i : ℕ). a + i) q; bytes = x.1 ∙ ap (stamp d a) (take_all k w h) }
+-- the part that was lent for it holds it
+pub stamped-part : {A : Type 0} (d : List A) (a : ℕ) (w f : List A) → f ≡ w → Stamped d a w (a + length w) (put_mid a (a + length w - a) d f)
+unfolding stamp
+stamped-part {A} d a w f e =
+    let k : a + (a + length w - a) ≡ a + length w = omega arith in
+    record {
+      behind = refl;
+      bytes = ap (λ (z : List A). take a d ++ (z ++ drop (a + length w - a) (drop a d))) e
+          ∙ ap (λ (z : List A). take a d ++ (w ++ z)) (drop-drop (a + length w - a) a d ∙ ap (λ (z : ℕ). drop z d) k)
+          ∙ sym (append_assoc (take a d) w (drop (a + length w) d));
+    }
 
 -- ---- a row of writes
 

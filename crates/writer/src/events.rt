@@ -12,10 +12,8 @@ fn kind_length(message: Message) -> usize
     ensures { (result ≡ length (kind_word message)) × (result ≤ 4) }
 {
     match message {
-        Message::View(_, _) => 4,
-        Message::Vote(_, _) => 4,
-        Message::Vc(_, _) => 2,
-        Message::Qc(_, _) => 2,
+        Message::View(..) | Message::Vote(..) => 4,
+        Message::Vc(..) | Message::Qc(..) => 2,
     }
 }
 
@@ -47,10 +45,10 @@ fn put_kind(out: &mut [u8], at: usize, message: Message) -> usize
     ensures { Stamped out.old at (kind_word message) result out.new }
 {
     match message {
-        Message::View(_, _) => pieces::put_word(out, at, b"view"),
-        Message::Vote(_, _) => pieces::put_word(out, at, b"vote"),
-        Message::Vc(_, _) => pieces::put_word(out, at, b"vc"),
-        Message::Qc(_, _) => pieces::put_word(out, at, b"qc"),
+        Message::View(..) => pieces::put_slice(out, at, b"view"),
+        Message::Vote(..) => pieces::put_slice(out, at, b"vote"),
+        Message::Vc(..) => pieces::put_slice(out, at, b"vc"),
+        Message::Qc(..) => pieces::put_slice(out, at, b"qc"),
     }
 }
 
@@ -71,7 +69,7 @@ fn put_carrying(out: &mut [u8], word: &[u8], message: Message) -> usize
     requires { Room out.old 0 (joined (word.now ∷ message_form message ∷ close_bracket ∷ [])) }
     ensures { Stamped out.old 0 (joined (word.now ∷ message_form message ∷ close_bracket ∷ [])) result out.new }
 {
-    let inner = pieces::put_word(out, 0, word);
+    let inner = pieces::put_slice(out, 0, word);
     let end = put_message(out, inner, message);
     pieces::put_byte(out, end, b')')
 }
@@ -81,7 +79,7 @@ fn put_ticks(out: &mut [u8], ticks: u64) -> usize
     requires { Room out.old 0 (event_form (Event.Tick ticks)) }
     ensures { Stamped out.old 0 (event_form (Event.Tick ticks)) result out.new }
 {
-    let number = pieces::put_word(out, 0, b"(tick");
+    let number = pieces::put_slice(out, 0, b"(tick");
     let end = pieces::put_spaced(out, number, ticks);
     pieces::put_byte(out, end, b')')
 }
@@ -95,7 +93,7 @@ pub(crate) fn put_event(out: &mut [u8], event: Event) -> usize
         Event::Deliver(m) => put_carrying(out, b"(deliver ", m),
         Event::Sign(m) => put_carrying(out, b"(sign ", m),
         Event::Show(m) => put_carrying(out, b"(show ", m),
-        Event::Settle => pieces::put_word(out, 0, b"(settle)"),
+        Event::Settle => pieces::put_slice(out, 0, b"(settle)"),
         Event::Tick(m) => put_ticks(out, m),
     }
 }

@@ -12,10 +12,8 @@ pub(crate) fn numbers_length(numbers: &[u64]) -> usize
     ensures { (result ≡ length (joined (spaced numbers.now))) × (result ≤ 21 * n_most) }
 {
     let mut bytes = 0;
-    let mut i = 0;
-    while i < numbers.len() {
-        bytes += 1 + pieces::width(numbers[i]);
-        i += 1;
+    for n in numbers {
+        bytes += 1 + pieces::width(*n);
     }
     bytes
 }
@@ -26,10 +24,8 @@ pub(crate) fn put_numbers(out: &mut [u8], at: usize, numbers: &[u64]) -> usize
     ensures { Stamped out.old at (joined (spaced numbers.now)) result out.new }
 {
     let mut end = at;
-    let mut k = 0;
-    while k < numbers.len() {
-        end = pieces::put_spaced(out, end, numbers[k]);
-        k += 1;
+    for n in numbers {
+        end = pieces::put_spaced(out, end, *n);
     }
     end
 }

@@ -37,10 +37,10 @@ fn put_front(out: &mut [u8], word: &[u8], numbers: &[u64], faulty: u64) -> usize
     ensures { Stamped out.old 0 (front_form word.now numbers.now (set_form faulty)) result out.new }
 {
     let inner = pieces::put_byte(out, 0, b'(');
-    let first = pieces::put_word(out, inner, word);
+    let first = pieces::put_slice(out, inner, word);
     let set = numbers::put_numbers(out, first, numbers);
     let table = put_set(out, set, faulty);
-    pieces::put_word(out, table, b" (")
+    pieces::put_slice(out, table, b" (")
 }
 
 // Clocks with a blank between them.
@@ -73,5 +73,5 @@ pub(crate) fn put_opening(
 {
     let first = put_front(out, word, numbers, faulty);
     let end = put_clocks(out, first, clocks);
-    pieces::put_word(out, end, b"))")
+    pieces::put_slice(out, end, b"))")
 }

@@ -6,16 +6,17 @@ ghost use Rattle.lines.specs.Clauses.{line};
 ghost use Rattle.writer.specs.Stamps.{Stamped};
 
 use crate::answers;
-use lines::Written;
 use types::{Counts, Traffic};
 
 // All kinds together.
 fn add_all(counts: Counts) -> u64
     ensures { result ≡ all_of counts }
 {
-    let signed = std::num::wrapping_add_u64(counts.views, counts.votes);
-    let formed = std::num::wrapping_add_u64(signed, counts.vcs);
-    std::num::wrapping_add_u64(formed, counts.qcs)
+    counts
+        .views
+        .wrapping_add(counts.votes)
+        .wrapping_add(counts.vcs)
+        .wrapping_add(counts.qcs)
 }
 
 // One line; it answers the place behind it.
@@ -23,10 +24,9 @@ fn put_line(out: &mut [u8], at: usize, word: &[u8], numbers: &[u64]) -> usize
     requires { (at + report_most ≤ length out.old) × (length word.now ≤ report_word_most) × (length numbers.now ≤ report_numbers_most) }
     ensures { Stamped out.old at (line (numbers_form word.now numbers.now)) result out.new × (result ≤ at + report_most) }
 {
-    let written = answers::write_numbers(word, numbers, &mut out[at..]);
-    match written {
-        Written::Bytes(k) => at + k,
-        Written::Refused(_) => at,
+    match answers::write_numbers(word, numbers, &mut out[at..]) {
+        Ok(k) => at + k,
+        Err(_) => at,
     }
 }
 
@@ -35,8 +35,7 @@ fn put_kind(out: &mut [u8], at: usize, word: &[u8], sent: u64, delivered: u64, h
     requires { (at + report_most ≤ length out.old) × (length word.now ≤ report_word_most) }
     ensures { Stamped out.old at (line (numbers_form word.now (sent ∷ delivered ∷ held ∷ []))) result out.new × (result ≤ at + report_most) }
 {
-    let numbers = [sent, delivered, held];
-    put_line(out, at, word, &numbers)
+    put_line(out, at, word, &[sent, delivered, held])
 }
 
 // All lines, from the first byte on.
@@ -44,6 +43,7 @@ pub(crate) fn put_traffic(out: &mut [u8], traffic: Traffic, held: Counts) -> usi
     requires { totals_most ≤ length out.old }
     ensures { Stamped out.old 0 (traffic_text traffic held) result out.new }
 {
+    // Four calls: a table of the words and their numbers to go through would be as long as they are.
     let sent = traffic.sent;
     let delivered = traffic.delivered;
     let a = put_kind(
@@ -66,6 +66,5 @@ pub(crate) fn put_traffic(out: &mut [u8], traffic: Traffic, held: Counts) -> usi
     let d = put_kind(out, c, b"traffic qc", sent.qcs, delivered.qcs, held.qcs);
     let all = add_all(delivered);
     let e = put_kind(out, d, b"traffic all", add_all(sent), all, add_all(held));
-    let waits = [traffic.waits, all];
-    put_line(out, e, b"waits", &waits)
+    put_line(out, e, b"waits", &[traffic.waits, all])
 }

@@ -6,4 +6,4 @@ use Rattle.buffers.proofs.find.Goals as goal
 pub returns-then-is_packable : goal.returns-then-is_packable
 returns-then-is_packable c =
     let e = sym c.is_packable.ensures ∙ c.if-is_packable.true in
-    rw (← c.capacity.ensures, le-leb _ _ c.if-capacity-held.false, e) (c.scan.ensures ∙ rw c.pack.ensures (first-beginning c.args.message e c.args.network.now c.args.held))
+    rw (← c.capacity.ensures, le-leb _ _ c.if-held-capacity.true, e) (c.scan.ensures ∙ rw c.pack.ensures (first-beginning c.args.message e c.args.network.now c.args.held))

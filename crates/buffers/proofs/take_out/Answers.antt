@@ -1,7 +1,6 @@
-use Rattle.buffers.proofs.NetworkWords.{moved-cleared}
-use mathlib.Core.Path.{◌∙◌}
-use borrow.Author.Rules.{rules}
+use Rattle.std.proofs.Common.{arith, rules}
+use Rattle.buffers.proofs.NetworkWords.{closed_up}
 use Rattle.buffers.proofs.take_out.Goals as goal
 
 pub returns : goal.returns
-returns c = c.clear.ensures ∙ rw c.close_up.ensures (moved-cleared _ _ _ (search rules) (search rules))
+returns c = closed_up c.args.network.now _ _ c.args.h c.args.i _ (omega arith) (omega arith) c.copy_within.ensures.after (omega arith) (search rules)

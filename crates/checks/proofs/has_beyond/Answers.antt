@@ -1,10 +1,11 @@
 use native.Mathlib.Omega.{arith}
+use borrow.Author.Tests.{le-ltb}
 use Rattle.checks.proofs.Arithmetic.{beyond-none, beyond-shift}
-use mathlib.Core.Path.{sym}
+use mathlib.Core.Path.{sym, ◌∙◌}
 use Rattle.checks.proofs.has_beyond.Goals as goal
 
-pub returns-then-n-ge-BITS : goal.returns-then-n-ge-BITS
-returns-then-n-ge-BITS c = sym (beyond-none c.args.n c.args.faulty (omega (arith, c.if-n-ge-BITS.true)) c.ranges.faulty.fits)
+pub returns-then-n-lt-BITS : goal.returns-then-n-lt-BITS
+returns-then-n-lt-BITS c = beyond-shift c.args.n c.args.faulty
 
-pub returns : goal.returns
-returns c = beyond-shift c.args.n c.args.faulty
+pub returns-else-n-lt-BITS : goal.returns-else-n-lt-BITS
+returns-else-n-lt-BITS c = le-ltb c.args.n 64 (omega arith) ∙ sym (beyond-none c.args.n c.args.faulty (omega arith) c.ranges.faulty.fits)

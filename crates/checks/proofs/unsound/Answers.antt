@@ -6,6 +6,6 @@ pub returns-then-unsound_for_good : goal.returns-then-unsound_for_good
 returns-then-unsound_for_good c = let s : State = state_in c.args.form (run_from c.args.head c.args.clocks.now c.args.views.now) c.args.tally.now c.args.network.now in
     nine-is s _ c.unsound_for_good.ensures.says _ (rw c.if-unsound_for_good.true)
 
-pub returns : goal.returns
-returns c = let s : State = state_in c.args.form (run_from c.args.head c.args.clocks.now c.args.views.now) c.args.tally.now c.args.network.now in
+pub returns-else-unsound_for_good : goal.returns-else-unsound_for_good
+returns-else-unsound_for_good c = let s : State = state_in c.args.form (run_from c.args.head c.args.clocks.now c.args.views.now) c.args.tally.now c.args.network.now in
     nine-is s _ c.unsound_for_good.ensures.says _ (rw c.if-unsound_for_good.false (end-reached c.args.head.plan c.args.head.time _ (plan-of s _ c.unsound_for_good.ensures.says c.if-unsound_for_good.false) c.end_time.ensures))

@@ -1,3 +1,4 @@
+use Rattle.std.proofs.Common.{Ok, Err}
 use Rattle.fever.proofs.Carrying.{outside-head, carry-short, carry-outside, carry-neither, carry-told}
 use Rattle.fever.specs.Clauses.{lent_of}
 use Rattle.fever.proofs.carry_words.Goals as goal
@@ -8,8 +9,11 @@ returns-then-run-lt-RUN_WORDS c = carry-short c.args.from c.args.to (lent_of c.a
 pub returns-then-target_outside : goal.returns-then-target_outside
 returns-then-target_outside c = carry-outside c.args.from c.args.to (lent_of c.args.run.now c.args.tally.now c.args.network.now) c.args.target.now c.if-run-lt-RUN_WORDS.false c.if-run-gt1.true (outside-head c.args.from c.args.to (lent_of c.args.run.now c.args.tally.now c.args.network.now) c.args.target.now c.head_in-head.result c.head_in-head.ensures _ _ c.target_outside.ensures c.if-target_outside.true)
 
-pub returns-then-run-gt1 : goal.returns-then-run-gt1
-returns-then-run-gt1 c = carry-neither c.args.from c.args.to (lent_of c.args.run.now c.args.tally.now c.args.network.now) c.args.target.now c.if-run-lt-RUN_WORDS.false c.if-run-gt1.true (outside-head c.args.from c.args.to (lent_of c.args.run.now c.args.tally.now c.args.network.now) c.args.target.now c.head_in-head.result c.head_in-head.ensures _ _ c.target_outside.ensures c.if-target_outside.false)
+pub returns-else-target_outside : goal.returns-else-target_outside
+returns-else-target_outside c = carry-neither c.args.from c.args.to (lent_of c.args.run.now c.args.tally.now c.args.network.now) c.args.target.now c.if-run-lt-RUN_WORDS.false c.if-run-gt1.true (outside-head c.args.from c.args.to (lent_of c.args.run.now c.args.tally.now c.args.network.now) c.args.target.now c.head_in-head.result c.head_in-head.ensures _ _ c.target_outside.ensures c.if-target_outside.false)
 
-pub returns : goal.returns
-returns c = carry-told c.args.from c.args.to (lent_of c.args.run.now c.args.tally.now c.args.network.now) c.args.target.now c.if-run-lt-RUN_WORDS.false c.if-run-gt1.false _ _ _ (record { head = c.head_in-head.ensures; clocks_in = c.table_in-clocks.ensures; views_in = c.table_in-views.ensures }) _ _ c.carry.ensures
+pub returns-in-Ok : goal.returns-in-Ok
+returns-in-Ok c = carry-told c.args.from c.args.to (lent_of c.args.run.now c.args.tally.now c.args.network.now) c.args.target.now c.if-run-lt-RUN_WORDS.false c.if-run-gt1.false _ _ _ (record { head = c.head_in-head.ensures; clocks_in = c.table_in-clocks.ensures; views_in = c.table_in-views.ensures }) (Ok tt) _ c.in-Ok.ensures
+
+pub returns-in-Err : goal.returns-in-Err
+returns-in-Err c = carry-told c.args.from c.args.to (lent_of c.args.run.now c.args.tally.now c.args.network.now) c.args.target.now c.if-run-lt-RUN_WORDS.false c.if-run-gt1.false _ _ _ (record { head = c.head_in-head.ensures; clocks_in = c.table_in-clocks.ensures; views_in = c.table_in-views.ensures }) (Err c.in-Err.check) _ c.in-Err.ensures

@@ -1,8 +1,8 @@
 use Rattle.fever.proofs.Writing.{bytes_counted, none-counted}
 use Rattle.fever.proofs.count_bytes.Goals as goal
 
-pub returns-in-Bytes : goal.returns-in-Bytes
-returns-in-Bytes c = bytes_counted _ _ c.in-Bytes.is
+pub returns-in-Ok : goal.returns-in-Ok
+returns-in-Ok c = bytes_counted _ _ c.in-Ok.is
 
-pub returns-in-Refused : goal.returns-in-Refused
-returns-in-Refused c = none-counted _ _ c.in-Refused.is
+pub returns-in-Err : goal.returns-in-Err
+returns-in-Err c = none-counted _ _ c.in-Err.is

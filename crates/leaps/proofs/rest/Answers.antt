@@ -6,10 +6,13 @@ use Rattle.leaps.proofs.rest.Goals as goal
 
 pub loop-q-init : goal.loop-q-init
 unfolding rest_below
-loop-q-init c = (omega arith, refl)
+loop-q-init c = refl
 
 pub returns-then-quiet-eq0 : goal.returns-then-quiet-eq0
-returns-then-quiet-eq0 c = rest-none (run_from c.args.head c.args.clocks.now c.args.views.now) _ (c.loop-q.q + 1) _ (omega (arith, c.loop-q-test.true, c.least-n.ensures, c.least.ensures)) (sym c.if-quiet-eq0.true ∙ rest_more (run_from c.args.head c.args.clocks.now c.args.views.now) _ _ _ _ c.loop-q.invariant.1 c.rest_for-quiet.ensures)
+returns-then-quiet-eq0 c =
+    let run = run_from c.args.head c.args.clocks.now c.args.views.now in
+    rest-none run _ (c.loop-q.q + 1) _ (omega (arith, c.loop-q-test.true, c.min.ensures, c.min-n.ensures))
+    (sym c.if-quiet-eq0.true ∙ rest_more run _ _ _ _ c.loop-q.invariant c.rest_for-quiet.ensures)
 
 pub loop-q-preserved : goal.loop-q-preserved
-loop-q-preserved c = (omega arith, rest_more (run_from c.args.head c.args.clocks.now c.args.views.now) _ _ _ _ c.loop-q.invariant.1 c.rest_for-quiet.ensures)
+loop-q-preserved c = rest_more (run_from c.args.head c.args.clocks.now c.args.views.now) _ _ _ _ c.loop-q.invariant c.rest_for-quiet.ensures

@@ -1,4 +1,5 @@
-use Rattle.lines.proofs.Newlines.{none_here, first-here, none_at_all}
+use Rattle.std.proofs.Common.{arith}
+use Rattle.lines.proofs.Newlines.{before-most, none_here, first-here}
 use Rattle.lines.proofs.before_newline.Goals as goal
 
 pub returns-then-bytes-i-eq10 : goal.returns-then-bytes-i-eq10
@@ -8,4 +9,4 @@ pub loop-i-preserved : goal.loop-i-preserved
 loop-i-preserved c = none_here _ _ c.loop-i.invariant c.loop-i-test.true c.if-bytes-i-eq10.false
 
 pub returns : goal.returns
-returns c = none_at_all _ _ c.loop-i.invariant c.loop-i-test.false
+returns c = omega (arith, before-most c.args.bytes.now)

@@ -1,29 +1,24 @@
 use native.Mathlib.Omega.{arith}
-use mathlib.Core.Path.{sym, ◌∙◌}
-use Rattle.pacemaker.proofs.LimitLaws.{sound}
+use mathlib.Core.Path.{ap₂, ◌∙◌}
+use Rattle.types.specs.declared.Plan.{Plan}
+use Rattle.types.specs.declared.Processor.{Processor}
+use Rattle.pacemaker.specs.Steps.{stepping}
 use Rattle.pacemaker.proofs.StepLaws.{as_moved, refused-unsound, refused-processor, is-stepping}
 use Rattle.pacemaker.proofs.step.Goals as goal
 
-pub returns-then-unsound : goal.returns-then-unsound
-returns-then-unsound c =
+pub returns-in-None : goal.returns-in-None
+returns-in-None c =
     let a = c.args in
-    let u = sym c.unsound.ensures ∙ c.if-unsound.true in
-    as_moved (refused-unsound a.plan a.processor a.input u) c.refuse.ensures
+    as_moved (refused-unsound a.plan a.processor a.input c.in-None.ensures) c.refuse.ensures
 
-pub returns-then-plan-processor : goal.returns-then-plan-processor
-returns-then-plan-processor c =
+pub returns-in-Some : goal.returns-in-Some
+returns-in-Some c =
     let a = c.args in
-    let u = sym c.unsound.ensures ∙ c.if-unsound.false in
-    as_moved (refused-processor a.plan a.processor a.input u (omega (arith, c.if-plan-processor.true))) c.refuse-then-plan-processor.ensures
+    let s = c.in-Some.ensures in
+    as_moved (refused-processor a.plan a.processor a.input s.0 (omega (arith, c.if-plan-processor.true))) c.refuse-in-Some.ensures
 
-pub by_input-requires : goal.by_input-requires
-by_input-requires c =
+pub returns-in-Some-2 : goal.returns-in-Some-2
+returns-in-Some-2 c =
     let a = c.args in
-    let u = sym c.unsound.ensures ∙ c.if-unsound.false in
-    sound a.plan a.processor u
-
-pub returns : goal.returns
-returns c =
-    let a = c.args in
-    let u = sym c.unsound.ensures ∙ c.if-unsound.false in
-    as_moved (is-stepping a.plan a.processor a.input u (omega (arith, c.if-plan-processor.false))) c.by_input.ensures
+    let s = c.in-Some-2.ensures in
+    as_moved (ap₂ (λ (p : Plan) (q : Processor). stepping p q a.input) s.1 s.2 ∙ is-stepping a.plan a.processor a.input s.0 (omega (arith, c.if-plan-processor.false))) c.by_input.ensures

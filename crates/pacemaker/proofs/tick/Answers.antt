@@ -8,15 +8,15 @@ use Rattle.pacemaker.proofs.tick.Goals as goal
 
 pub returns-then-clock-time_of : goal.returns-then-clock-time_of
 returns-then-clock-time_of c =
-    let start = c in
-    let time = c.time_of.ensures ∙ ap (clock_time start.args.plan) c.next_of-next.ensures.0 in
-    as_moved (tick-passes start.args.plan start.args.processor start.requires (omega (arith, time, c.if-clock-time_of.true))) c.accept.ensures
+    let s = c.args.sound in
+    let time = c.time_of.ensures ∙ ap (clock_time s.within.plan) c.next_of-next.ensures.0 in
+    as_moved (tick-passes s.within.plan s.processor s.sound (omega (arith, time, c.if-clock-time_of.true))) c.accept.ensures
 
-pub returns : goal.returns
-returns c =
-    let start = c in
+pub returns-else-clock-time_of : goal.returns-else-clock-time_of
+returns-else-clock-time_of c =
+    let s = c.args.sound in
     let next = c.next_of-next.ensures.0 in
-    let time = c.time_of.ensures ∙ ap (clock_time start.args.plan) next in
-    as_moved (ap (entry_into start.args.plan start.args.processor) next
-    ∙ tick-arrives start.args.plan start.args.processor start.requires (omega (arith, time, c.if-clock-time_of.false)))
+    let time = c.time_of.ensures ∙ ap (clock_time s.within.plan) next in
+    as_moved (ap (entry_into s.within.plan s.processor) next
+    ∙ tick-arrives s.within.plan s.processor s.sound (omega (arith, time, c.if-clock-time_of.false)))
     c.enter.ensures

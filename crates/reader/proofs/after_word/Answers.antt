@@ -1,14 +1,13 @@
-use Rattle.reader.proofs.ScanLaws.{away-beyond, matched-short, matched-other, matched-all}
+use Rattle.reader.proofs.ScanLaws.{word-beyond, word-here, word-other, starts-at}
+use mathlib.Core.Path.{sym, ◌∙◌}
 use Rattle.reader.proofs.after_word.Goals as goal
+use Rattle.reader.proofs.after_word.Goals.{else-at-s-via-then-at-s+else-starts_with, else-at-s-via-else-at-s}
 
-pub returns-then-s-at : goal.returns-then-s-at
-returns-then-s-at c = away-beyond _ _ _ c.if-s-at.true
+pub returns-then-starts_with : goal.returns-then-starts_with
+returns-then-starts_with c = word-here _ _ _ c.if-at-s.true (sym (starts-at c.args.s.now c.args.at c.args.word.now) ∙ sym c.starts_with.ensures.value ∙ c.if-starts_with.true)
 
-pub returns-then-left-k : goal.returns-then-left-k
-returns-then-left-k c = matched-short _ _ _ _ c.loop-k.invariant c.loop-k-test.true c.if-left-k.true
-
-pub returns-then-s-at-2 : goal.returns-then-s-at-2
-returns-then-s-at-2 c = matched-other _ _ _ _ c.loop-k.invariant c.loop-k-test.true c.if-left-k.false c.if-s-at-2.true
-
-pub returns : goal.returns
-returns c = matched-all _ _ _ _ c.loop-k.invariant c.loop-k-test.false
+pub returns-else-at-s : goal.returns-else-at-s
+returns-else-at-s c = elim c.else-at-s.branch [
+  | else-at-s-via-then-at-s+else-starts_with w ↦ word-other _ _ _ (sym (starts-at c.args.s.now c.args.at c.args.word.now) ∙ sym w.starts_with.ensures.value ∙ w.if-starts_with.false)
+  | else-at-s-via-else-at-s w ↦ word-beyond _ _ _ w.if-at-s.false
+]

@@ -2,18 +2,12 @@ use Rattle.model.specs.Checks.{unsound_for_good}
 use Rattle.model.specs.State.{state_of, run_from}
 use mathlib.Core.Bool.{false}
 use mathlib.Core.Path.{◌≡◌}
-use Prim.Native.Nat.{◌-◌, ◌≤◌}
-use lib.ListN.{length}
 use Rattle.words.specs.Batches.{words_applied}
 use Rattle.words.proofs.Turning.{words_applied_from}
 use Rattle.liveness.specs.Promises.{Tabled}
 use Rattle.simulator.proofs.apply_words.Given as goal
 
 abbrev pub invariant-loop-i : goal.invariant-loop-i
-invariant-loop-i l = (l.i ≤ l.count) × (length l.tally ≡ length l.initial.tally) × (length l.network ≡ length l.initial.network) × (length l.events ≡ length l.initial.events)
-    × (words_applied_from l.i l.events (state_of (run_from l.current l.clocks l.views) l.tally l.network)
+invariant-loop-i l = (words_applied_from l.i l.events (state_of (run_from l.current l.clocks l.views) l.tally l.network)
     ≡ words_applied l.initial.events (state_of (run_from l.initial.current l.initial.clocks l.initial.views) l.initial.tally l.initial.network))
     × (l.broken ≡ unsound_for_good (state_of (run_from l.current l.clocks l.views) l.tally l.network)) × (l.broken ≡ false → Tabled (run_from l.current l.clocks l.views))
-
-abbrev pub decreases-loop-i : goal.decreases-loop-i
-decreases-loop-i l = l.count - l.i

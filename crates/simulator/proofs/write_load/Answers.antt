@@ -1,28 +1,23 @@
 use Rattle.simulator.proofs.Single.{single-is, single-accepted}
-use Rattle.loads.proofs.Going.{going-first, never-going, going-over, going-short, going-refused, falls, going_more, turn-most}
+use Rattle.loads.proofs.Going.{going-first, going-over, going-short, going-refused, falls, going_more, turn-most}
 use Rattle.loads.specs.Loads.{Point, point_of}
 use Rattle.loads.specs.declared.Turn.{Turn}
 use Rattle.model.specs.State.{state_of, run_from}
-use Rattle.base.specs.Choice.{cond_no}
 use Prim.Native.Nat.{◌≤◌}
 use mathlib.Core.Path.{refl, sym, ◌∙◌, subst}
 use native.Mathlib.Omega.{arith}
-use borrow.Author.Rules.{rules}
 use Rattle.simulator.proofs.write_load.Goals as goal
 
 pub returns-then-broken : goal.returns-then-broken
-returns-then-broken c = (never-going c.args.steps c.args.settle _ c.args.out.now (sym c.unsound_for_good-broken.ensures.says ∙ c.if-broken.true), rw (sym c.unsound_for_good-broken.ensures.says ∙ c.if-broken.true) refl)
+returns-then-broken c = (sym c.unsound_for_good-broken.ensures.says ∙ c.if-broken.true, refl, refl, refl)
 
 pub loop-next-init : goal.loop-next-init
-loop-next-init c = (
-  refl,
-  refl,
-  going-first c.args.steps c.args.settle _ c.args.out.now (sym c.unsound_for_good-broken.ensures.says ∙ c.if-broken.false)
-      (record { clocks = c.unsound_for_good-broken.ensures.clocks c.if-broken.false; views = c.unsound_for_good-broken.ensures.views c.if-broken.false }),
-)
+loop-next-init c =
+    going-first c.args.steps c.args.settle _ c.args.out.now (sym c.unsound_for_good-broken.ensures.says ∙ c.if-broken.false)
+    (record { clocks = c.unsound_for_good-broken.ensures.clocks c.if-broken.false; views = c.unsound_for_good-broken.ensures.views c.if-broken.false })
 
 pub returns-then-out-at : goal.returns-then-out-at
-returns-then-out-at c = (going-short c.loop-next.invariant.2 c.loop-next-test.true c.next_turn-turn.result (c.next_turn-turn.ensures c.loop-next.clocks c.loop-next.views c.loop-next.tally) c.event_bytes-bytes.result c.event_bytes-bytes.ensures c.if-out-at.true, cond_no _ 0 9 0 (sym c.unsound_for_good-broken.ensures.says ∙ c.if-broken.false) refl)
+returns-then-out-at c = (sym c.unsound_for_good-broken.ensures.says ∙ c.if-broken.false, going-short c.loop-next.invariant c.loop-next-test.true c.next_turn-turn.result (c.next_turn-turn.ensures c.loop-next.clocks c.loop-next.views c.loop-next.tally) c.event_bytes-bytes.result c.event_bytes-bytes.ensures c.if-out-at.true)
 
 pub overflow_add-next : goal.overflow_add-next
 overflow_add-next c =
@@ -31,17 +26,14 @@ overflow_add-next c =
     omega (arith, k, c.loop-next-test.true, c.ranges.steps.fits)
 
 pub loop-next-smaller : goal.loop-next-smaller
-loop-next-smaller c = falls c.loop-next.invariant.2 c.loop-next-test.true c.next_turn-turn.result (c.next_turn-turn.ensures c.loop-next.clocks c.loop-next.views c.loop-next.tally) c.event_bytes-bytes.result c.event_bytes-bytes.ensures c.if-out-at.false _ (single-is c.next_turn-turn.result.event _ _ c.numbers_of.result _ _ c.numbers_of.ensures c.put_numbers.ensures c.apply_words-left.ensures) (sym (single-accepted c.next_turn-turn.result.event _ _ c.numbers_of.result _ _ c.numbers_of.ensures c.put_numbers.ensures c.apply_words-left.ensures c.is_accepted.result c.is_accepted.ensures) ∙ c.if-is_accepted.true)
+loop-next-smaller c = falls c.loop-next.invariant c.loop-next-test.true c.next_turn-turn.result (c.next_turn-turn.ensures c.loop-next.clocks c.loop-next.views c.loop-next.tally) c.event_bytes-bytes.result c.event_bytes-bytes.ensures c.if-out-at.false _ (single-is c.next_turn-turn.result.event _ _ c.numbers_of.result _ _ c.numbers_of.ensures c.put_numbers.ensures c.apply_words-left.ensures) (sym (single-accepted c.next_turn-turn.result.event _ _ c.numbers_of.result _ _ c.numbers_of.ensures c.put_numbers.ensures c.apply_words-left.ensures c.is_accepted.result c.is_accepted.ensures) ∙ c.if-is_accepted.true)
 
 pub loop-next-preserved : goal.loop-next-preserved
-loop-next-preserved c = (
-  search (rules, c.loop-next.invariant.0),
-  search (rules, c.loop-next.invariant.1),
-  going_more c.loop-next.invariant.2 c.loop-next-test.true c.next_turn-turn.result (c.next_turn-turn.ensures c.loop-next.clocks c.loop-next.views c.loop-next.tally) c.event_bytes-bytes.result c.event_bytes-bytes.ensures c.if-out-at.false _ (single-is c.next_turn-turn.result.event _ _ c.numbers_of.result _ _ c.numbers_of.ensures c.put_numbers.ensures c.apply_words-left.ensures) (sym (single-accepted c.next_turn-turn.result.event _ _ c.numbers_of.result _ _ c.numbers_of.ensures c.put_numbers.ensures c.apply_words-left.ensures c.is_accepted.result c.is_accepted.ensures) ∙ c.if-is_accepted.true) c.write_event.result _ c.write_event.ensures c.write_event.auto.out,
-)
+loop-next-preserved c =
+    going_more c.loop-next.invariant c.loop-next-test.true c.next_turn-turn.result (c.next_turn-turn.ensures c.loop-next.clocks c.loop-next.views c.loop-next.tally) c.event_bytes-bytes.result c.event_bytes-bytes.ensures c.if-out-at.false _ (single-is c.next_turn-turn.result.event _ _ c.numbers_of.result _ _ c.numbers_of.ensures c.put_numbers.ensures c.apply_words-left.ensures) (sym (single-accepted c.next_turn-turn.result.event _ _ c.numbers_of.result _ _ c.numbers_of.ensures c.put_numbers.ensures c.apply_words-left.ensures c.is_accepted.result c.is_accepted.ensures) ∙ c.if-is_accepted.true) c.write_event.result _ c.write_event.ensures c.write_event.auto.out
 
 pub returns-else-is_accepted : goal.returns-else-is_accepted
-returns-else-is_accepted c = (going-refused c.loop-next.invariant.2 c.loop-next-test.true c.next_turn-turn.result (c.next_turn-turn.ensures c.loop-next.clocks c.loop-next.views c.loop-next.tally) c.event_bytes-bytes.result c.event_bytes-bytes.ensures c.if-out-at.false _ (single-is c.next_turn-turn.result.event _ _ c.numbers_of.result _ _ c.numbers_of.ensures c.put_numbers.ensures c.apply_words-left.ensures) (sym (single-accepted c.next_turn-turn.result.event _ _ c.numbers_of.result _ _ c.numbers_of.ensures c.put_numbers.ensures c.apply_words-left.ensures c.is_accepted.result c.is_accepted.ensures) ∙ c.if-is_accepted.false), cond_no _ 0 9 0 (sym c.unsound_for_good-broken.ensures.says ∙ c.if-broken.false) refl)
+returns-else-is_accepted c = (sym c.unsound_for_good-broken.ensures.says ∙ c.if-broken.false, going-refused c.loop-next.invariant c.loop-next-test.true c.next_turn-turn.result (c.next_turn-turn.ensures c.loop-next.clocks c.loop-next.views c.loop-next.tally) c.event_bytes-bytes.result c.event_bytes-bytes.ensures c.if-out-at.false _ (single-is c.next_turn-turn.result.event _ _ c.numbers_of.result _ _ c.numbers_of.ensures c.put_numbers.ensures c.apply_words-left.ensures) (sym (single-accepted c.next_turn-turn.result.event _ _ c.numbers_of.result _ _ c.numbers_of.ensures c.put_numbers.ensures c.apply_words-left.ensures c.is_accepted.result c.is_accepted.ensures) ∙ c.if-is_accepted.false))
 
 pub returns : goal.returns
-returns c = (going-over c.loop-next.invariant.2 c.loop-next-test.false, cond_no _ 0 9 0 (sym c.unsound_for_good-broken.ensures.says ∙ c.if-broken.false) refl)
+returns c = (sym c.unsound_for_good-broken.ensures.says ∙ c.if-broken.false, going-over c.loop-next.invariant c.loop-next-test.false)

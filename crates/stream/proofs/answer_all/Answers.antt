@@ -26,5 +26,5 @@ loop-used-preserved g c =
       grows-trans _ _ _ inv.4 c.write_whole.ensures.grows,
     )
 
-pub returns-clause-threads : goal.returns-clause-threads
-returns-clause-threads g c = going-threads _ _ _ _ _ _ _ _ _ c.loop-used.invariant.0 (λ h. stops-all _ _ c.loop-used-test.false)
+pub returns-after-loop-used-clause-threads : goal.returns-after-loop-used-clause-threads
+returns-after-loop-used-clause-threads g c = going-threads _ _ _ _ _ _ _ _ _ c.loop-used.invariant.0 (λ h. stops-all _ _ c.loop-used-test.false)

@@ -13,4 +13,4 @@ returns c =
     λ t.
     let same : take (k - 1) out ≡ form = (bytes_eq-Decides _ _).0 (sym c.eq.ensures ∙ t) in
     subst (λ (i : ℕ). take i out ≡ line form) last
-    (take-suc out (k - 1) 0 inside ∙ ap₂ (λ (a : List ℕ) (b : ℕ). a ++ b ∷ []) same c.if-out-end-ne10.false)
+    (take-suc out (k - 1) 0 inside ∙ ap₂ (λ (a : List ℕ) (b : ℕ). a ++ b ∷ []) same c.if-out-k-ne10.false)

@@ -13,4 +13,4 @@ pub overflow_add-result : goal.overflow_add-result
 overflow_add-result c = omega (arith, line-inside _ _ _ c.next_line.ensures c.in-Line.is, c.well_formed)
 
 pub returns : goal.returns
-returns c = λ some. noted _ _ _ _ _ c.next_line.ensures c.in-Line.is c.skim_line-read.ensures (search rules) c.numbers_read.ensures
+returns c = noted _ _ _ _ _ c.next_line.ensures c.in-Line.is c.skim_line-read.ensures (search rules) c.numbers_read.ensures

@@ -2,8 +2,8 @@ use Rattle.driver.proofs.Texts.{answer-room}
 use Rattle.lines.proofs.Putting.{never-refused, put_written}
 use Rattle.driver.proofs.printing.print_answer.Goals as goal
 
-pub returns-in-Bytes : goal.returns-in-Bytes
-returns-in-Bytes c = put_written _ _ _ _ _ c.write_answer-written.ensures (answer-room _ c.args.out.now c.requires) c.in-Bytes.is
+pub returns-in-Ok : goal.returns-in-Ok
+returns-in-Ok c = put_written _ _ _ _ _ c.write_answer.ensures (answer-room _ c.args.out.now c.requires) c.in-Ok.is
 
-pub returns-in-Refused : goal.returns-in-Refused
-returns-in-Refused c = absurd (never-refused _ _ _ _ _ c.write_answer-written.ensures (answer-room _ c.args.out.now c.requires) c.in-Refused.is)
+pub returns-in-Err : goal.returns-in-Err
+returns-in-Err c = absurd (never-refused _ _ _ _ _ c.write_answer.ensures (answer-room _ c.args.out.now c.requires) c.in-Err.is)

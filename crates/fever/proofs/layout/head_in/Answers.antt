@@ -4,4 +4,4 @@ use Rattle.fever.proofs.layout.head_in.Goals as goal
 
 pub returns : goal.returns
 unfolding run_in
-returns c = rw (c.plan_in-plan.ensures, c.settled_as.ensures, c.counts_in.ensures, c.counts_in-2.ensures) refl
+returns c = rw (c.plan_in.ensures, c.settled_as.ensures, c.counts_in.ensures, c.counts_in-2.ensures) refl

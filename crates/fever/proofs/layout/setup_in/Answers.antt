@@ -3,4 +3,4 @@ use Rattle.fever.proofs.layout.setup_in.Goals as goal
 
 pub returns : goal.returns
 unfolding setup_in
-returns c = rw (c.plan_in-plan.ensures, c.table_in-clocks.ensures)
+returns c = rw (c.plan_in.ensures, c.table_in.ensures)

@@ -1,6 +1,4 @@
-use borrow.Author.Rules.{rules}
-use native.Mathlib.Omega.{arith}
-use mathlib.Core.Path.{refl}
+use Rattle.std.proofs.Common.{arith}
 use Rattle.base.specs.Choice.{flag}
 use Rattle.lines.specs.Inner.{block_bytes}
 use Rattle.lines.proofs.Newlines.{before-most, none-among, some-among}
@@ -8,13 +6,11 @@ use Rattle.lines.proofs.search.blocks_before.Goals as goal
 
 pub returns-then-block_has_newline : goal.returns-then-block_has_newline
 returns-then-block_has_newline c =
-    let x = c.loop-i.invariant in
-    omega (arith, some-among _ _ block_bytes x.0 (flag _ _ _ c.block_has_newline.ensures c.if-block_has_newline.true), x.1)
+    omega (arith, some-among _ _ block_bytes c.loop-block.invariant (flag _ _ _ c.block_has_newline.ensures c.if-block_has_newline.true))
 
-pub loop-i-preserved : goal.loop-i-preserved
-loop-i-preserved c =
-    let x = c.loop-i.invariant in
-    (none-among _ _ block_bytes x.0 (search rules) (flag _ _ _ c.block_has_newline.ensures c.if-block_has_newline.false), omega (arith, x.1), refl)
+pub loop-block-preserved : goal.loop-block-preserved
+loop-block-preserved c =
+    omega (arith, none-among _ _ block_bytes c.loop-block.invariant (omega arith) (flag _ _ _ c.block_has_newline.ensures c.if-block_has_newline.false))
 
 pub returns : goal.returns
 returns c = omega (arith, before-most c.args.bytes.now)

@@ -1,5 +1,6 @@
-use Rattle.lines.proofs.WordBytes.{bytes-at}
+use Rattle.std.proofs.Math.Facts.{Fits-lt-pow}
+use Rattle.lines.proofs.WordBytes.{word-bytes}
 use Rattle.lines.proofs.search.word_at.Goals as goal
 
 pub returns : goal.returns
-returns c = bytes-at c.args.bytes.now c.args.i 4 4 _ _ c.quad_at.ensures.1 c.quad_at.ensures.0 c.quad_at-2.ensures.0
+returns c = word-bytes c.args.bytes.now c.args.i _ c.requires (λ j. Fits-lt-pow (c.type_inv.bytes j)) c.from_le_bytes.ensures

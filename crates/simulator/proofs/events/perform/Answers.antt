@@ -1,7 +1,13 @@
-use Rattle.simulator.proofs.Deciding.{signature-change}
-use Rattle.model.specs.State.{run_from}
-use mathlib.Core.Path.{sym, ◌∙◌}
 use Rattle.simulator.proofs.events.perform.Goals as goal
 
-pub returns-then-is_signature : goal.returns-then-is_signature
-returns-then-is_signature c = rw (signature-change (run_from c.args.head c.args.clocks.now c.args.views.now) c.args.tally.now c.args.x c.args.message (sym c.is_signature.ensures ∙ c.if-is_signature.true)) (c.listen.ensures c.args.clocks.now c.args.views.now)
+pub listen-requires : goal.listen-requires
+listen-requires c = let room = rw c.in-Heard.is at c.requires.2 in (c.requires.0, c.requires.1, room, c.requires.3, c.requires.4)
+
+pub move_on-requires : goal.move_on-requires
+move_on-requires c = let room = rw c.in-Moved.is at c.requires.2 in let packs = rw c.in-Moved.is at c.requires.5 in rw c.processor.ensures (c.requires.0, c.requires.1, room, packs)
+
+pub returns-in-Heard : goal.returns-in-Heard
+returns-in-Heard c = rw c.in-Heard.is (c.listen.ensures c.args.clocks.now c.args.views.now)
+
+pub returns-in-Moved : goal.returns-in-Moved
+returns-in-Moved c = rw c.in-Moved.is (rw c.processor.ensures at c.move_on.ensures)

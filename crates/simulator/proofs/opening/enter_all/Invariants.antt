@@ -1,12 +1,7 @@
 use mathlib.Core.Path.{◌≡◌}
-use Prim.Native.Nat.{◌-◌, ◌≤◌}
-use lib.ListN.{length}
 use Rattle.simulator.specs.Opening.{entered_first}
 use Rattle.simulator.specs.Inner.{Posts}
 use Rattle.simulator.proofs.opening.enter_all.Given as goal
 
 abbrev pub invariant-loop-q : goal.invariant-loop-q
-invariant-loop-q l = (l.q ≤ l.setup.plan.n) × (l.tally ≡ (entered_first l.setup l.initial.tally l.q).tally) × Posts (entered_first l.setup l.initial.tally l.q).sent 0 0 l.initial.network l.held l.network × (length l.tally ≡ length l.initial.tally) × (length l.network ≡ length l.initial.network)
-
-abbrev pub decreases-loop-q : goal.decreases-loop-q
-decreases-loop-q l = l.setup.plan.n - l.q
+invariant-loop-q l = (l.tally ≡ (entered_first l.setup l.initial.tally l.q).tally) × Posts (entered_first l.setup l.initial.tally l.q).sent 0 0 l.initial.network l.held l.network

@@ -11,6 +11,6 @@ pub returns-then-led : goal.returns-then-led
 unfolding exists
 returns-then-led c = λ cs vs. cond_yes _ _ _ _ (sym c.led.ensures ∙ c.if-led.true) c.is_marked.ensures
 
-pub returns : goal.returns
+pub returns-else-led : goal.returns-else-led
 unfolding exists
-returns c = λ cs vs. cond_no _ _ _ _ (sym c.led.ensures ∙ c.if-led.false) (ap (λ (x : ℕ). leb x (c.size.result + c.size-2.result)) c.signers_needed.ensures ∙ ap₂ (λ (x y : ℕ). leb (needed c.args.stage c.args.head.plan) (x + y)) c.size.ensures (c.size-2.ensures ∙ ap size c.entered.ensures))
+returns-else-led c = λ cs vs. cond_no _ _ _ _ (sym c.led.ensures ∙ c.if-led.false) (ap (λ (x : ℕ). leb x (c.size.result + c.size-else-led.result)) c.signers_needed.ensures ∙ ap₂ (λ (x y : ℕ). leb (needed c.args.stage c.args.head.plan) (x + y)) c.size.ensures (c.size-else-led.ensures ∙ ap size c.entered.ensures))

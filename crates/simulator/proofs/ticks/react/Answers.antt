@@ -1,8 +1,8 @@
 use Rattle.simulator.proofs.Reactions.{reacts-sent, reacts_refused}
 use Rattle.simulator.proofs.ticks.react.Goals as goal
 
-pub returns-in-Sent : goal.returns-in-Sent
-returns-in-Sent c = reacts-sent c.args.plan c.args.processor c.args.input c.requires.0 c.requires.1 c.requires.2 _ _ (rw c.in-Sent.is at c.step-o.ensures)
+pub returns-in-Ok : goal.returns-in-Ok
+returns-in-Ok c = reacts-sent c.args.plan c.args.processor c.args.input c.requires.0 c.requires.1 c.requires.2 _ _ (rw c.in-Ok.is at c.step-o.ensures)
 
-pub returns-in-Refused : goal.returns-in-Refused
-returns-in-Refused c = reacts_refused c.args.plan c.args.processor c.args.input c.requires.0 c.requires.1 c.requires.2 _ _ (rw c.in-Refused.is at c.step-o.ensures)
+pub returns-in-Err : goal.returns-in-Err
+returns-in-Err c = reacts_refused c.args.plan c.args.processor c.args.input c.requires.0 c.requires.1 c.requires.2 _ _ (rw c.in-Err.is at c.step-o.ensures)

@@ -14,21 +14,24 @@ pub loop-count-init : goal.loop-count-init
 loop-count-init c =
     let s : State = state_of (run_from c.args.head c.args.clocks.now c.args.views.now) c.args.tally.now c.args.network.now in
     let fit = fit_of s c.requires.1 in
-    (omega arith, strides-none s fit (room_of s c.requires.1), refl, refl)
+    (omega arith, strides-none s fit (room_of s c.requires.1))
 
-pub advance-t-requires : goal.advance-t-requires
-advance-t-requires c = (strides-ready _ _ _ c.requires.1 c.loop-count.invariant.1, omega (arith, c.loop-count-test.true))
+pub advance-requires : goal.advance-requires
+advance-requires c = (strides-ready _ _ _ c.requires.1 c.loop-count.invariant.1, omega (arith, c.loop-count-test.true))
 
-pub returns-then-t-gt0 : goal.returns-then-t-gt0
-returns-then-t-gt0 c =
+pub returns-in-Err : goal.returns-in-Err
+returns-in-Err c =
+    let a = rw c.in-Err.is at c.advance.ensures in
     let s₀ : State = state_of (run_from c.args.head c.args.clocks.now c.args.views.now) c.args.tally.now c.args.network.now in
     let s : State = state_of (run_from c.loop-count.at c.loop-count.clocks c.loop-count.views) c.loop-count.tally c.loop-count.network in
     run-ended c.args.m c.loop-count.count _ s₀ _ c.stop.result _ _
-    (ticks-ended c.args.m c.loop-count.count _ s₀ s _ c.loop-count-test.true (strides-rest c.args.m c.loop-count.count s₀ s c.loop-count.invariant.0 c.loop-count.invariant.1) (c.advance-t.ensures.ended c.if-t-gt0.true) c.if-t-gt0.true)
+    (ticks-ended c.args.m c.loop-count.count _ s₀ s _ c.loop-count-test.true (strides-rest c.args.m c.loop-count.count s₀ s c.loop-count.invariant.0 c.loop-count.invariant.1) (a.0.ended a.1) a.1)
     (rw c.stop.ensures.0 refl) (c.stop.ensures.1 [] [] [] [])
 
 pub loop-count-preserved : goal.loop-count-preserved
-loop-count-preserved c = (omega (arith, (c.advance-t.ensures.number (omega (arith, c.if-t-gt0.false))).1, c.loop-count-test.true), strides-also _ _ _ _ _ c.loop-count.invariant.1 (c.advance-t.ensures.went (omega (arith, c.if-t-gt0.false))), omega (arith, c.loop-count.invariant.2, c.tally-1), omega (arith, c.loop-count.invariant.3, c.network-1))
+loop-count-preserved c =
+    let a = rw c.in-Ok.is at c.advance.ensures in
+    (omega (arith, (a.0.number refl).1, c.loop-count-test.true), strides-also _ _ _ _ _ c.loop-count.invariant.1 (a.0.went refl))
 
 pub returns : goal.returns
 returns c =

@@ -1,20 +1,17 @@
-use Rattle.types.specs.Quantities.{end_time, correct}
-use mathlib.Core.Path.{◌≡◌, sym, ◌∙◌}
-use mathlib.Core.Bool.{true, false}
-use Prim.Native.Nat.{ℕ, ◌+◌, ◌*◌, ◌-◌, ◌≤◌, ◌<◌}
-use native.Mathlib.Omega.{arith}
-use native.Mathlib.Nat.{le_refl, mul-pos}
-use borrow.Author.Tests.{le-leb, lt-leb}
-use Rattle.base.specs.Choice.{and_both, and-not-first, and-not-second}
-use Rattle.base.specs.ScanLaws.{some-start, some-on, some-here}
+use Rattle.std.proofs.Common.{◌≡◌, sym, ◌∙◌, ℕ, ◌+◌, ◌*◌, ◌-◌, ◌≤◌, ◌<◌, Bool, true, false, ◌&&◌, leb, get_or, refl, ap, suc, arith, rules, le_refl, mul-pos}
+use Rattle.std.proofs.lemmas.Iterator.{YieldsList-from_range}
+use Rattle.std.proofs.lemmas.Iterator.Search.{any_from_yields_List}
+use Rattle.std.proofs.Math.Dec.{leb-suc-suc}
+use Rattle.base.specs.ScanLaws.{some-ext}
 use Rattle.types.specs.declared.Plan.{Plan}
+use Rattle.types.specs.Quantities.{end_time, correct}
 use Rattle.types.specs.PlanFunctions.{clock_time_word}
 use Rattle.model.specs.State.{run_from}
 use Rattle.model.specs.Checks.{plan_outside, at_end}
 use Rattle.pacemaker.proofs.LimitLaws.{within, gamma_positive, time-word}
+use Rattle.checks.proofs.Ranges.{any-some}
 use Rattle.simulator.specs.Inner.{ends_at}
 use Rattle.simulator.proofs.ticks.some_ends.Goals as goal
-use Rattle.simulator.proofs.ticks.some_ends.Goals.{then-last-clocks+else-correct, else-last-clocks}
 
 module _ (plan : Plan) (ok : plan_outside plan ≡ false) (e : ℕ) (is : e ≡ clock_time_word plan plan.views) where
   end_is : e ≡ end_time plan
@@ -27,26 +24,19 @@ module _ (plan : Plan) (ok : plan_outside plan ≡ false) (e : ℕ) (is : e ≡ 
       let product : 0 < plan.views * plan.gamma = mul-pos views (gamma_positive plan l) in
       omega (arith, end_is, product)
 
-  ends_next : (clock : ℕ) → e - 1 ≤ clock → at_end plan (clock + 1) ≡ true
-  ends_next clock l = let reached : end_time plan ≤ clock + 1 = omega (arith, end_is, l) in le-leb _ _ reached
-
-  goes-on-next : (clock : ℕ) → clock < e - 1 → at_end plan (clock + 1) ≡ false
-  goes-on-next clock l = let before : clock + 1 < end_time plan = omega (arith, end_is, l) in lt-leb _ _ before
+  next-ends : (clock : ℕ) → leb (e - 1) clock ≡ at_end plan (clock + 1)
+  next-ends clock =
+      let a : end_time plan ≡ suc (e - 1) = omega (arith, end_is, end-positive) in
+      let b : clock + 1 ≡ suc clock = omega arith in rw (a, b) (sym (leb-suc-suc (e - 1) clock))
 
 pub overflow_sub-last : goal.overflow_sub-last
-overflow_sub-last c = omega (arith, end-positive c.args.head.plan c.requires c.end_time-last.result c.end_time-last.ensures)
+overflow_sub-last c = omega (arith, end-positive c.args.head.plan c.requires c.end_time.result c.end_time.ensures)
 
-pub loop-q-init : goal.loop-q-init
-loop-q-init c = (omega arith, λ v. some-start (ends_at (run_from c.args.head c.args.clocks.now v)))
-
-pub returns-then-correct : goal.returns-then-correct
-returns-then-correct c = λ v. sym (some-here (ends_at (run_from c.args.head c.args.clocks.now v)) _ c.loop-q.q c.loop-q-test.true (and_both _ _ (sym c.correct.ensures ∙ c.if-correct.true) (ends_next c.args.head.plan c.requires c.end_time-last.result c.end_time-last.ensures _ c.if-last-clocks.true)))
-
-pub loop-q-preserved : goal.loop-q-preserved
-loop-q-preserved c = (
-  omega arith,
-  λ v. some-on (ends_at (run_from c.args.head c.args.clocks.now v)) c.loop-q.q (c.loop-q.invariant.1 v) (elim c.if-last-clocks.branch [
-    | then-last-clocks+else-correct w ↦ and-not-first _ _ (sym w.correct.ensures ∙ w.if-correct.false)
-    | else-last-clocks w ↦ and-not-second (correct c.args.head.plan c.args.head.faulty c.loop-q.q) _ (goes-on-next c.args.head.plan c.requires c.end_time-last.result c.end_time-last.ensures _ w.if-last-clocks.false)
-  ]),
-)
+pub returns : goal.returns
+returns c = λ v.
+    let plan : Plan = c.args.head.plan in
+    let last : ℕ = c.end_time.result - 1 in
+    let f : ℕ → Bool = λ q. correct plan c.args.head.faulty q && leb last (get_or c.args.clocks.now q 0) in
+    any_from_yields_List f _ _ _ c.any.ensures.ran (YieldsList-from_range 0 plan.n plan.n refl (omega arith)) (λ x b q k. search rules) ∙ any-some f plan.n
+    ∙ some-ext f (ends_at (run_from c.args.head c.args.clocks.now v)) plan.n
+    (λ q l. ap (λ (b : Bool). correct plan c.args.head.faulty q && b) (next-ends plan c.requires c.end_time.result c.end_time.ensures (get_or c.args.clocks.now q 0)))

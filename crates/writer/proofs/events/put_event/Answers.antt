@@ -13,9 +13,9 @@ pub put_carrying-requires-in-Show : goal.put_carrying-requires-in-Show
 unfolding event_form
 put_carrying-requires-in-Show c = rw c.in-Show.is at c.requires
 
-pub put_word-requires : goal.put_word-requires
+pub put_slice-requires : goal.put_slice-requires
 unfolding event_form
-put_word-requires c = rw c.in-Settle.is at c.requires
+put_slice-requires c = rw c.in-Settle.is at c.requires
 
 pub returns-in-Deliver : goal.returns-in-Deliver
 unfolding event_form
@@ -31,4 +31,4 @@ returns-in-Show c = rw c.in-Show.is c.put_carrying-in-Show.ensures
 
 pub returns-in-Settle : goal.returns-in-Settle
 unfolding event_form
-returns-in-Settle c = rw c.in-Settle.is c.put_word.ensures
+returns-in-Settle c = rw c.in-Settle.is c.put_slice.ensures

@@ -1,0 +1,2 @@
+-- What a contract cites.
+pub mod Held

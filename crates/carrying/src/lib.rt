@@ -2,11 +2,11 @@
 #![tactic(auto)]
 
 ghost use Rattle.std.specs.Prelude.{◌≡◌, length};
-ghost use Rattle.model.specs.State.{state_in, run_from};
+ghost use Rattle.model.specs.State.{state_in};
 ghost use Rattle.model.specs.Carrying.{target_outside};
 ghost use Rattle.carrying.specs.Carries.{carried_one, carried_first, Carries};
 
-use types::{Form, Head};
+use types::{Form, Run};
 
 // The checks that refuse a target and an unsound run.
 const TARGET_OUTSIDE: u64 = 6;
@@ -14,11 +14,10 @@ const TARGET_OUTSIDE: u64 = 6;
 const UNSOUND: u64 = 9;
 
 // Whether check 6 refuses the target, or the held messages do not fit in it.
-pub fn target_outside(to: Form, head: Head, target: &[u64]) -> bool
-    ensures { result ≡ target_outside to head.plan head.held (length target.now) }
+pub fn target_outside(to: Form, run: &Run, target: &[u64]) -> bool
+    ensures { result ≡ target_outside to run.now.plan run.now.held (length target.now) }
 {
-    checks::network_outside(to, head.plan, target.len())
-        || buffers::capacity(to, target) < head.held
+    checks::network_outside(to, run.plan, target.len()) || buffers::capacity(to, target) < run.held
 }
 
 // Message i goes behind the first i of the target; words that are no message do not.
@@ -45,23 +44,21 @@ fn carry_all(from: Form, to: Form, held: usize, network: &[u64], target: &mut [u
 pub fn carry(
     from: Form,
     to: Form,
-    head: Head,
-    clocks: &[u64; 64],
-    views: &[u64; 64],
+    run: &Run,
     tally: &[u64],
     network: &[u64],
     target: &mut [u64],
 ) -> Result<(), u64>
-    ensures { Carries to (state_in from (run_from head clocks.now views.now) tally.now network.now)
+    ensures { Carries to (state_in from run.now tally.now network.now)
         target.old result target.new }
 {
-    if target_outside(to, head, target) {
+    if target_outside(to, run, target) {
         return Err(TARGET_OUTSIDE);
     }
-    if checks::unsound(from, head, clocks, views, tally, network) {
+    if checks::unsound(from, run, tally, network) {
         return Err(UNSOUND);
     }
     buffers::zero_words(target, target.len());
-    carry_all(from, to, head.held, network, target);
+    carry_all(from, to, run.held, network, target);
     Ok(())
 }

@@ -4,15 +4,15 @@
 ghost use Rattle.std.specs.Prelude.{◌≡◌, true, false, not, ◌&&◌, ◌||◌, ◌+◌, ◌*◌, ◌^◌, ◌≤◌, ◌<◌, eqb, leb, ltb, length, drop, MatchOption};
 ghost use Rattle.base.specs.Count.{bit};
 ghost use Rattle.base.specs.Scan.{some};
-ghost use Rattle.types.specs.Quantities.{n_most, network_least, correct, start_limit};
-ghost use Rattle.model.specs.State.{state_in, run_from, held_as, capacity};
+ghost use Rattle.types.specs.Quantities.{network_least, correct, start_limit};
+ghost use Rattle.model.specs.State.{state_in, held_as, capacity};
 ghost use Rattle.model.specs.Checks.{plan_outside, faulty_outside, network_outside, lengths_outside, clock_outside, outside_at, held_unsound, message_unsound, some_non_zero, unsound, start_too_high, supporting, alone_at, too_far_ahead};
 ghost use Rattle.checks.specs.Scans.{flying, non_zero_from, turn_words};
 ghost use Rattle.checks.specs.Runs.{Judges};
 ghost use Rattle.checks.specs.Setups.{setup_check};
 
 use pacemaker::PlanWithin;
-use types::{Form, Head, Message, Plan, Processor, Setup};
+use types::{Form, Message, Plan, Processor, Run, Setup};
 
 // The network has at least so many words for each processor; and in the wide form.
 const WORDS_EACH: u64 = 4;
@@ -104,10 +104,14 @@ fn clock_unsound(plan: Plan, faulty: u64, q: u64, clock: u64, view: u64) -> bool
 }
 
 // Whether some correct clock is outside its view.
-fn clocks_unsound(plan: Plan, faulty: u64, clocks: &[u64], views: &[u64]) -> bool
-    requires { (plan_outside plan ≡ false) × (length clocks.now ≡ n_most) × (length views.now ≡ n_most) }
-    ensures { result ≡ some (outside_at plan faulty clocks.now views.now) plan.n }
+fn clocks_unsound(run: &Run) -> bool
+    requires { plan_outside run.now.plan ≡ false }
+    ensures { result ≡ some (outside_at run.now.plan run.now.faulty run.now.clocks run.now.views) run.now.plan.n }
 {
+    let plan = run.plan;
+    let faulty = run.faulty;
+    let clocks = &run.clocks;
+    let views = &run.views;
     (0..plan.n).any(|q| clock_unsound(plan, faulty, q, clocks[q as usize], views[q as usize]))
 }
 
@@ -227,48 +231,34 @@ fn tail_not_zero(network: &[u64], from: usize) -> bool
     rest_not_zero(network, from + TURN_WORDS * turns, seen)
 }
 
-// Check 9 but for the time, of a run whose tables are lent beside its head, and whose network is of the form named. Each test stands by itself, since the
-// later ones require that the earlier ones passed: as one expression it is no plainer.
-pub fn unsound_for_good(
-    form: Form,
-    head: Head,
-    clocks: &[u64; 64],
-    views: &[u64; 64],
-    tally: &[u64],
-    network: &[u64],
-) -> bool
-    ensures { Judges (state_in form (run_from head clocks.now views.now) tally.now network.now) result }
+// Check 9 but for the time, of a run whose network is of the form named. Each test stands by itself, since the later ones require that the earlier ones
+// passed: as one expression it is no plainer.
+pub fn unsound_for_good(form: Form, run: &Run, tally: &[u64], network: &[u64]) -> bool
+    ensures { Judges (state_in form run.now tally.now network.now) result }
 {
-    let Some(within) = limits_kept(form, head.plan, head.faulty, tally.len(), network.len()) else {
+    let Some(within) = limits_kept(form, run.plan, run.faulty, tally.len(), network.len()) else {
         return true;
     };
-    if clocks_unsound(head.plan, head.faulty, clocks, views) {
+    if clocks_unsound(run) {
         return true;
     }
-    if buffers::capacity(form, network) < head.held {
+    if buffers::capacity(form, network) < run.held {
         return true;
     }
-    if messages_unsound(form, within, head.faulty, head.time, head.held, network) {
+    if messages_unsound(form, within, run.faulty, run.time, run.held, network) {
         return true;
     }
-    if settling_unsound(head.time, head.settled == 1, head.gst) {
+    if settling_unsound(run.time, run.settled, run.gst) {
         return true;
     }
-    tail_not_zero(network, form.width() * head.held)
+    tail_not_zero(network, form.width() * run.held)
 }
 
 // Check 9.
-pub fn unsound(
-    form: Form,
-    head: Head,
-    clocks: &[u64; 64],
-    views: &[u64; 64],
-    tally: &[u64],
-    network: &[u64],
-) -> bool
-    ensures { result ≡ unsound (state_in form (run_from head clocks.now views.now) tally.now network.now) }
+pub fn unsound(form: Form, run: &Run, tally: &[u64], network: &[u64]) -> bool
+    ensures { result ≡ unsound (state_in form run.now tally.now network.now) }
 {
-    unsound_for_good(form, head, clocks, views, tally, network) || head.plan.end_time() <= head.time
+    unsound_for_good(form, run, tally, network) || run.plan.end_time() <= run.time
 }
 
 // Whether q is correct and its start clock too high.

@@ -3,7 +3,7 @@ use mathlib.Core.Path.{◌≡◌, refl, sym, ap, ◌∙◌, subst}
 use mathlib.Core.Logic.{◌≢◌}
 use mathlib.Core.Bool.{Bool, true, false, cond}
 use mathlib.Core.List.{List, [], ◌∷◌, append-nil}
-use Prim.Native.Nat.{ℕ, ◌*◌, ◌/◌, ◌≤◌, ◌<◌}
+use Prim.Native.Nat.{ℕ, ◌*◌, ◌≤◌, ◌<◌}
 use native.Mathlib.Omega.{arith}
 use lib.ListN.{length, take}
 use lib.Seq.{length-take-le}
@@ -14,15 +14,12 @@ use Rattle.lines.specs.contracts.Next as NextType
 use Rattle.base.specs.Choice.{cond_no}
 use Rattle.types.specs.declared.Run.{Run}
 use Rattle.types.specs.declared.Answer.{Answer}
-use Rattle.types.specs.declared.Answer.TheVariants.{Refused}
 use Rattle.types.specs.declared.Setup.{Setup}
-use Rattle.types.specs.declared.Head.{Head}
-use Rattle.model.specs.State.{State, After, state_of, run_from}
+use Rattle.model.specs.State.{State, After, state_of}
 use Rattle.model.specs.Opening.{opening}
 use Rattle.words.specs.declared.Numbers.{Numbers}
 use Rattle.words.specs.Events.{event_words, events_in, numbers_put}
 use Rattle.words.proofs.Single.{four-numbers}
-use Rattle.words.specs.Batches.{Worded}
 use Rattle.lines.specs.declared.Read.{Read}
 use Rattle.lines.specs.declared.Next.{Next}
 use Rattle.lines.specs.declared.Next.TheVariants.{Line, Unfinished}
@@ -30,39 +27,17 @@ use Rattle.lines.specs.Clauses.{Reading, no_setup, line, Put}
 use Rattle.lines.specs.Printout.{answer_form, printed_most}
 use Rattle.lines.specs.Splitting.{next_line}
 use Rattle.reader.specs.Lines.{reading, skimmed, opening_or}
-use Rattle.reader.proofs.Skimming.{no-opening, some-opening, skims-opening, skims-plain}
+use Rattle.reader.proofs.Skimming.{some-opening, skims-opening, skims-plain}
 use Rattle.printout.specs.declared.Served.{Served}
 use Rattle.printout.specs.Printout.{Standing, leaving, Reply, stays_open, opening_reply, read_reply, reply, line_reply, printed_line}
 use Rattle.printout.specs.Clauses.{place_at, Advance, Begun, fed}
-use Rattle.driver.specs.Inner.{session_from, replying, Passes, due_line, NotDue, Turns}
-use Rattle.driver.specs.Batches.{read_numbers, gathered, NoOpening, replied, Gathers, worded, words_answered, printed_up_to, advanced}
+use Rattle.driver.specs.Inner.{replying, Passes, due_line, NotDue, Turns}
+use Rattle.driver.specs.Batches.{read_numbers, gathered, NoOpening, replied, Gathers, words_answered, advanced}
 use Rattle.driver.proofs.Serving.{turn-passed}
 use Rattle.driver.proofs.Gathering.{plain-read}
 use Rattle.driver.proofs.Batching.{batched}
 
 -- ---- what the simulator left, and what was printed
-
--- of a batch
-pub batch-passes : (opened : Bool) (k : ℕ) (ws : List ℕ) (s : State) (out : List ℕ) (head : Head) (clocks views tally network ws' : List ℕ) (p : ℕ) (after : List ℕ)
-    → worded (state_of (run_from head clocks views) tally network) ws' ≡ words_answered opened ws s → length ws' ≡ length ws
-    → Put (printed_up_to opened ws' (events_in ws')) out p after
-    → Passes k (advanced opened (events_in ws) (words_answered opened ws s)) out tally network
-    (record { session = session_from opened head clocks views; late = false; used = k; printed = p }) after
-batch-passes opened k ws s out head clocks views tally network ws' p after e l w = record {
-  used = refl;
-  late = refl;
-  state = ap (λ (z : Worded). leaving opened z.state) e;
-  put =
-      subst (λ (z : Worded). Put (printed_up_to opened z.words (events_in ws)) out p after) e
-      (subst (λ (z : ℕ). Put (printed_up_to opened ws' z) out p after) (ap (λ (z : ℕ). z / event_words) l) w);
-}
-
--- of a line that may be an opening, and is none
-pub none_passes : (opened : Bool) (k : ℕ) (u : Setup) (out : List ℕ) (run : Run) (tally network : List ℕ) (p : ℕ) (after : List ℕ)
-    → u.plan.n ≡ 0 → Put (line (answer_form (Refused 1))) out p after
-    → Passes k (replying (reply (opening_or u) (leaving opened (state_of run tally network)))) out tally network
-    (record { session = record { opened = opened; run = run }; late = false; used = k; printed = p }) after
-none_passes opened k u out run tally network p after h w = rw (no-opening u h) (record { used = refl; late = refl; state = refl; put = w })
 
 -- of an opening
 pub opening-passes : (opened : Bool) (k : ℕ) (u : Setup) (s : State) (out : List ℕ) (o : Bool) (run : Run) (tally network : List ℕ) (answer : Answer) (p : ℕ) (after : List ℕ)

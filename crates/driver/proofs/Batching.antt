@@ -62,13 +62,6 @@ module _ (opened : Bool) (ws : List ℕ) {out : List ℕ} {i at : ℕ} {e : List
   pub answer-told : length f ≡ length (mid_of at (length e - at) e) → Told (printed_up_to opened ws) out (i + 1) (at + m) (put_mid at (length e - at) e f)
   answer-told same = told_more t l h w (answer-length a) (ap (printed_up_to opened ws) (add-one i) ∙ ap (λ (z : Answer). printed_up_to opened ws i ++ line (answer_form z)) (sym q)) same
 
--- an answer that is no refusal is printed as it is
-pub ticks-kept : (held : ℕ) (a : Answer) → ((r : ℕ) → a ≡ Refused r → ⊥) → a ≡ ticks_printed held a
-unfolding ticks_printed
-ticks-kept held (Answer.Done done left) o = refl
-ticks-kept held (Answer.Stopped done left r) o = refl
-ticks-kept held (Refused r) o = absurd (o r refl)
-
 -- ---- one line more
 
 -- what is printed for an event in an open run, from its words

@@ -80,18 +80,6 @@ gathered-more [] r = refl
 gathered-more (k ∷ rs) r =
     let z : Numbers = read_numbers k in ap (λ (l : List ℕ). z.form ∷ z.kind ∷ z.view ∷ z.processor ∷ l) (gathered-more rs r)
 
-pub gathers-none : (s : List ℕ) (most : ℕ) (batch : List ℕ) → Gathers s most 0 0 batch
-gathers-none s most batch = record {
-  within = omega arith;
-  few = omega arith;
-  each = omega arith;
-  reads = [];
-  many = refl;
-  plain = tt;
-  words = refl;
-  feeds = λ x. refl;
-}
-
 pub gathers-more : (s : List ℕ) (most count used : ℕ) (batch : List ℕ) (n : Noted) → Gathers s most count used batch → count < most → most ≤ events_in batch
     → Notes (mid_of used (length s - used) s) n → Gathers s most (count + 1) (used + n.used) (numbers_put batch count n.numbers)
 gathers-more s most count used batch n g l room a = record {

@@ -1,6 +1,5 @@
 -- Lines answered one after the other. Assumes nothing.
 use mathlib.Core.Path.{◌≡◌, refl, sym, ap, ◌∙◌, subst}
-use mathlib.Core.Logic.{◌⊎◌}
 use mathlib.Core.Bool.{Bool, true, false}
 use Prim.Native.Nat.{ℕ, ◌+◌, ◌≤◌, ◌<◌}
 use native.Mathlib.Omega.{arith}
@@ -11,8 +10,7 @@ use lib.Seq.{length-take-le, take_all}
 use borrow.Author.Tests.{le-leb, lt-leb}
 use Rattle.base.specs.Choice.{cond_yes, cond_no}
 use Rattle.lines.specs.declared.Next.{Next}
-use Rattle.lines.specs.declared.Next.TheVariants.{Line, Long, Unfinished, Endless}
-use Rattle.lines.specs.Printout.{printed_most}
+use Rattle.lines.specs.declared.Next.TheVariants.{Line, Long, Endless}
 use Rattle.lines.specs.Splitting.{line_most, before_newline, next_line}
 use Rattle.lines.proofs.Splitting.{found}
 use Rattle.lines.proofs.Putting.{put-none, put_then, put-inside}
@@ -100,17 +98,6 @@ feeds-endless x s out n late q p begun b =
     (feeds-at x begun s out x true 0 out (record { place = within (place_at x begun) s; text = [] }) (fed-within (place_at x begun) s f.0) refl l (put-none out))
 
 -- ---- turns
-
--- nothing can be done with the bytes at hand
-pub turn-none : (x : Standing) (late : Bool) (bytes out tally network : List ℕ) (s : Session) → x ≡ standing_of s tally network
-    → (length out < 0 + printed_most) ⊎ (next_line bytes ≡ Unfinished)
-    → Turns x late bytes out tally network (record { session = s; late = late; used = 0; printed = 0 }) out
-turn-none x late bytes out tally network s e h = record {
-  within = omega arith;
-  room = omega arith;
-  feeds = λ begun b. subst (λ (y : Standing). Feeds x begun [] out y late 0 out) e (feeds-none x begun out late b);
-  stops = λ z. h;
-}
 
 -- lines were used
 pub turn-passed : (x : Standing) (late : Bool) (bytes out tally network : List ℕ) (r : Served) (after : List ℕ) (used : ℕ) (f : Advance)

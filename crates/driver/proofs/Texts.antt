@@ -1,5 +1,5 @@
 -- Texts printed into lent bytes. Assumes nothing.
-use Rattle.std.specs.Prelude.{Err, Ok}
+use Rattle.std.specs.Prelude.{Ok}
 use mathlib.Core.Path.{◌≡◌, refl, sym, ap, ◌∙◌, subst}
 use mathlib.Core.Bool.{Bool, true, false, ◌||◌, cond}
 use Prim.Native.Nat.{ℕ, ◌+◌, ◌-◌, ◌*◌, ◌≤◌, ◌<◌}
@@ -9,8 +9,7 @@ use mathlib.Core.List.{List, [], ◌∷◌, ◌++◌}
 use lib.ListN.{length}
 use borrow.Rule.Slice.PartMut.{mid_of, put_mid, same_len_mid}
 use lib.Dec.{ltb}
-use borrow.Author.Tests.{lt-ltb, le-ltb}
-use Rattle.base.specs.Choice.{cond_yes, cond_no}
+use borrow.Author.Tests.{lt-ltb}
 use Rattle.types.specs.declared.Answer.{Answer}
 use Rattle.types.specs.declared.Run.{Run}
 use Rattle.types.specs.Quantities.{table_clocks}
@@ -19,12 +18,10 @@ use Rattle.lines.specs.Clauses.{line, Put}
 use Rattle.lines.specs.Printout.{answer_form, processor_form, printed_most}
 use Rattle.lines.specs.Splitting.{remainder}
 use Rattle.lines.proofs.Printing.{answer-length, processor-length}
-use Rattle.lines.proofs.Putting.{left_over, put-inside, put-none, put-part, too_few, put-prints}
+use Rattle.lines.proofs.Putting.{left_over, put-part, put-prints}
 use Rattle.printout.specs.declared.Session.{Session}
-use Rattle.printout.specs.declared.Served.{Served}
-use Rattle.printout.specs.Printout.{Standing, leaving, standing_of, line_reply, printed_line, processor_lines, closing, printed_from}
-use Rattle.printout.specs.Clauses.{AnswersLine, Begun, closing_most, Closes}
-use Rattle.driver.specs.Inner.{replying, Passes}
+use Rattle.printout.specs.Printout.{leaving, processor_lines, closing, printed_from}
+use Rattle.printout.specs.Clauses.{Begun, closing_most, Closes}
 
 -- ---- what has room
 
@@ -38,9 +35,6 @@ processor-room p view clock out h = omega (arith, processor-length p view clock)
 
 pub put-yes : (t : Bool) (words out : List ℕ) (k : ℕ) (after : List ℕ) → t ≡ true → Put words out k after → Put (cond t words []) out k after
 put-yes t words out k after e p = rw e p
-
-pub put-no : (t : Bool) (words out : List ℕ) → t ≡ false → Put (cond t words []) out 0 out
-put-no t words out e = rw e (put-none out)
 
 -- ---- lines one behind the other, each into the bytes that the last ones left
 
@@ -70,9 +64,6 @@ module _ {text : ℕ → List ℕ} {out : List ℕ} {p at : ℕ} {e : List ℕ} 
           few = omega (arith, t.few, w.bytes);
           same = same_len_mid at (length e - at) e f q ∙ t.same;
         }
-
-pub told_none : {text : ℕ → List ℕ} (out : List ℕ) → text 0 ≡ [] → Told text out 0 0 out
-told_none out e = record { put = rw e (put-none out); few = omega arith; same = refl }
 
 pub told-all : (text : ℕ → List ℕ) (out : List ℕ) (most p at : ℕ) (e : List ℕ) → (p ≤ most) × Told text out p at e → most ≤ p → Put (text most) out at e
 told-all text out most p at e t h = let q : p ≡ most = omega (arith, t.0) in subst (λ (k : ℕ). Put (text k) out at e) q t.1.put
@@ -108,26 +99,7 @@ closing-text s x (c ∷ begun) true rest b = refl
 closing-text s x begun false [] b = rw b refl
 closing-text s x begun false (c ∷ rest) b = let l : 0 < length (c ∷ rest) = omega arith in let h : ltb 0 (length (c ∷ rest)) ≡ true = lt-ltb _ _ l in rw (b, h) refl
 
--- ---- one line
-
-pub line-few : (s : List ℕ) (x : Standing) (out : List ℕ) → length out < printed_most → AnswersLine s x out x (Err 1) out
-line-few s x out h = (cond_yes _ _ _ _ (lt-ltb _ _ h) refl, too_few printed_most (printed_line (line_reply s x)) out h)
-
-pub line-answered : (s : List ℕ) (x : Standing) (out tally network : List ℕ) (r : Served) (after : List ℕ) → printed_most ≤ length out
-    → Passes (length s + 1) (replying (line_reply s x)) out tally network r after
-    → AnswersLine s x out (standing_of r.session tally network) (Ok r.printed) after
-line-answered s x out tally network r after h p =
-    (cond_no _ _ _ _ (le-ltb _ _ h) p.state, put-prints printed_most (printed_line (line_reply s x)) out r.printed after h p.put)
-
 -- ---- all of the end
-
-pub put-closing : (s : Session) (out : List ℕ) (k : ℕ) (after : List ℕ) → s.opened ≡ true → Put (processor_lines s.run table_clocks) out k after → Put (closing s) out k after
-unfolding closing
-put-closing s out k after e p = rw e p
-
-pub put-unopened : (s : Session) (out : List ℕ) → s.opened ≡ false → Put (closing s) out 0 out
-unfolding closing
-put-unopened s out e = rw e (put-none out)
 
 -- the line that is left has room
 pub left-most : (t : Bool) (out : List ℕ) (k : ℕ) (after : List ℕ) → Put (left_text t) out k after → k ≤ printed_most
@@ -141,14 +113,6 @@ left-inside t out k e p h l = omega (arith, left-most t out k e p)
 pub closing-room : (t : Bool) (out : List ℕ) (k : ℕ) (e : List ℕ) → Put (left_text t) out k e → closing_most ≤ length out → length e ≡ length out
     → table_clocks * printed_most ≤ length (mid_of k (length e - k) e)
 closing-room t out k e p h l = omega (arith, left-most t out k e p, left_over k e)
-
-pub closing-fits : (t : Bool) (out : List ℕ) (k : ℕ) (e words : List ℕ) (m : ℕ) (f : List ℕ) → Put (left_text t) out k e → closing_most ≤ length out → length e ≡ length out
-    → Put words (mid_of k (length e - k) e) m f → length f ≡ length (mid_of k (length e - k) e) → k + m ≤ length out
-closing-fits t out k e words m f p h l q n =
-    omega (arith, left-inside t out k e p h l, left_over k e, put-inside words (mid_of k (length e - k) e) m f q n)
-
-pub closes-few : (s : Session) (late : Bool) (rest out : List ℕ) → length out < closing_most → Closes s late rest out (Err 1) out
-closes-few s late rest out h x begun b = too_few closing_most (printed_from (leaving s.opened (with_run s.run x)) (remainder (begun ++ rest))) out h
 
 pub closes : (s : Session) (late : Bool) (rest out : List ℕ) (k : ℕ) (e : List ℕ) (m : ℕ) (f : List ℕ) → closing_most ≤ length out
     → Put (left_text (late || ltb 0 (length rest))) out k e → k ≤ length e → Put (closing s) (mid_of k (length e - k) e) m f

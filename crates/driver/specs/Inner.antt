@@ -1,7 +1,5 @@
 -- What the driver's own functions hand to each other.
 use Rattle.std.specs.Prelude.{ℕ, ◌+◌, ◌≤◌, ◌<◌, ◌≡◌, ◌⊎◌, Bool, true, false, cond, List, [], length, take, drop, ltb}
-use Rattle.types.specs.declared.Head.{Head}
-use Rattle.model.specs.State.{run_from}
 use Rattle.lines.specs.declared.Next.{Next}
 use Rattle.lines.specs.declared.Next.TheVariants.{Line, Unfinished}
 use Rattle.lines.specs.Clauses.{Put}
@@ -13,17 +11,9 @@ use Rattle.printout.specs.declared.Served.{Served}
 use Rattle.printout.specs.Printout.{Standing, standing_of, Reply, refused_reply, printed_line}
 use Rattle.printout.specs.Clauses.{place_at, Advance, Begun, Feeds}
 
--- ---- the session in parts: the run's tables are lent beside its head
-
-abbrev pub session_from : Bool → Head → List ℕ → List ℕ → Session
-session_from opened head clocks views = record { opened = opened; run = run_from head clocks views }
-
-abbrev pub standing_from : Bool → Head → List ℕ → List ℕ → List ℕ → List ℕ → Standing
-standing_from opened head clocks views tally network = standing_of (session_from opened head clocks views) tally network
-
--- what bytes left, with the tables as they were left
-abbrev pub served_as : Turned → List ℕ → List ℕ → Served
-served_as r clocks views = record { session = session_from r.opened r.head clocks views; late = r.late; used = r.used; printed = r.printed }
+-- what bytes left, with the session as it was left
+abbrev pub served_as : Session → Turned → Served
+served_as s r = record { session = s; late = r.late; used = r.used; printed = r.printed }
 
 -- ---- what is owed
 
@@ -39,10 +29,9 @@ pub record Passes (k : ℕ) (f : Advance) (out tally network : List ℕ) (r : Se
   pub put : Put f.text out r.printed after
 
 -- that a line that is too long, e of its bytes being at hand, was refused
-abbrev pub Refuses : ℕ → Bool → Head → List ℕ → Turned → List ℕ → Type 0
-Refuses e opened head out r after =
-    (clocks views tally network : List ℕ)
-    → Passes (e + 1) (replying (refused_reply 1 (standing_from opened head clocks views tally network))) out tally network (served_as r clocks views) after
+abbrev pub Refuses : ℕ → List ℕ → Turned → List ℕ → Type 0
+Refuses e out r after =
+    (s : Session) (tally network : List ℕ) → Passes (e + 1) (replying (refused_reply 1 (standing_of s tally network))) out tally network (served_as s r) after
 
 -- the next line, if it is to be answered: nothing of it was passed over, and its answer has room
 unfoldable pub due_line : Bool → List ℕ → ℕ → Next
@@ -61,6 +50,6 @@ pub record Turns (x : Standing) (late : Bool) (bytes out tally network : List �
   pub stops : r.used ≡ 0 → (length out < r.printed + printed_most) ⊎ (next_line (drop r.used bytes) ≡ Unfinished)
 
 -- that such a turn moved no run, whichever it is
-abbrev pub TurnsAside : Bool → Head → Bool → List ℕ → List ℕ → Turned → List ℕ → Type 0
-TurnsAside opened head late bytes out r after =
-    (clocks views tally network : List ℕ) → Turns (standing_from opened head clocks views tally network) late bytes out tally network (served_as r clocks views) after
+abbrev pub TurnsAside : Bool → List ℕ → List ℕ → Turned → List ℕ → Type 0
+TurnsAside late bytes out r after =
+    (s : Session) (tally network : List ℕ) → Turns (standing_of s tally network) late bytes out tally network (served_as s r) after

@@ -1,6 +1,6 @@
 // Lines in a batch: read as words, applied as words, printed from the words. The simulator takes its events as words, since C lends them so; a form is then a number.
 ghost use Rattle.std.specs.Prelude.{◌≡◌, false, ◌*◌, ◌≤◌, ◌<◌, length, IfSome};
-ghost use Rattle.model.specs.State.{state_of, run_from};
+ghost use Rattle.model.specs.State.{state_of};
 ghost use Rattle.lines.specs.Printout.{printed_most};
 ghost use Rattle.lines.specs.Clauses.{Put};
 ghost use Rattle.liveness.specs.Promises.{answer_from};
@@ -10,7 +10,7 @@ ghost use Rattle.driver.specs.Batches.{read_numbers, Notes, Gathers, lines_most,
 
 use crate::{Gathered, Noted, PRINTED_MOST, printing};
 use lines::{Next, Read};
-use types::{Answer, Head};
+use types::{Answer, Run};
 use words::Numbers;
 
 // The most lines of a batch, and its words.
@@ -79,20 +79,16 @@ pub(crate) fn read_batch(rest: &[u8], most: usize, batch: &mut [u64]) -> Gathere
 // The events of the words, where a run is open.
 pub(crate) fn apply_batch(
     opened: bool,
-    head: Head,
-    clocks: &mut [u64; 64],
-    views: &mut [u64; 64],
+    run: &mut Run,
     tally: &mut [u64],
     network: &mut [u64],
     batch: &mut [u64],
-) -> Head
-    ensures { worded (state_of (run_from result clocks.new views.new) tally.new network.new) batch.new
-        ≡ words_answered opened batch.old (state_of (run_from head clocks.old views.old) tally.old network.old) }
+)
+    ensures { worded (state_of run.new tally.new network.new) batch.new
+        ≡ words_answered opened batch.old (state_of run.old tally.old network.old) }
 {
     if opened {
-        simulator::apply_events(head, clocks, views, tally, network, batch)
-    } else {
-        head
+        simulator::apply_events(run, tally, network, batch);
     }
 }
 
@@ -106,6 +102,7 @@ fn ends_ticks(check: u64) -> bool
 }
 
 // The printed answer to ticks.
+#[tactic(auto, unfolding(printout::specs::Printout::ticks_printed))]
 fn print_ticks(held: usize, answer: Answer) -> Answer
     ensures { result ≡ ticks_printed held answer }
 {

@@ -6,13 +6,10 @@ mod printing;
 mod replies;
 mod turns;
 
-ghost use Rattle.std.specs.Prelude.{◌≡◌};
 ghost use Rattle.printout.specs.Printout.{standing_of};
 ghost use Rattle.printout.specs.Clauses.{AnswersLine, Serves, Closes};
-ghost use Rattle.driver.specs.Inner.{session_from};
 
 use printout::{Served, Session};
-use types::Head;
 use words::Numbers;
 
 // The bytes that the longest answer has.
@@ -42,29 +39,17 @@ pub(crate) struct Gathered {
     pub(crate) used: usize,
 }
 
-// What bytes of an input left, the run's tables being lent: as `Served`. `opened` and `late` are where the program stands, whatever the other fields are.
+// What bytes of an input left, the session being lent: as `Served` but for it.
 #[derive(Clone, Copy)]
 pub(crate) struct Turned {
-    pub(crate) opened: bool,
-    pub(crate) head: Head,
     pub(crate) late: bool,
     pub(crate) used: usize,
     pub(crate) printed: usize,
 }
 
-// The session put together again, from four parts: no conversion of one value.
-fn gather(opened: bool, head: Head, clocks: &[u64; 64], views: &[u64; 64]) -> Session
-    ensures { result ≡ session_from opened head clocks.now views.now }
-{
-    Session {
-        opened,
-        run: types::gather(head, clocks, views),
-    }
-}
-
 // One line, without its newline, is answered.
 pub fn answer_line(
-    session: Session,
+    mut session: Session,
     line: &[u8],
     tally: &mut [u64],
     network: &mut [u64],
@@ -79,28 +64,16 @@ pub fn answer_line(
             written: Err(1),
         };
     }
-    let run = session.run;
-    let mut clocks = run.clocks;
-    let mut views = run.views;
-    let turn = replies::answer_whole(
-        session.opened,
-        types::head_of(run),
-        line,
-        &mut clocks,
-        &mut views,
-        tally,
-        network,
-        out,
-    );
+    let turn = replies::answer_whole(&mut session, line, tally, network, out);
     Replied {
-        session: gather(turn.opened, turn.head, &clocks, &views),
+        session,
         written: Ok(turn.printed),
     }
 }
 
 // The lines that end within the bytes at hand are answered, as many as have room for their answers.
 pub fn answer_lines(
-    session: Session,
+    mut session: Session,
     late: bool,
     bytes: &[u8],
     tally: &mut [u64],
@@ -110,24 +83,10 @@ pub fn answer_lines(
     ensures { Serves (standing_of session tally.old network.old) late bytes.now out.old
         tally.new network.new result out.new }
 {
-    let run = session.run;
-    let mut clocks = run.clocks;
-    let mut views = run.views;
     let mut batch = [0u64; batches::BATCH_WORDS];
-    let turn = turns::answer_turns(
-        session.opened,
-        types::head_of(run),
-        late,
-        bytes,
-        &mut batch,
-        &mut clocks,
-        &mut views,
-        tally,
-        network,
-        out,
-    );
+    let turn = turns::answer_turns(&mut session, late, bytes, &mut batch, tally, network, out);
     Served {
-        session: gather(turn.opened, turn.head, &clocks, &views),
+        session,
         late: turn.late,
         used: turn.used,
         printed: turn.printed,
@@ -142,6 +101,6 @@ pub fn finish(session: Session, late: bool, rest: &[u8], out: &mut [u8]) -> Resu
         return Err(1);
     }
     let at = printing::print_left(late, rest.len(), out);
-    let closing = printing::print_closing(session, &mut out[at..]);
+    let closing = printing::print_closing(&session, &mut out[at..]);
     Ok(at + closing)
 }

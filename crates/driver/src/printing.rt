@@ -34,9 +34,9 @@ fn print_processor(plan: Plan, faulty: u64, p: u64, view: u64, clock: u64, out: 
 }
 
 // The lines of all correct processors.
-fn print_processors(run: Run, out: &mut [u8]) -> usize
+fn print_processors(run: &Run, out: &mut [u8]) -> usize
     requires { table_clocks * printed_most ≤ length out.old }
-    ensures { Put (processor_lines run table_clocks) out.old result out.new }
+    ensures { Put (processor_lines run.now table_clocks) out.old result out.new }
 {
     let mut at = 0;
     for p in 0..64 {
@@ -53,12 +53,13 @@ fn print_processors(run: Run, out: &mut [u8]) -> usize
 }
 
 // What comes at the end.
-pub(crate) fn print_closing(session: Session, out: &mut [u8]) -> usize
+#[tactic(auto, unfolding(printout::specs::Printout::closing))]
+pub(crate) fn print_closing(session: &Session, out: &mut [u8]) -> usize
     requires { table_clocks * printed_most ≤ length out.old }
-    ensures { Put (closing session) out.old result out.new }
+    ensures { Put (closing session.now) out.old result out.new }
 {
     if session.opened {
-        print_processors(session.run, out)
+        print_processors(&session.run, out)
     } else {
         0
     }

@@ -12,23 +12,22 @@ use Rattle.base.specs.Choice.{cond_yes, cond_no, or-first, or-second, or-neither
 use Rattle.base.specs.Tests.{T_true, T_false, by_cond}
 use Rattle.types.specs.declared.Run.{Run}
 use Rattle.types.specs.declared.Event.{Event}
+use Rattle.types.specs.declared.Answer.{Answer}
 use Rattle.types.specs.declared.Answer.TheVariants.{Refused}
 use Rattle.types.specs.declared.Setup.{Setup}
-use Rattle.types.specs.declared.Head.{Head}
-use Rattle.types.specs.declared.AppliedHead.{AppliedHead}
 use Rattle.types.specs.Messages.{lacks_form}
-use Rattle.model.specs.State.{State, After, state_of, run_from, head_of, check_of, ticks_of, accepted, refused, done, left_behind}
+use Rattle.model.specs.State.{State, After, state_of, check_of, ticks_of, accepted, refused, done}
 use Rattle.model.specs.Opening.{opened, opening_checks, opening}
 use Rattle.model.specs.Events.{checks, applied}
 use Rattle.liveness.specs.Promises.{answer_from}
 use Rattle.liveness.proofs.Judging.{by-judged}
 use Rattle.liveness.proofs.Promises.{answers-told, refused-stays}
+use Rattle.simulator.specs.Inner.{left_as}
 use Rattle.simulator.specs.Clauses.{AppliesAll}
 use Rattle.words.specs.Events.{event_of}
 use Rattle.words.specs.Batches.{Worded, answered, words_applied}
-use Rattle.fever.specs.Layout.{table_in, setup_length, setup_in, run_length, settled_word, clocks_word, views_word, run_in, run_over, OfNoRun, neither_settled}
+use Rattle.fever.specs.Layout.{setup_length, setup_in, run_length, settled_word, run_in, run_over, OfNoRun, neither_settled}
 use Rattle.fever.specs.Clauses.{Lent, lent_of, lent_state, Called, called, run_left, told, opening_words, applying_words, called_all, told_all, applying_all}
-use Rattle.types.specs.Runs.{head-back}
 use Rattle.fever.proofs.ReadBack.{run-words-back}
 
 -- of two, the one that may pass
@@ -45,24 +44,13 @@ unaccepted e s some' none' =
     let is : answer_from k d h ≡ Refused k = sym (cond_no (eqb k 0) (Refused k) _ _ (ne_eqb k 0 ne) (cond_yes (eqb d 0) (Refused k) _ _ (eq-eqb d 0 none') refl)) in
     ap accepted (sym (answers-told e s) ∙ is)
 
--- what stood in the run's words, as it was lent: its head and its two tables
-pub record Parts (ws : List ℕ) (h : Head) (clocks views : List ℕ) : Type 0 where
-  pub head : h ≡ head_of (run_in ws)
-  pub clocks_in : clocks ≡ table_in clocks_word ws
-  pub views_in : views ≡ table_in views_word ws
-
-pub parts_whole : (ws : List ℕ) (h : Head) (clocks views : List ℕ) → Parts ws h clocks views → run_from h clocks views ≡ run_in ws
-unfolding run_in
-parts_whole ws h clocks views p = rw (p.head, p.clocks_in, p.views_in) (head-back (run_in ws))
-
 -- what a function left, told in words: the check it answered, and the run's words written so
-pub record Tells (before : List ℕ) (o : AppliedHead) (clocks views : List ℕ) (r : ℕ) (ws : List ℕ) : Type 0 where
-  pub check : r ≡ check_of o.answer
-  pub words : ws ≡ run_left before o.answer (run_from o.head clocks views)
+pub record Tells (before : List ℕ) (a : Answer) (g : Run) (r : ℕ) (ws : List ℕ) : Type 0 where
+  pub check : r ≡ check_of a
+  pub words : ws ≡ run_left before a g
 
-handed : (before ws t n clocks views : List ℕ) (o : AppliedHead) (b : After) (r : ℕ) → left_behind o clocks views t n ≡ b → Tells before o clocks views r ws
-    → called r (lent_of ws t n) ≡ told before b
-handed before ws t n clocks views o b r h w = rw (w.check, w.words) (ap (told before) h)
+handed : (before ws t n : List ℕ) (a : Answer) (g : Run) (b : After) (r : ℕ) → left_as g a t n ≡ b → Tells before a g r ws → called r (lent_of ws t n) ≡ told before b
+handed before ws t n a g b r h w = rw (w.check, w.words) (ap (told before) h)
 
 -- ---- opening
 
@@ -80,14 +68,13 @@ pub opening-run-short : (setup : List ℕ) (x : Lent) → length x.run < run_len
 unfolding opening_words
 opening-run-short setup x l = cond_yes _ _ _ _ (or-second (ltb (length setup) setup_length) _ (lt-ltb _ _ l)) refl
 
-pub opening-done : (setup : List ℕ) (x : Lent) (u : Setup) (g : Head) (c v c' v' : List ℕ) (o : AppliedHead) (r : ℕ) (ws t n : List ℕ)
-    → setup_length ≤ length setup → run_length ≤ length x.run → u ≡ setup_in setup → Parts x.run g c v
-    → left_behind o c' v' t n ≡ opening u (state_of (run_from g c v) x.tally x.network) → Tells x.run o c' v' r ws
-    → called r (lent_of ws t n) ≡ opening_words setup x
+pub opening-done : (setup : List ℕ) (x : Lent) (u : Setup) (g g' : Run) (a : Answer) (r : ℕ) (ws t n : List ℕ)
+    → setup_length ≤ length setup → run_length ≤ length x.run → u ≡ setup_in setup → g ≡ run_in x.run
+    → left_as g' a t n ≡ opening u (state_of g x.tally x.network) → Tells x.run a g' r ws → called r (lent_of ws t n) ≡ opening_words setup x
 unfolding opening_words
-opening-done setup x u g c v c' v' o r ws t n l k e p h w =
+opening-done setup x u g g' a r ws t n l k e p h w =
     cond_no _ _ _ _ (or-neither _ _ (le-ltb _ _ l) (le-ltb _ _ k))
-    (handed x.run ws t n c' v' o (opening (setup_in setup) (lent_state x)) r (h ∙ ap₂ (λ (z : Setup) (y : Run). opening z (state_of y x.tally x.network)) e (parts_whole x.run g c v p)) w)
+    (handed x.run ws t n a g' (opening (setup_in setup) (lent_state x)) r (h ∙ ap₂ (λ (z : Setup) (y : Run). opening z (state_of y x.tally x.network)) e p) w)
 
 -- ---- an event
 
@@ -126,19 +113,19 @@ applying-done e x c k s h = h ∙ applying-told e x k (le-ltb _ _ s)
 
 -- ---- what its words say when it has been applied
 
-module _ (x : Lent) (g : Head) (c v : List ℕ) (p : Parts x.run g c v) (form kind view processor : ℕ) (h : Head) (c' v' t n ws : List ℕ)
-    (applies : AppliesAll (form ∷ kind ∷ view ∷ processor ∷ []) (state_of (run_from g c v) x.tally x.network) (state_of (run_from h c' v') t n) ws) where
+module _ (x : Lent) (g : Run) (p : g ≡ run_in x.run) (form kind view processor : ℕ) (g' : Run) (t n ws : List ℕ)
+    (applies : AppliesAll (form ∷ kind ∷ view ∷ processor ∷ []) (state_of g x.tally x.network) (state_of g' t n) ws) where
   abbrev e : Event
   e = event_of form kind view processor
 
   abbrev a : After
   a = applied e (lent_state x)
 
-  worded : record { state = state_of (run_from h c' v') t n; words = ws } ≡ answered form a (record { state = a.state; words = [] })
+  worded : record { state = state_of g' t n; words = ws } ≡ answered form a (record { state = a.state; words = [] })
   unfolding words_applied
-  worded = applies ∙ ap (λ (r : Run). words_applied (form ∷ kind ∷ view ∷ processor ∷ []) (state_of r x.tally x.network)) (parts_whole x.run g c v p)
+  worded = applies ∙ ap (λ (r : Run). words_applied (form ∷ kind ∷ view ∷ processor ∷ []) (state_of r x.tally x.network)) p
 
-  state-is : state_of (run_from h c' v') t n ≡ a.state
+  state-is : state_of g' t n ≡ a.state
   state-is = ap (λ (y : Worded). y.state) worded
 
   check-is : get_or ws 1 0 ≡ check_of a.answer
@@ -155,7 +142,7 @@ module _ (x : Lent) (g : Head) (c v : List ℕ) (p : Parts x.run g c v) (form ki
       ∙ ap (λ (l : List ℕ). called (check_of a.answer) (lent_of l a.state.tally a.state.network)) (cond_no (accepted a.answer) x.run _ x.run no refl))
 
   -- written in any case: where it was refused they are the same
-  pub event-done : (run : List ℕ) → run_length ≤ length x.run → get_or x.run settled_word 0 ≤ 1 → run ≡ run_over x.run (run_from h c' v')
+  pub event-done : (run : List ℕ) → run_length ≤ length x.run → get_or x.run settled_word 0 ≤ 1 → run ≡ run_over x.run g'
       → called (get_or ws 1 0) (lent_of run t n) ≡ told x.run a
   event-done run k s w =
       let same : run_over x.run a.state.run ≡ run_left x.run a.answer a.state.run =
@@ -184,10 +171,10 @@ pub all_told : (events : List ℕ) (x : Lent) → run_length ≤ length x.run �
 unfolding applying_all
 all_told events x k s = cond_no _ _ _ _ (le-ltb _ _ k) (cond_no _ _ _ _ s refl)
 
-pub all_done : (events : List ℕ) (x : Lent) (g h : Head) (c v c' v' t n ws run : List ℕ) → run_length ≤ length x.run → get_or x.run settled_word 0 ≤ 1
-    → Parts x.run g c v → AppliesAll events (state_of (run_from g c v) x.tally x.network) (state_of (run_from h c' v') t n) ws
-    → run ≡ run_over x.run (run_from h c' v') → called_all 0 (lent_of run t n) ws ≡ applying_all events x
-all_done events x g h c v c' v' t n ws run k s p applies w =
+pub all_done : (events : List ℕ) (x : Lent) (g g' : Run) (t n ws run : List ℕ) → run_length ≤ length x.run → get_or x.run settled_word 0 ≤ 1
+    → g ≡ run_in x.run → AppliesAll events (state_of g x.tally x.network) (state_of g' t n) ws → run ≡ run_over x.run g'
+    → called_all 0 (lent_of run t n) ws ≡ applying_all events x
+all_done events x g g' t n ws run k s p applies w =
     ap (λ (l : List ℕ). called_all 0 (lent_of l t n) ws) w
-    ∙ ap (told_all x.run) (applies ∙ ap (λ (r : Run). words_applied events (state_of r x.tally x.network)) (parts_whole x.run g c v p))
+    ∙ ap (told_all x.run) (applies ∙ ap (λ (r : Run). words_applied events (state_of r x.tally x.network)) p)
     ∙ all_told events x k (le-ltb _ _ s)

@@ -11,9 +11,8 @@ use lib.ListN.{length, get_or}
 use borrow.Author.Tests.{lt-ltb, le-ltb}
 use Rattle.base.specs.Tests.{T_false}
 use Rattle.types.specs.declared.Form.{Form}
-use Rattle.types.specs.declared.Head.{Head}
 use Rattle.types.specs.declared.Run.{Run}
-use Rattle.model.specs.State.{State, state_in, run_from, head_of}
+use Rattle.model.specs.State.{State, state_in}
 use Rattle.model.specs.Checks.{Check, unsound, passed, refusal}
 use Rattle.model.specs.Carrying.{target_outside, CarriedOver, carried_over}
 use Rattle.liveness.specs.Carrying.{HeldAlike}
@@ -24,16 +23,14 @@ use Rattle.fever.specs.Layout.{run_length, run_in, settled_word, neither_settled
 use Rattle.fever.specs.Clauses.{Lent}
 use Rattle.fever.specs.Carrying.{lent_in, called_carry, carrying_words, CarriesWords}
 use Rattle.fever.specs.Promises.{on_network, CarriedWordsAlike, CarriedGoesOn, CarriedWordsBack, RefusedCarryKeeps}
-use Rattle.fever.proofs.Calling.{Parts, parts_whole}
 
 module _ (from to : Form) (x : Lent) (target : List ℕ) where
   abbrev outside : Bool
   outside = target_outside to (run_in x.run).plan (run_in x.run).held (length target)
 
-  -- it is asked of the head
-  pub outside-head : (h : Head) → h ≡ head_of (run_in x.run) → (b c : Bool)
-      → b ≡ target_outside to h.plan h.held (length target) → b ≡ c → outside ≡ c
-  outside-head h e b c is y = sym (is ∙ ap (λ (z : Head). target_outside to z.plan z.held (length target)) e) ∙ y
+  -- it is asked of the run that was read
+  pub outside-run : (g : Run) → g ≡ run_in x.run → (b c : Bool) → b ≡ target_outside to g.plan g.held (length target) → b ≡ c → outside ≡ c
+  outside-run g e b c is y = sym (is ∙ ap (λ (z : Run). target_outside to z.plan z.held (length target)) e) ∙ y
 
   pub carry-short : length x.run < run_length → called_carry 1 target ≡ carrying_words from to x target
   unfolding carrying_words
@@ -61,11 +58,11 @@ module _ (from to : Form) (x : Lent) (target : List ℕ) where
   by-target true o long sorted = rw (long, o) refl
   by-target false o long sorted = rw (long, o, sorted) refl
 
-  pub carry-told : run_length ≤ length x.run → get_or x.run settled_word 0 ≤ 1 → (h : Head) (c v : List ℕ) → Parts x.run h c v → (r : Result (Unit {0}) ℕ) (after : List ℕ)
-      → Carries to (state_in from (run_from h c v) x.tally x.network) target r after → called_carry (refusal r) after ≡ carrying_words from to x target
-  carry-told whole sorted h c v p r after carries =
-      ap₂ called_carry (ap refusal carries.0 ∙ refusal-passed (carried_over to (state_in from (run_from h c v) x.tally x.network) target).check) carries.1
-      ∙ ap (λ (z : Run). carried_over to (state_in from z x.tally x.network) target) (parts_whole x.run h c v p)
+  pub carry-told : run_length ≤ length x.run → get_or x.run settled_word 0 ≤ 1 → (g : Run) → g ≡ run_in x.run → (r : Result (Unit {0}) ℕ) (after : List ℕ)
+      → Carries to (state_in from g x.tally x.network) target r after → called_carry (refusal r) after ≡ carrying_words from to x target
+  carry-told whole sorted g p r after carries =
+      ap₂ called_carry (ap refusal carries.0 ∙ refusal-passed (carried_over to (state_in from g x.tally x.network) target).check) carries.1
+      ∙ ap (λ (z : Run). carried_over to (state_in from z x.tally x.network) target) p
       ∙ by-target outside refl (le-ltb _ _ whole) (le-ltb _ _ sorted)
 
 -- ---- what a call tells

@@ -9,19 +9,17 @@ use lib.Dec.{ltb}
 use lib.ListN.{length, get_or}
 use borrow.Author.Tests.{lt-ltb, le-ltb}
 use Rattle.base.specs.Choice.{cond_yes, or-second}
-use Rattle.types.specs.declared.Head.{Head}
 use Rattle.types.specs.declared.Run.{Run}
 use Rattle.types.specs.declared.Totals.{Totals}
-use Rattle.model.specs.State.{state_of, run_from}
+use Rattle.model.specs.State.{state_of}
 use Rattle.model.specs.Traffic.{totals}
 use Rattle.types.specs.Traffic.{count_numbers}
 use Rattle.writer.specs.Stamps.{Stamped}
 use Rattle.writer.proofs.Stamping.{written_then}
-use Rattle.fever.specs.Layout.{run_length, settled_word, OfNoRun, neither_settled}
+use Rattle.fever.specs.Layout.{run_length, settled_word, run_in, OfNoRun, neither_settled}
 use Rattle.fever.specs.Clauses.{Lent, lent_state}
 use Rattle.fever.specs.Traffic.{report_length, report_words, CalledReport, called_report, told_report, reporting}
 use Rattle.fever.proofs.Laying.{laid}
-use Rattle.fever.proofs.Calling.{Parts, parts_whole}
 
 -- ---- the words
 
@@ -53,10 +51,10 @@ module _ (x : Lent) (ws : List ℕ) where
     unfolding reporting
     report-is s = rw (le-ltb _ _ whole, le-ltb _ _ room, s) refl
 
-    pub report-told : get_or x.run settled_word 0 ≤ 1 → (h : Head) (c v : List ℕ) → Parts x.run h c v → (y : Result Totals ℕ)
-        → y ≡ totals (state_of (run_from h c v) x.tally x.network) → (r : CalledReport) → r ≡ told_report ws y → r ≡ reporting x ws
-    report-told s h c v p y e r told =
-        told ∙ ap (told_report ws) (e ∙ ap (λ (z : Run). totals (state_of z x.tally x.network)) (parts_whole x.run h c v p)) ∙ report-is (le-ltb _ _ s)
+    pub report-told : get_or x.run settled_word 0 ≤ 1 → (g : Run) → g ≡ run_in x.run → (y : Result Totals ℕ)
+        → y ≡ totals (state_of g x.tally x.network) → (r : CalledReport) → r ≡ told_report ws y → r ≡ reporting x ws
+    report-told s g p y e r told =
+        told ∙ ap (told_report ws) (e ∙ ap (λ (z : Run). totals (state_of z x.tally x.network)) p) ∙ report-is (le-ltb _ _ s)
 
   pub report-no-run : report_length ≤ length ws → (k : ℕ) → OfNoRun x.run k → called_report k ws ≡ reporting x ws
   report-no-run room k (inl h) = rw h.0 (report-short-run h.1)

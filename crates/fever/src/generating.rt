@@ -1,6 +1,6 @@
-// Loads in lent words: the run that one starts from, and what it leaves.
+// Loads in lent words: what one leaves.
 ghost use Rattle.std.specs.Prelude.{◌≡◌, ◌≤◌, length};
-ghost use Rattle.fever.specs.Layout.{run_length, run_in};
+ghost use Rattle.fever.specs.Layout.{run_length};
 ghost use Rattle.fever.specs.Loads.{load_length, run_after, PutsBack};
 
 use crate::layout;
@@ -19,25 +19,13 @@ pub(crate) const SEED: usize = 2;
 
 pub(crate) const STEP: usize = 3;
 
-// The run in the first 147 words.
-pub(crate) fn run_in(words: &[u64]) -> Run
-    requires { run_length ≤ length words.now }
-    ensures { result ≡ run_in words.now }
-{
-    types::gather(
-        layout::head_in(words),
-        &layout::table_in(words, layout::CLOCKS),
-        &layout::table_in(words, layout::VIEWS),
-    )
-}
-
 // The run that the bytes written led to, if there are any.
-fn put_back(words: &mut [u64], bytes: usize, run: Run)
+fn put_back(words: &mut [u64], bytes: usize, run: &Run)
     requires { run_length ≤ length words.old }
-    ensures { words.new ≡ run_after words.old bytes run }
+    ensures { words.new ≡ run_after words.old bytes run.now }
 {
     if bytes != 0 {
-        layout::put_run(words, types::head_of(run), &run.clocks, &run.views);
+        layout::put_run(words, run);
     }
 }
 
@@ -50,7 +38,7 @@ pub(crate) fn put_load(run: &mut [u64], load: &mut [u64], made: Result<Generated
         Ok(made) => made,
         Err(check) => return check,
     };
-    put_back(run, made.bytes, made.run);
+    put_back(run, made.bytes, &made.run);
     let values = [
         made.seed,
         made.step,

@@ -3,14 +3,14 @@ ghost use Rattle.std.specs.Prelude.{◌≡◌, ◌+◌, ◌≤◌, length, Match
 ghost use Rattle.types.specs.Quantities.{table_clocks};
 ghost use Rattle.types.specs.Runs.{plan_in};
 ghost use Rattle.types.specs.Traffic.{count_numbers};
-ghost use Rattle.model.specs.State.{run_from, head_of, check_of};
+ghost use Rattle.model.specs.State.{check_of};
 ghost use Rattle.lines.specs.Clauses.{event_reading, read_check};
 ghost use Rattle.reader.specs.Lines.{opening_or};
 ghost use Rattle.writer.specs.Stamps.{Room, Stamped};
 ghost use Rattle.fever.specs.Layout.{table_in, counts_at, setup_length, setup_in, run_length, run_in, run_over, OfRun, OfNoRun, reading_length};
 ghost use Rattle.fever.specs.Clauses.{run_left, reading_left};
 
-use types::{Answer, AppliedHead, Counts, Event, Head, Plan, Setup, Traffic};
+use types::{Answer, Counts, Event, Plan, Run, Setup, Traffic};
 use words::Numbers;
 use writer::pieces::put_slice;
 
@@ -33,9 +33,9 @@ const GST: usize = 8;
 
 const HELD: usize = 9;
 
-pub(crate) const CLOCKS: usize = 10;
+const CLOCKS: usize = 10;
 
-pub(crate) const VIEWS: usize = 74;
+const VIEWS: usize = 74;
 
 const SENT: usize = 138;
 
@@ -50,7 +50,7 @@ const TABLE: usize = 64;
 const OPENING: u64 = 6;
 
 // The 64 words from a place on.
-pub(crate) fn table_in(words: &[u64], at: usize) -> [u64; 64]
+fn table_in(words: &[u64], at: usize) -> [u64; 64]
     requires { at + table_clocks ≤ length words.now }
     ensures { result ≡ table_in at words.now }
 {
@@ -111,18 +111,20 @@ fn counts_in(words: &[u64], at: usize) -> Counts
     }
 }
 
-// The run in the first 147 words, but for its tables.
-pub(crate) fn head_in(words: &[u64]) -> Head
+// The run in the first 147 words.
+pub(crate) fn run_in(words: &[u64]) -> Run
     requires { run_length ≤ length words.now }
-    ensures { result ≡ head_of (run_in words.now) }
+    ensures { result ≡ run_in words.now }
 {
-    Head {
+    Run {
         plan: plan_in(words),
         faulty: words[FAULTY],
         time: words[TIME],
-        settled: types::settled_as(words[SETTLED] == 1),
+        settled: words[SETTLED] == 1,
         gst: words[GST],
         held: words[HELD] as usize,
+        clocks: table_in(words, CLOCKS),
+        views: table_in(words, VIEWS),
         traffic: Traffic {
             sent: counts_in(words, SENT),
             delivered: counts_in(words, DELIVERED),
@@ -140,49 +142,43 @@ pub(crate) fn put_counts(words: &mut [u64], at: usize, counts: Counts) -> usize
     put_slice(words, at, &numbers)
 }
 
-// The first 147 words become those of the run whose tables are lent beside its head.
-pub(crate) fn put_run(words: &mut [u64], head: Head, clocks: &[u64; 64], views: &[u64; 64])
+// The first 147 words become those of the run.
+pub(crate) fn put_run(words: &mut [u64], run: &Run)
     requires { run_length ≤ length words.old }
-    ensures { words.new ≡ run_over words.old (run_from head clocks.now views.now) }
+    ensures { words.new ≡ run_over words.old run.now }
 {
     let numbers = [
-        head.plan.n,
-        head.plan.delta,
-        head.plan.gamma,
-        head.plan.views,
-        head.plan.k,
-        head.faulty,
-        head.time,
-        types::settled_as(head.settled == 1),
-        head.gst,
-        head.held as u64,
+        run.plan.n,
+        run.plan.delta,
+        run.plan.gamma,
+        run.plan.views,
+        run.plan.k,
+        run.faulty,
+        run.time,
+        types::settled_as(run.settled),
+        run.gst,
+        run.held as u64,
     ];
     let first = put_slice(words, 0, &numbers);
-    let second = put_slice(words, first, clocks);
-    let sent = put_slice(words, second, views);
-    let delivered = put_counts(words, sent, head.traffic.sent);
-    let waits = put_counts(words, delivered, head.traffic.delivered);
-    put_slice(words, waits, &[head.traffic.waits]);
+    let second = put_slice(words, first, &run.clocks);
+    let sent = put_slice(words, second, &run.views);
+    let delivered = put_counts(words, sent, run.traffic.sent);
+    let waits = put_counts(words, delivered, run.traffic.delivered);
+    put_slice(words, waits, &[run.traffic.waits]);
 }
 
 // What a call left of the run, if it was accepted. Answers the check that refused it or ended its ticks, or 0.
-pub(crate) fn put_outcome(
-    words: &mut [u64],
-    outcome: AppliedHead,
-    clocks: &[u64; 64],
-    views: &[u64; 64],
-) -> u64
+pub(crate) fn put_outcome(words: &mut [u64], answer: Answer, run: &Run) -> u64
     requires { run_length ≤ length words.old }
-    ensures { (result ≡ check_of outcome.answer) × (words.new ≡
-        run_left words.old outcome.answer (run_from outcome.head clocks.now views.now)) }
+    ensures { (result ≡ check_of answer) × (words.new ≡ run_left words.old answer run.now) }
 {
-    match outcome.answer {
+    match answer {
         Answer::Done(_, _) => {
-            put_run(words, outcome.head, clocks, views);
+            put_run(words, run);
             0
         }
         Answer::Stopped(_, _, check) => {
-            put_run(words, outcome.head, clocks, views);
+            put_run(words, run);
             check
         }
         Answer::Refused(check) => check,

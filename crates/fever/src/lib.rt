@@ -1,7 +1,7 @@
 // The library for C and Rust: the simulator, one processor's pacemaker, lines, loads out of a seed number, reports of a run's traffic and runs carried
 // over to a network of another form, over numbers and lent words and bytes. Every function takes every argument; a refused call has changed nothing that was lent.
-// In every module what is answered is a number, a check or 0, and what is lent are words, as C has them. A run's head and its two tables are taken out
-// of its words where they are used: one function that answered all three would hand 1 KiB back.
+// In every module what is answered is a number, a check or 0, and what is lent are words, as C has them. A run is taken out of its words once a call,
+// lent whole to what alters or reads it, and written back where it was altered.
 #![tactic(auto)]
 
 mod generating;
@@ -30,11 +30,9 @@ pub fn fever_open(setup: &[u64], run: &mut [u64], tally: &mut [u64], network: &m
         return 1;
     }
     let start = layout::setup_in(setup);
-    let head = layout::head_in(run);
-    let mut clocks = layout::table_in(run, layout::CLOCKS);
-    let mut views = layout::table_in(run, layout::VIEWS);
-    let outcome = simulator::open_lent(head, start, &mut clocks, &mut views, tally, network);
-    layout::put_outcome(run, outcome, &clocks, &views)
+    let mut own = layout::run_in(run);
+    let answer = simulator::open_in_place(&mut own, start, tally, network);
+    layout::put_outcome(run, answer, &own)
 }
 
 // An event is applied.
@@ -78,11 +76,9 @@ pub fn fever_apply_all(
     if let Some(check) = layout::run_check(run) {
         return check;
     }
-    let head = layout::head_in(run);
-    let mut clocks = layout::table_in(run, layout::CLOCKS);
-    let mut views = layout::table_in(run, layout::VIEWS);
-    let left = simulator::apply_events(head, &mut clocks, &mut views, tally, network, events);
-    layout::put_run(run, left, &clocks, &views);
+    let mut own = layout::run_in(run);
+    simulator::apply_events(&mut own, tally, network, events);
+    layout::put_run(run, &own);
     0
 }
 
@@ -171,7 +167,7 @@ pub fn fever_generate(
         return 1;
     }
     let made = workload::generate(
-        generating::run_in(run),
+        layout::run_in(run),
         layout::setup_in(setup),
         load[generating::STEPS],
         load[generating::SETTLE],
@@ -201,7 +197,7 @@ pub fn fever_generate_more(
         return check;
     }
     let made = workload::generate_more(
-        generating::run_in(run),
+        layout::run_in(run),
         load[generating::SEED],
         load[generating::STEP],
         load[generating::STEPS],
@@ -223,10 +219,7 @@ pub fn fever_traffic(run: &[u64], tally: &[u64], network: &[u64], report: &mut [
     if let Some(check) = layout::run_check(run) {
         return check;
     }
-    let head = layout::head_in(run);
-    let clocks = layout::table_in(run, layout::CLOCKS);
-    let views = layout::table_in(run, layout::VIEWS);
-    let totals = sums::totals(head, &clocks, &views, tally, network);
+    let totals = sums::totals(&layout::run_in(run), tally, network);
     reporting::put_report(report, totals)
 }
 
@@ -244,17 +237,15 @@ fn carry_words(
     if run.len() < layout::RUN_WORDS {
         return 1;
     }
-    let head = layout::head_in(run);
+    let own = layout::run_in(run);
     if 1 < run[layout::SETTLED] {
-        return if carrying::target_outside(to, head, target) {
+        return if carrying::target_outside(to, &own, target) {
             6
         } else {
             9
         };
     }
-    let clocks = layout::table_in(run, layout::CLOCKS);
-    let views = layout::table_in(run, layout::VIEWS);
-    match carrying::carry(from, to, head, &clocks, &views, tally, network, target) {
+    match carrying::carry(from, to, &own, tally, network, target) {
         Ok(()) => 0,
         Err(check) => check,
     }

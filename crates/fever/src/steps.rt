@@ -24,16 +24,14 @@ pub(crate) fn apply_event(
     ensures { called result (lent_of run.new tally.new network.new) ≡
         told run.old (applied (event_as numbers) (lent_state (lent_of run.old tally.old network.old))) }
 {
-    let head = layout::head_in(run);
-    let mut clocks = layout::table_in(run, layout::CLOCKS);
-    let mut views = layout::table_in(run, layout::VIEWS);
+    let mut own = layout::run_in(run);
     let mut event = [numbers.form, numbers.kind, numbers.view, numbers.processor];
-    let left = simulator::apply_events(head, &mut clocks, &mut views, tally, network, &mut event);
+    simulator::apply_events(&mut own, tally, network, &mut event);
     let check = event[1];
     if 0 < check && event[2] == 0 {
         return check;
     }
-    layout::put_run(run, left, &clocks, &views);
+    layout::put_run(run, &own);
     check
 }
 

@@ -3,10 +3,10 @@
 
 ghost use Rattle.std.specs.Prelude.{◌≡◌, ℕ, List, if◌then◌else◌};
 ghost use Rattle.types.specs.Quantities.{correct};
-ghost use Rattle.model.specs.State.{state_of, run_from};
+ghost use Rattle.model.specs.State.{state_of};
 ghost use Rattle.leaps.specs.Leaps.{WaitsFor, WaitsForAll, Waits, rest_for, rest, more_word, leapt_word};
 
-use types::{Form, Head, Plan, Processor};
+use types::{Form, Plan, Processor, Run};
 
 // How many ticks, up to so many, find a message not late that was sent at `sent`, once the network has settled. A message of the future waits for its time at least.
 fn wait_for(gst: u64, delta: u64, time: u64, sent: u64, most: u64) -> u64
@@ -41,18 +41,11 @@ fn wait_for_all(gst: u64, delta: u64, time: u64, held: usize, network: &[u64], m
 }
 
 // How many ticks, up to so many, check 16 lets pass.
-pub fn wait(head: Head, network: &[u64], most: u64) -> u64
-    ensures { (c v t : List ℕ) → Waits (state_of (run_from head c v) t network.now) most result }
+pub fn wait(run: &Run, network: &[u64], most: u64) -> u64
+    ensures { (t : List ℕ) → Waits (state_of run.now t network.now) most result }
 {
-    if head.settled == 1 {
-        wait_for_all(
-            head.gst,
-            head.plan.delta,
-            head.time,
-            head.held,
-            network,
-            most,
-        )
+    if run.settled {
+        wait_for_all(run.gst, run.plan.delta, run.time, run.held, network, most)
     } else {
         most
     }
@@ -71,18 +64,20 @@ fn rest_for(plan: Plan, faulty: u64, processor: Processor, most: u64) -> u64
 }
 
 // How many ticks, up to so many, bring no correct clock to an initial view.
-pub fn rest(head: Head, clocks: &[u64], views: &[u64], most: u64) -> u64
-    ensures { result ≡ rest (run_from head clocks.now views.now) most }
+pub fn rest(run: &Run, most: u64) -> u64
+    ensures { result ≡ rest run.now most }
 {
-    let n = head.plan.n.min(clocks.len().min(views.len()) as u64);
+    let plan = run.plan;
+    let faulty = run.faulty;
+    let n = plan.n.min(Plan::N_MOST);
     let mut quiet = most;
     for q in 0..n {
         let processor = Processor {
             number: q,
-            clock: clocks[q as usize],
-            view: views[q as usize],
+            clock: run.clocks[q as usize],
+            view: run.views[q as usize],
         };
-        quiet = rest_for(head.plan, head.faulty, processor, quiet);
+        quiet = rest_for(plan, faulty, processor, quiet);
         if quiet == 0 {
             return 0;
         }
@@ -102,16 +97,15 @@ fn go_on(plan: Plan, faulty: u64, q: u64, clock: u64, count: u64) -> u64
 }
 
 // So many quiet ticks: time and every correct clock go on, and nothing else changes.
-pub fn leap(head: Head, count: u64, clocks: &mut [u64; 64]) -> Head
-    ensures { (views : List ℕ) → run_from result clocks.new views ≡ leapt_word (run_from head clocks.old views) count }
+pub fn leap(run: &mut Run, count: u64)
+    ensures { run.new ≡ leapt_word run.old count }
 {
-    let n = head.plan.n.min(Plan::N_MOST);
+    let plan = run.plan;
+    let faulty = run.faulty;
+    let n = plan.n.min(Plan::N_MOST);
     for q in 0..n {
-        let clock = &mut clocks[q as usize];
-        *clock = go_on(head.plan, head.faulty, q, *clock, count);
+        let i = q as usize;
+        run.clocks[i] = go_on(plan, faulty, q, run.clocks[i], count);
     }
-    Head {
-        time: head.time.wrapping_add(count),
-        ..head
-    }
+    run.time = run.time.wrapping_add(count);
 }

@@ -3,14 +3,13 @@
 
 ghost use Rattle.std.specs.Prelude.{◌≡◌, ℕ, ◌*◌, ◌%◌, ◌^◌, ◌<◌, MatchOption, not, ◌&&◌, List, if◌then◌else◌, ◌==◌};
 ghost use Rattle.base.specs.Scan.{first};
-ghost use Rattle.types.specs.Runs.{is_settled};
-ghost use Rattle.model.specs.State.{state_of, run_from};
+ghost use Rattle.model.specs.State.{state_of};
 ghost use Rattle.model.specs.Checks.{at_end, late, late_at};
 ghost use Rattle.buffers.specs.Kinds.{stored};
 ghost use Rattle.loads.specs.Draws.{next_seed, draw};
 ghost use Rattle.loads.specs.Loads.{point_of, delivery_of, ticking, step_turn, turn};
 
-use types::{Event, Form, Head, Plan};
+use types::{Event, Form, Plan, Run};
 
 // The next event of a load, the seed after it, and how many steps it is: 1, or 0 where the load settles.
 #[derive(Clone, Copy)]
@@ -99,25 +98,25 @@ fn substitute(plan: Plan, time: u64, network: &[u64], i: usize) -> Event
 }
 
 // A tick, or what it becomes.
-fn tick_or_deliver(head: Head, network: &[u64]) -> Event
-    ensures { (c v t : List ℕ) → result ≡ ticking (state_of (run_from head c v) t network.now) }
+fn tick_or_deliver(run: &Run, network: &[u64]) -> Event
+    ensures { (t : List ℕ) → result ≡ ticking (state_of run.now t network.now) }
 {
-    if head.settled == 1 {
-        if let Some(i) = first_late(head.gst, head.plan.delta, head.time, head.held, network) {
-            return substitute(head.plan, head.time, network, i);
+    if run.settled {
+        if let Some(i) = first_late(run.gst, run.plan.delta, run.time, run.held, network) {
+            return substitute(run.plan, run.time, network, i);
         }
     }
     Event::Tick(1)
 }
 
 // A step of the load. Nothing is asked of the draw where nothing is held.
-fn step(head: Head, seed: u64, network: &[u64]) -> Turn
-    ensures { (c v t : List ℕ) (k : ℕ) → result ≡ step_turn (point_of (state_of (run_from head c v) t network.now) seed k) }
+fn step(run: &Run, seed: u64, network: &[u64]) -> Turn
+    ensures { (t : List ℕ) (k : ℕ) → result ≡ step_turn (point_of (state_of run.now t network.now) seed k) }
 {
     let once = next_seed(seed);
-    if 0 < head.held && drawn(once) % 4 < 2 {
+    if 0 < run.held && drawn(once) % 4 < 2 {
         let twice = next_seed(once);
-        let i = drawn(twice) % (head.held as u64);
+        let i = drawn(twice) % (run.held as u64);
         Turn {
             event: delivery(network, i as usize),
             seed: twice,
@@ -125,7 +124,7 @@ fn step(head: Head, seed: u64, network: &[u64]) -> Turn
         }
     } else {
         Turn {
-            event: tick_or_deliver(head, network),
+            event: tick_or_deliver(run, network),
             seed: once,
             steps: 1,
         }
@@ -133,23 +132,23 @@ fn step(head: Head, seed: u64, network: &[u64]) -> Turn
 }
 
 // Whether the load settles before the next step.
-fn settle_due(next: u64, settle: u64, settled: u64) -> bool
-    ensures { result ≡ (next == settle && not (is_settled settled)) }
+fn settle_due(next: u64, settle: u64, settled: bool) -> bool
+    ensures { result ≡ (next == settle && not settled) }
 {
-    next == settle && settled != 1
+    next == settle && !settled
 }
 
 // What the load does next.
-pub fn next_turn(head: Head, seed: u64, next: u64, settle: u64, network: &[u64]) -> Turn
-    ensures { (c v t : List ℕ) → result ≡ turn settle (point_of (state_of (run_from head c v) t network.now) seed next) }
+pub fn next_turn(run: &Run, seed: u64, next: u64, settle: u64, network: &[u64]) -> Turn
+    ensures { (t : List ℕ) → result ≡ turn settle (point_of (state_of run.now t network.now) seed next) }
 {
-    if settle_due(next, settle, head.settled) {
+    if settle_due(next, settle, run.settled) {
         Turn {
             event: Event::Settle,
             seed,
             steps: 0,
         }
     } else {
-        step(head, seed, network)
+        step(run, seed, network)
     }
 }

@@ -12,7 +12,6 @@ use Rattle.base.specs.ScanLaws.{first-le}
 use Rattle.types.specs.declared.Message.{Message}
 use Rattle.types.specs.declared.Message.TheVariants.{View, Vote, Vc, Qc}
 use Rattle.types.specs.declared.Run.{Run}
-use Rattle.types.specs.declared.Traffic.{Traffic}
 use Rattle.types.specs.declared.Form.TheVariants.{Packed}
 use Rattle.types.specs.Quantities.{width}
 use Rattle.types.specs.Traffic.{traffic_delivered}
@@ -22,17 +21,7 @@ use Rattle.model.specs.Events.{wait_since, without}
 use Rattle.liveness.proofs.Flight.{length_removed}
 use Rattle.liveness.proofs.Marks.{addressed}
 use Rattle.buffers.specs.Network.{packable, found, found-fits}
-use Rattle.simulator.specs.Inner.{Fit, ReachesCorrect, leaving}
-
--- the run with one message less is as fit
-pub fit-held : (r : Run) (h : ℕ) (x : Traffic) → Fit r → Fit (with_traffic x (with_held h r))
-fit-held r h x f = record { plan = f.plan; faulty = f.faulty; clocks = f.clocks }
-
-pub reaches-held : (r : Run) (h : ℕ) (x : Traffic) (m : Message) → ReachesCorrect r m → ReachesCorrect (with_traffic x (with_held h r)) m
-reaches-held r h x (View w p) c = c
-reaches-held r h x (Vote w p) c = c
-reaches-held r h x (Vc w p) c = c
-reaches-held r h x (Qc w p) c = c
+use Rattle.simulator.specs.Inner.{ReachesCorrect, leaving}
 
 -- a run and the buffers lent with it
 module _ (r : Run) (t ws : List ℕ) (m : Message) (i : ℕ) (room : r.held ≤ capacity Packed ws) where

@@ -1,5 +1,5 @@
 -- Each event in each of its cases. Assumes nothing.
-use mathlib.Core.Path.{◌≡◌, refl, sym, ap, ap₂, subst, ◌∙◌}
+use mathlib.Core.Path.{◌≡◌, refl, sym, ap, ap₂, ◌∙◌}
 use mathlib.Core.Bool.{Bool, true, false, not, cond}
 use mathlib.Core.Logic.{◌≢◌}
 use mathlib.Core.List.{List}
@@ -16,15 +16,12 @@ use Rattle.types.specs.declared.Message.TheVariants.{View, Vote, Vc, Qc}
 use Rattle.types.specs.declared.Event.{Event}
 use Rattle.types.specs.declared.Event.TheVariants.{Deliver, Sign, Show, Settle, Tick}
 use Rattle.types.specs.declared.Run.{Run}
-use Rattle.types.specs.declared.Answer.TheVariants.{Done, Refused}
-use Rattle.types.specs.declared.Head.{Head}
-use Rattle.types.specs.declared.AppliedHead.{AppliedHead}
 use Rattle.types.specs.declared.Traffic.{Traffic}
 use Rattle.types.specs.declared.Form.TheVariants.{Packed}
 use Rattle.types.specs.Quantities.{lead}
 use Rattle.types.specs.Messages.{view_in, processor_in, stage_of, lacks_form}
-use Rattle.model.specs.State.{State, After, state_of, run_from, with_traffic, left_behind, is_correct, capacity, room_in, refused, done}
-use Rattle.model.specs.Moves.{Change, still, handling, made}
+use Rattle.model.specs.State.{State, After, state_of, with_held, with_traffic, view_of, is_correct, capacity, room_in, refused, done}
+use Rattle.model.specs.Moves.{Change, still, Entry, stay, into, entering, by_quorum, by_view, taking, hearing, handling, made}
 use Rattle.model.specs.Checks.{unsound, named_outside, not_initial, exists, not_held, reaches_end, overfull}
 use Rattle.model.specs.Events.{without, delivering, signing, now_settled, tick_run, checks, effect, applied}
 use Rattle.liveness.proofs.Answers.{no-yes}
@@ -33,20 +30,11 @@ use Rattle.leaps.proofs.Leaping.{still-made}
 use Rattle.simulator.specs.declared.Reaction.{Reaction}
 use Rattle.simulator.specs.declared.Reaction.TheVariants.{Heard, Moved as MovedBy}
 use Rattle.std.specs.Prelude.{Result, Ok, Err}
-use Rattle.simulator.specs.Inner.{change_by, sent_for, Decides, ReachesCorrect, named_check, finished, head_without, leaving, handled}
+use Rattle.simulator.specs.Inner.{change_by, sent_for, Decides, ReachesCorrect, named_check, finished, held_without, leaving, handled}
 use Rattle.simulator.proofs.Fitness.{fit_of, room_of}
 use Rattle.simulator.proofs.Delivery.{room-left}
 use Rattle.simulator.proofs.Moving.{stays-below}
 use Rattle.simulator.proofs.Deciding.{named-passed, named-refused, change-sent}
-
--- what was left behind, by its parts
-pub refused-is : (h : Head) (c v t ws : List ℕ) (x : AppliedHead) (k : ℕ) → (x.head ≡ h) × (x.answer ≡ Refused k)
-    → left_behind x c v t ws ≡ refused (state_of (run_from h c v) t ws) k
-refused-is h c v t ws x k e = λ i. record { state = state_of (run_from (e.0 i) c v) t ws; answer = e.1 i }
-
-pub done-is : (s : State) (h : Head) (c v t ws : List ℕ) (x : AppliedHead) → (x.head ≡ h) × (x.answer ≡ Done 0 h.held) → state_of (run_from h c v) t ws ≡ s
-    → left_behind x c v t ws ≡ done s
-done-is s h c v t ws x e q = (λ i. record { state = state_of (run_from (e.0 i) c v) t ws; answer = e.1 i }) ∙ ap done q
 
 -- ---- checks 17 and 18 of a change, and the change made
 
@@ -60,40 +48,47 @@ module _ (s s' : State) (c : Change) where
   pub finish-done : reaches_end s'.run c ≡ false → overfull s' c ≡ false → done (made s' c) ≡ finished s s' c
   finish-done e f = rw (e, f) refl
 
--- nothing of it looks at the sums
-change-counted : (r : Run) (y : Traffic) (t : List ℕ) (m : Message) (x : Reaction) → change_by (with_traffic y r) t m x ≡ change_by r t m x
-change-counted r y t m (Heard formed) = refl
-change-counted r y t m (MovedBy x) = refl
+-- nothing of it looks at the sums, nor at how many messages are held
+change-left : (r : Run) (h : ℕ) (y : Traffic) (t : List ℕ) (m : Message) (x : Reaction) → change_by (with_traffic y (with_held h r)) t m x ≡ change_by r t m x
+change-left r h y t m (Heard formed) = refl
+change-left r h y t m (MovedBy x) = refl
 
-pub decides-counted : (r : Run) (y : Traffic) (t : List ℕ) (m : Message) (x : Result Reaction ℕ) → Decides r t m x → Decides (with_traffic y r) t m x
+taking-held : (h : ℕ) (r : Run) (t : List ℕ) (p : ℕ) (e : Entry) → taking (with_held h r) t p e ≡ taking r t p e
+unfolding taking entering
+taking-held h r t p stay = refl
+taking-held h r t p (into w) = refl
+
+handling-held : (h : ℕ) (r : Run) (t : List ℕ) (m : Message) → handling (with_held h r) t m ≡ handling r t m
+unfolding handling hearing
+handling-held h r t (View w p) = refl
+handling-held h r t (Vote w p) = refl
+handling-held h r t (Vc w p) = taking-held h r t p (by_view r.plan (view_of r p) w)
+handling-held h r t (Qc w p) = taking-held h r t p (by_quorum (view_of r p) w)
+
+handling-left : (r : Run) (h : ℕ) (y : Traffic) (t : List ℕ) (m : Message) → handling (with_traffic y (with_held h r)) t m ≡ handling r t m
+handling-left r h y t m = handling-sums y (with_held h r) t m ∙ handling-held h r t m
+
+decides-left : (r : Run) (h : ℕ) (y : Traffic) (t : List ℕ) (m : Message) (x : Result Reaction ℕ) → Decides r t m x → Decides (with_traffic y (with_held h r)) t m x
 unfolding reaches_end
-decides-counted r y t m (Ok x) d = (ap (reaches_end r) (handling-sums y r t m) ∙ d.0, change-counted r y t m x ∙ d.1 ∙ sym (handling-sums y r t m), d.2)
-decides-counted r y t m (Err k) d = (ap (reaches_end r) (handling-sums y r t m) ∙ d.0, d.1)
+decides-left r h y t m (Ok x) d = (ap (reaches_end r) (handling-left r h y t m) ∙ d.0, change-left r h y t m x ∙ d.1 ∙ sym (handling-left r h y t m), d.2)
+decides-left r h y t m (Err k) d = (ap (reaches_end r) (handling-left r h y t m) ∙ d.0, d.1)
 
--- a head with other sums
-abbrev pub counting : Head → Traffic → Head
-counting h x = record {
-  plan = h.plan;
-  faulty = h.faulty;
-  time = h.time;
-  settled = h.settled;
-  gst = h.gst;
-  held = h.held;
-  traffic = x;
-}
+-- so other sums alone change nothing of it
+pub decides-counted : (r : Run) (y : Traffic) (t : List ℕ) (m : Message) (x : Result Reaction ℕ) → Decides r t m x → Decides (with_traffic y r) t m x
+decides-counted r y t m x d = decides-left r r.held y t m x d
 
--- what was decided of a message on a head without it, of the state that it leaves
-module _ (before : Head) (cs vs t ws : List ℕ) (m : Message) (i : ℕ) (h : Head) (is-left : h ≡ head_without before i) where
+-- what was decided of a message on the run that holds it, of the state that it leaves
+module _ (r : Run) (t ws : List ℕ) (m : Message) (i : ℕ) where
   abbrev left : State
-  left = leaving (state_of (run_from before cs vs) t ws) m i
+  left = leaving (state_of r t ws) m i
 
-  pub handled-decides : (x : Result Reaction ℕ) → Decides (run_from h cs vs) t m x → Decides left.run t m x
-  handled-decides x d = decides-counted (run_from (head_without before i) cs vs) left.run.traffic t m x (subst (λ (y : Head). Decides (run_from y cs vs) t m x) is-left d)
+  pub handled-decides : (x : Result Reaction ℕ) → Decides r t m x → Decides left.run t m x
+  handled-decides x d = decides-left r (held_without r.held i) left.run.traffic t m x d
 
-  pub handled-full : before.held ≤ capacity Packed ws → (x : Reaction) → Decides (run_from h cs vs) t m (Ok x) → (room : ℕ) → room ≡ capacity Packed ws
-      → ltb room (h.held + length (sent_for h.plan h.faulty m x)) ≡ overfull left (handling left.run t m)
-  handled-full fits x d room r =
-      ap₂ (λ (y : Head) (n : ℕ). ltb n (y.held + length (sent_for y.plan y.faulty m x))) is-left (r ∙ sym (room-left (run_from before cs vs) t ws m i fits).0)
+  pub handled-full : r.held ≤ capacity Packed ws → (x : Reaction) → Decides r t m (Ok x) → (room : ℕ) → room ≡ capacity Packed ws → (held : ℕ) → held ≡ held_without r.held i
+      → ltb room (held + length (sent_for r.plan r.faulty m x)) ≡ overfull left (handling left.run t m)
+  handled-full fits x d room e held h =
+      ap₂ (λ (k n : ℕ). ltb n (k + length (sent_for r.plan r.faulty m x))) h (e ∙ sym (room-left r t ws m i fits).0)
       ∙ ap (λ (ms : List Message). ltb (room_in left) (left.run.held + length ms))
       (sym (change-sent left.run t m x) ∙ ap (λ (c : Change). c.sent) (handled-decides (Ok x) d).1)
 

@@ -2,7 +2,6 @@
 use mathlib.Core.Path.{◌≡◌, refl, sym, ap, ◌∙◌, subst}
 use mathlib.Core.Bool.{Bool, true, false}
 use mathlib.Core.Logic.{◌≢◌}
-use mathlib.Core.List.{List}
 use Prim.Native.Nat.{ℕ, zero, suc, ◌+◌, ◌-◌, ◌≤◌, ◌<◌}
 use native.Mathlib.Omega.{arith}
 use lib.Dec.{ltb, eqb}
@@ -10,11 +9,9 @@ use lib.ListN.{length}
 use borrow.Author.Tests.{lt-ltb, le-ltb, eq-eqb, ne_eqb}
 use Rattle.base.specs.Scan.{some}
 use Rattle.base.specs.Choice.{cond_yes, cond_no}
-use Rattle.types.specs.declared.Run.{Run}
 use Rattle.types.specs.declared.Answer.TheVariants.{Done, Stopped, Refused}
-use Rattle.types.specs.declared.Head.{Head}
-use Rattle.types.specs.declared.AppliedHead.{AppliedHead}
-use Rattle.model.specs.State.{State, After, state_of, run_from, with_run, left_behind, room_in, check_of, refused}
+use Rattle.types.specs.declared.Answer.{Answer}
+use Rattle.model.specs.State.{State, After, room_in, check_of, refused}
 use Rattle.model.specs.Moves.{advanced, arrivals, made}
 use Rattle.model.specs.Checks.{overdue, reaches_end, overfull}
 use Rattle.model.specs.Events.{tick_checks, tick_once, Ticks, continued, ticks, ticks_answer, tick_run}
@@ -103,20 +100,15 @@ ticks-ended m count check s₀ s s' l e t positive = go check t.number positive
 after-by : (a b : After) → a.state ≡ b.state → a.answer ≡ b.answer → a ≡ b
 after-by a b e f = λ i. record { state = e i; answer = f i }
 
-pub run-ended : (m count check : ℕ) (s₀ s' : State) (o : AppliedHead) (clocks views : List ℕ) → ticks m s₀ ≡ ran_to s' count check → run_from o.head clocks views ≡ s'.run
-    → o.answer ≡ ticks_answer (ran_to s' count check) → record { state = with_run (run_from o.head clocks views) s'; answer = o.answer } ≡ tick_run m s₀
+pub run-ended : (m count check : ℕ) (s₀ s' : State) (a : Answer) → ticks m s₀ ≡ ran_to s' count check → a ≡ ticks_answer (ran_to s' count check)
+    → record { state = s'; answer = a } ≡ tick_run m s₀
 unfolding tick_run
-run-ended m count check s₀ s' o clocks views e r a = after-by _ _
-    (ap (λ (y : Run). with_run y s') r ∙ sym (ap (λ (y : Ticks). y.state) e))
-    (a ∙ sym (ap ticks_answer e))
+run-ended m count check s₀ s' a e is = after-by _ _ (sym (ap (λ (y : Ticks). y.state) e)) (is ∙ sym (ap ticks_answer e))
 
-pub run-done : (m count : ℕ) (s₀ : State) (head : Head) (clocks views tally network : List ℕ) → 0 < m → count ≡ m
-    → ticks m s₀ ≡ ran_to (state_of (run_from head clocks views) tally network) count 0
-    → left_behind (record { head = head; answer = Done count head.held }) clocks views tally network ≡ tick_run m s₀
-run-done m count s₀ head clocks views tally network positive all e =
+pub run-done : (m count : ℕ) (s₀ s : State) → 0 < m → count ≡ m → ticks m s₀ ≡ ran_to s count 0 → record { state = s; answer = Done count s.run.held } ≡ tick_run m s₀
+run-done m count s₀ s positive all e =
     let n : count ≢ 0 = λ y. absurd (omega (arith, y)) in
-    run-ended m count 0 s₀ (state_of (run_from head clocks views) tally network) (record { head = head; answer = Done count head.held }) clocks views e refl
-    (cond_no (eqb count 0) (Done count head.held) (Refused 0) (Done count head.held) (ne_eqb count 0 n) refl)
+    run-ended m count 0 s₀ s (Done count s.run.held) e (cond_no (eqb count 0) (Done count s.run.held) (Refused 0) (Done count s.run.held) (ne_eqb count 0 n) refl)
 
 -- the answer to ticks that a check ended
 pub stopped_none : (s : State) (count check : ℕ) → count ≡ 0 → Refused check ≡ ticks_answer (ran_to s count check)

@@ -22,9 +22,8 @@ use Rattle.types.specs.declared.Sends.TheVariants.{Nothing, ViewAndVote}
 use Rattle.types.specs.declared.Form.TheVariants.{Packed}
 use Rattle.types.proofs.PlanLaws.{zero-starts}
 use Rattle.types.specs.Quantities.{n_most, network_least, network_most, table_clocks, row_words, correct}
-use Rattle.types.specs.Runs.{head-back}
 use Rattle.types.specs.Traffic.{no_traffic, traffic_sent}
-use Rattle.model.specs.State.{state_of, run_of, with_held, with_traffic, clock_of, view_of, posted, capacity, refused, done, run_from, head_of}
+use Rattle.model.specs.State.{state_of, run_of, with_held, with_traffic, clock_of, view_of, posted, capacity, refused, done}
 use Rattle.model.specs.Moves.{Change, changed, stay, into, made}
 use Rattle.model.specs.Processors.{messages_of, moving}
 use Rattle.model.specs.Checks.{network_outside}
@@ -175,11 +174,10 @@ module _ (u : Setup) (run : Run) (t ws : List ℕ) where
   check = setup_check Packed u (length t) (length ws)
 
   pub opens-done : (next : Run) (t' ws' : List ℕ) → check ≡ Ok tt → state_of next t' ws' ≡ opened u (state_of (blank_run u) t ws)
-      → Opens u (state_of run t ws) (done (state_of (run_from (head_of next) next.clocks next.views) t' ws'))
+      → Opens u (state_of run t ws) (done (state_of next t' ws'))
   unfolding opening
   opens-done next t' ws' z e =
-      ap (λ (r : Run). done (state_of r t' ws')) (head-back next)
-      ∙ ap done (e ∙ opened-same u (blank_run u) run t ws)
+      ap done (e ∙ opened-same u (blank_run u) run t ws)
       ∙ ap (by_result (refused (state_of run t ws)) (done (opened u (state_of run t ws)))) (sym z)
       ∙ sym (setup-check u (state_of run t ws) (done (opened u (state_of run t ws))))
 

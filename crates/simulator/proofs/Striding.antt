@@ -166,3 +166,10 @@ module _ (s : State) (ready : Ready s) (most : ℕ) where
       number = λ z. (l, omega (arith, rests.few, w.few));
       ended = λ b. absurd (omega arith);
     }
+
+-- as many ticks were done as the time has gone on by
+pub advanced-by : (s s' : State) (most count : ℕ) → Advances s most s' count 0 → (s.run.time ≤ s'.run.time) × Advances s most s' (s'.run.time - s.run.time) 0
+advanced-by s s' most count a =
+    let t : s'.run.time ≡ s.run.time + count = (a.went refl).time in
+    let e : count ≡ s'.run.time - s.run.time = omega (arith, t) in
+    (omega (arith, t), subst (λ (k : ℕ). Advances s most s' k 0) e a)

@@ -1,7 +1,6 @@
 -- What the public functions of the simulator do, by the model's definitions.
 use Rattle.std.specs.Prelude.{◌≡◌, true, false, List, Result, Ok, Err, ℕ, length}
 use Rattle.types.specs.declared.Event.{Event}
-use Rattle.types.specs.declared.Head.{Head}
 use Rattle.types.specs.declared.Setup.{Setup}
 use Rattle.model.specs.State.{State, After}
 use Rattle.model.specs.Opening.{opening}
@@ -25,11 +24,6 @@ Applies e s a = a ≡ applied e s
 -- in their places, ws'
 abbrev pub AppliesAll : List ℕ → State → State → List ℕ → Type 0
 AppliesAll ws s s' ws' = record { state = s'; words = ws' } ≡ words_applied ws s
-
--- the head that a load leaves, which stays where the load is refused
-abbrev pub head_after : Head → Result Piece ℕ → Head
-head_after h (Ok r) = r.head
-head_after h (Err k) = h
 
 -- that a load went on from x, up to so many steps, in the lent bytes `out`: it left the run and the lent buffers s', r and the bytes `after`. A run
 -- that is unsound, but for its time, answers 9, and all stays as it was

@@ -5,7 +5,7 @@ use Rattle.types.specs.declared.Message.{Message}
 use Rattle.types.specs.declared.Message.TheVariants.{View, Vote, Vc, Qc}
 use Rattle.types.specs.declared.Event.{Event}
 use Rattle.types.specs.declared.Run.{Run}
-use Rattle.types.specs.declared.Head.{Head}
+use Rattle.types.specs.declared.Answer.{Answer}
 use Rattle.types.specs.declared.Traffic.{Traffic}
 use Rattle.types.specs.declared.Processor.{Processor}
 use Rattle.types.specs.declared.Input.TheVariants.{Tick}
@@ -17,7 +17,7 @@ use Rattle.base.specs.Members.{Every}
 use Rattle.base.specs.Scan.{some}
 use Rattle.types.specs.Traffic.{traffic_delivered}
 use Rattle.types.specs.Messages.{processor_in, view_in, stage_of, lacks_form}
-use Rattle.model.specs.State.{State, After, state_of, run_from, with_run, with_network, with_held, with_traffic, clock_of, view_of, is_correct, entered_word, added, posted, capacity, room_in, check_of, refused, done}
+use Rattle.model.specs.State.{State, After, state_of, with_run, with_network, with_held, with_gst, with_traffic, clock_of, view_of, is_correct, entered_word, added, posted, capacity, room_in, check_of, refused, done}
 use Rattle.model.specs.Moves.{Change, to_correct, moved_to, formed_messages, heard_change, stay, entries, handling, advanced, arrival, arrivals, made}
 use Rattle.model.specs.Checks.{judged, plan_outside, faulty_outside, unsound, clock_outside, at_end, reaches_end}
 use Rattle.model.specs.Events.{outcome_checks, named_checks, wait_since, tick_once, Ticks, tick_run, applied}
@@ -26,9 +26,12 @@ use Rattle.simulator.specs.declared.Move.{Move}
 use Rattle.simulator.specs.declared.Reaction.{Reaction}
 use Rattle.simulator.specs.declared.Reaction.TheVariants.{Heard, Moved as MovedBy}
 use Rattle.simulator.specs.declared.Task.{Task}
-use Rattle.simulator.specs.declared.ticks.Ticked.{Ticked}
-use Rattle.simulator.specs.declared.Task.TheVariants.{Finish, Handle, Run as RunTicks}
+use Rattle.simulator.specs.declared.Task.TheVariants.{Finish, Settle as SettleRun, Handle, Run as RunTicks}
 use Rattle.buffers.specs.Network.{packable, taken}
+
+-- what a call left of the run that was lent to it, its answer, and the buffers as it left them
+abbrev pub left_as : Run → Answer → List ℕ → List ℕ → After
+left_as run answer tally network = record { state = state_of run tally network; answer = answer }
 
 -- ---- messages sent
 
@@ -156,14 +159,9 @@ pub record TickedTo (s s' : State) (check : ℕ) : Type 0 where
   pub number : check ≡ check_of (tick_once s).answer
   pub went : check ≡ 0 → Went s s'
 
--- the head that ticks leave, which stays where a check refuses the first
-abbrev pub head_ticked : Head → Result Ticked ℕ → Head
-head_ticked h (Ok x) = x.head
-head_ticked h (Err k) = h
-
 -- how many were done
-abbrev pub count_ticked : Result Ticked ℕ → ℕ
-count_ticked (Ok x) = x.count
+abbrev pub count_ticked : Result ℕ ℕ → ℕ
+count_ticked (Ok x) = x
 count_ticked (Err k) = 0
 
 -- so many ticks, ended by this check
@@ -206,17 +204,6 @@ finished s s' c = judged (refused s) (outcome_checks s' c) (done (made s' c))
 abbrev pub held_without : ℕ → ℕ → ℕ
 held_without h i = cond (ltb i h) (h - 1) h
 
-abbrev pub head_without : Head → ℕ → Head
-head_without x i = record {
-  plan = x.plan;
-  faulty = x.faulty;
-  time = x.time;
-  settled = x.settled;
-  gst = x.gst;
-  held = held_without x.held i;
-  traffic = x.traffic;
-}
-
 -- the sums then: m, which was there, is delivered
 abbrev pub traffic_without : Traffic → Message → ℕ → ℕ → ℕ → Traffic
 traffic_without x m wait h i = cond (ltb i h) (traffic_delivered x m wait) x
@@ -243,6 +230,7 @@ Admitted e s = (lacks_form e ≡ false) × (unsound s ≡ false)
 -- that doing the task, or the refusal by a check, is applying the event
 abbrev pub Tasks : Event → State → Result Task ℕ → Type 0
 Tasks e s (Err k) = refused s k ≡ applied e s
-Tasks e s (Ok (Finish x)) = done (with_run (run_from x s.run.clocks s.run.views) s) ≡ applied e s
+Tasks e s (Ok Finish) = done s ≡ applied e s
+Tasks e s (Ok SettleRun) = done (with_run (with_gst s.run.time s.run) s) ≡ applied e s
 Tasks e s (Ok (Handle m i)) = CanHandle s m × (handled s m i ≡ applied e s)
 Tasks e s (Ok (RunTicks m)) = (0 < m) × (unsound s ≡ false) × (tick_run m s ≡ applied e s)

@@ -1,5 +1,6 @@
 // The simulator: a setup is opened, and each event moves the run and the lent buffers exactly as the definitions say. Whatever is handed in gets
-// either the step or a refusal by the first check that fails, and a refused call has changed nothing.
+// either the step or a refusal by the first check that fails, and a refused call has changed nothing. A run is lent whole; the tally and the network, which
+// C lends, stand beside it: as fields of a struct each function would have to ensure that they are the same references, as long as before.
 #![tactic(auto)]
 
 mod events;
@@ -9,15 +10,14 @@ mod tasks;
 mod ticks;
 
 ghost use Rattle.std.specs.Prelude.{◌≡◌, false, ℕ};
-ghost use Rattle.model.specs.State.{state_of, run_from, handed_back, left_behind, accepted};
+ghost use Rattle.model.specs.State.{state_of, handed_back, accepted, with_gst};
 ghost use Rattle.model.specs.Checks.{unsound_for_good};
 ghost use Rattle.liveness.specs.Promises.{Tabled, answer_from};
 ghost use Rattle.loads.specs.Loads.{point_of};
-ghost use Rattle.simulator.specs.Clauses.{Opens, Applies, AppliesAll, head_after, WritesLoad};
+ghost use Rattle.simulator.specs.Inner.{left_as};
+ghost use Rattle.simulator.specs.Clauses.{Opens, Applies, AppliesAll, WritesLoad};
 
-use types::{
-    Answer, Applied, AppliedHead, Event, Form, Head, Message, Processor, Run, Sends, Setup,
-};
+use types::{Answer, Applied, Event, Form, Message, Processor, Run, Sends, Setup};
 
 // How a processor moves: its next state, and what it sends.
 #[derive(Clone, Copy)]
@@ -37,75 +37,61 @@ pub(crate) enum Reaction {
 // A piece of a load: where the load stands after it, the bytes written, and whether more of them are needed.
 #[derive(Clone, Copy)]
 pub struct Piece {
-    pub head: Head,
     pub seed: u64,
     pub step: u64,
     pub bytes: usize,
     pub full: bool,
 }
 
-// What an event whose input no check refuses comes to: a head that is left, all else being as it was; a message to be handled, and the place where
-// it is held, or how many are held where it is not one of them, as `buffers::find` answers and `buffers::remove` takes it; or ticks to be run.
+// What an event whose input no check refuses comes to: nothing; the network keeps its delay from then on; a message is to be handled, and the place where it is
+// held, or how many are held where it is not one of them, as `buffers::find` answers and `buffers::remove` takes it; or ticks are to be run.
 #[derive(Clone, Copy)]
 pub(crate) enum Task {
-    Finish(Head),
+    Finish,
+    Settle,
     Handle(Message, usize),
     Run(u64),
 }
 
-// A setup is opened in place of the run at hand: the run's tables are lent beside its head.
-pub fn open_lent(
-    head: Head,
-    setup: Setup,
-    clocks: &mut [u64; 64],
-    views: &mut [u64; 64],
-    tally: &mut [u64],
-    network: &mut [u64],
-) -> AppliedHead
-    ensures { Opens setup (state_of (run_from head clocks.old views.old) tally.old network.old)
-        (left_behind result clocks.new views.new tally.new network.new) }
+// A setup is opened in place of the run that is lent.
+pub fn open_in_place(run: &mut Run, setup: Setup, tally: &mut [u64], network: &mut [u64]) -> Answer
+    ensures { Opens setup (state_of run.old tally.old network.old) (left_as run.new result tally.new network.new) }
 {
     match checks::setup_check(setup, tally.len(), network.len()) {
         Ok(()) => {
-            let next = opening::start(setup, tally, network);
-            // By name first: a table is not stored straight from a field where the tables are lent.
-            let first_clocks = next.clocks;
-            let first_views = next.views;
-            *clocks = first_clocks;
-            *views = first_views;
-            AppliedHead {
-                head: types::head_of(next),
-                answer: Answer::Done(0, next.held),
-            }
+            *run = opening::start(setup, tally, network);
+            Answer::Done(0, run.held)
         }
-        Err(check) => AppliedHead {
-            head,
-            answer: Answer::Refused(check),
-        },
+        Err(check) => Answer::Refused(check),
     }
 }
 
-// An event is applied to a run whose tables are lent beside its head, `broken` being what check 9 says of it but for the time.
+// From then on the network keeps its delay.
+fn settle(run: &mut Run) -> Answer
+    ensures { (run.new ≡ with_gst run.old.time run.old) × (result ≡ Answer.Done 0 run.old.held) }
+{
+    run.settled = true;
+    run.gst = run.time;
+    Answer::Done(0, run.held)
+}
+
+// An event is applied to the run that is lent, `broken` being what check 9 says of it but for the time.
 fn apply_judged(
-    head: Head,
+    run: &mut Run,
     broken: bool,
     event: Event,
-    clocks: &mut [u64; 64],
-    views: &mut [u64; 64],
     tally: &mut [u64],
     network: &mut [u64],
-) -> AppliedHead
-    requires { broken ≡ unsound_for_good (state_of (run_from head clocks.old views.old) tally.old network.old) }
-    ensures { Applies event (state_of (run_from head clocks.old views.old) tally.old network.old)
-        (left_behind result clocks.new views.new tally.new network.new) }
+) -> Answer
+    requires { broken ≡ unsound_for_good (state_of run.old tally.old network.old) }
+    ensures { Applies event (state_of run.old tally.old network.old) (left_as run.new result tally.new network.new) }
 {
-    match tasks::judge(head, broken, event, tally, network) {
-        Err(check) => events::refuse(head, check),
-        Ok(Task::Finish(next)) => events::done(next),
-        Ok(Task::Handle(message, place)) => {
-            events::handle(head, message, place, clocks, views, tally, network)
-        }
-        Ok(Task::Run(m)) => ticks::run_ticks(head, m, clocks, views, tally, network),
+    match tasks::judge(run, broken, event, tally, network) {
+        Err(check) => Answer::Refused(check),
+        Ok(Task::Finish) => Answer::Done(0, run.held),
+        Ok(Task::Settle) => settle(run),
+        Ok(Task::Handle(message, place)) => events::handle(run, message, place, tally, network),
+        Ok(Task::Run(m)) => ticks::run_ticks(run, m, tally, network),
     }
 }
 
@@ -113,84 +99,48 @@ fn apply_judged(
 pub fn open(run: Run, setup: Setup, tally: &mut [u64], network: &mut [u64]) -> Applied
     ensures { Opens setup (state_of run tally.old network.old) (handed_back result tally.new network.new) }
 {
-    let mut clocks = run.clocks;
-    let mut views = run.views;
-    let outcome = open_lent(
-        types::head_of(run),
-        setup,
-        &mut clocks,
-        &mut views,
-        tally,
-        network,
-    );
-    let head = outcome.head;
-    let answer = outcome.answer;
-    Applied {
-        run: types::gather(head, &clocks, &views),
-        answer,
-    }
+    let mut next = run;
+    let answer = open_in_place(&mut next, setup, tally, network);
+    Applied { run: next, answer }
 }
 
 // An event is applied to the run and the lent buffers, whatever they hold.
 pub fn apply(run: Run, event: Event, tally: &mut [u64], network: &mut [u64]) -> Applied
     ensures { Applies event (state_of run tally.old network.old) (handed_back result tally.new network.new) }
 {
-    let mut clocks = run.clocks;
-    let mut views = run.views;
-    let head = types::head_of(run);
-    let broken = checks::unsound_for_good(Form::Packed, head, &clocks, &views, tally, network);
-    let outcome = apply_judged(head, broken, event, &mut clocks, &mut views, tally, network);
-    let next = outcome.head;
-    let answer = outcome.answer;
-    Applied {
-        run: types::gather(next, &clocks, &views),
-        answer,
-    }
+    let mut next = run;
+    let broken = checks::unsound_for_good(Form::Packed, &next, tally, network);
+    let answer = apply_judged(&mut next, broken, event, tally, network);
+    Applied { run: next, answer }
 }
 
 // The events in the words are applied one after the other, `broken` being what check 9 says of the run but for the time, and each one's words
 // become its answer: of check 9 the time alone is looked at before each.
 fn apply_words(
-    head: Head,
+    run: &mut Run,
     broken: bool,
-    clocks: &mut [u64; 64],
-    views: &mut [u64; 64],
     tally: &mut [u64],
     network: &mut [u64],
     events: &mut [u64],
-) -> Head
-    requires { (broken ≡ unsound_for_good (state_of (run_from head clocks.old views.old) tally.old network.old)) × (broken ≡ false → Tabled (run_from head clocks.old views.old)) }
-    ensures { AppliesAll events.old (state_of (run_from head clocks.old views.old) tally.old network.old)
-        (state_of (run_from result clocks.new views.new) tally.new network.new) events.new }
+)
+    requires { (broken ≡ unsound_for_good (state_of run.old tally.old network.old)) × (broken ≡ false → Tabled run.old) }
+    ensures { AppliesAll events.old (state_of run.old tally.old network.old) (state_of run.new tally.new network.new) events.new }
 {
     let count = events.len() / words::EVENT_WORDS;
-    let mut current = head;
     for i in 0..count {
         let event = words::event_at(events, i);
-        let outcome = apply_judged(current, broken, event, clocks, views, tally, network);
-        let next = outcome.head;
-        let answer = outcome.answer;
-        words::put_answer(events, i, answer, next.held);
-        current = next;
+        let answer = apply_judged(run, broken, event, tally, network);
+        words::put_answer(events, i, answer, run.held);
     }
-    current
 }
 
 // The events in the words are applied to the run and the lent buffers one after the other, whatever they hold, and each one's words become its
 // answer. What of check 9 lasts is looked at once, and the time before each.
-pub fn apply_events(
-    head: Head,
-    clocks: &mut [u64; 64],
-    views: &mut [u64; 64],
-    tally: &mut [u64],
-    network: &mut [u64],
-    events: &mut [u64],
-) -> Head
-    ensures { AppliesAll events.old (state_of (run_from head clocks.old views.old) tally.old network.old)
-        (state_of (run_from result clocks.new views.new) tally.new network.new) events.new }
+pub fn apply_events(run: &mut Run, tally: &mut [u64], network: &mut [u64], events: &mut [u64])
+    ensures { AppliesAll events.old (state_of run.old tally.old network.old) (state_of run.new tally.new network.new) events.new }
 {
-    let broken = checks::unsound_for_good(Form::Packed, head, clocks, views, tally, network);
-    apply_words(head, broken, clocks, views, tally, network, events)
+    let broken = checks::unsound_for_good(Form::Packed, run, tally, network);
+    apply_words(run, broken, tally, network, events);
 }
 
 // Whether an event was accepted, by its answer in words.
@@ -203,36 +153,32 @@ fn is_accepted(check: u64, ticks: u64) -> bool
 // A load out of a seed number goes on, from the step named and up to `steps` steps: event by event is chosen and applied, and its line written, for
 // as long as it has room and is accepted. What of check 9 lasts is looked at once, and refuses the load; the time is looked at before each event.
 pub fn write_load(
-    head: Head,
+    run: &mut Run,
     seed: u64,
     step: u64,
     steps: u64,
     settle: u64,
-    clocks: &mut [u64; 64],
-    views: &mut [u64; 64],
     tally: &mut [u64],
     network: &mut [u64],
     out: &mut [u8],
 ) -> Result<Piece, u64>
-    ensures { WritesLoad steps settle (point_of (state_of (run_from head clocks.old views.old) tally.old network.old) seed step) out.old
-        (state_of (run_from (head_after head result) clocks.new views.new) tally.new network.new) result out.new }
+    ensures { WritesLoad steps settle (point_of (state_of run.old tally.old network.old) seed step) out.old
+        (state_of run.new tally.new network.new) result out.new }
 {
-    let broken = checks::unsound_for_good(Form::Packed, head, clocks, views, tally, network);
+    let broken = checks::unsound_for_good(Form::Packed, run, tally, network);
     if broken {
         return Err(9);
     }
-    let mut current = head;
     let mut last = seed;
     let mut next = step;
     let mut at = 0;
     // No count from step to step: a turn says how many steps it took.
     while next < steps {
-        let turn = loads::next_turn(current, last, next, settle, network);
+        let turn = loads::next_turn(run, last, next, settle, network);
         let event = turn.event;
         let bytes = writer::event_bytes(event);
         if out.len() - at < bytes {
             return Ok(Piece {
-                head: current,
                 seed: last,
                 step: next,
                 bytes: at,
@@ -241,16 +187,14 @@ pub fn write_load(
         }
         let mut batch = [0u64; words::EVENT_WORDS];
         words::put_numbers(&mut batch, 0, words::numbers_of(event));
-        let left = apply_words(current, false, clocks, views, tally, network, &mut batch);
+        apply_words(run, false, tally, network, &mut batch);
         if is_accepted(batch[1], batch[2]) {
             let _ = writer::write_event(event, &mut out[at..]);
-            current = left;
             last = turn.seed;
             next += turn.steps;
             at += bytes;
         } else {
             return Ok(Piece {
-                head: left,
                 seed: last,
                 step: next,
                 bytes: at,
@@ -259,7 +203,6 @@ pub fn write_load(
         }
     }
     Ok(Piece {
-        head: current,
         seed: last,
         step: next,
         bytes: at,

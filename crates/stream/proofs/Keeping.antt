@@ -3,13 +3,9 @@ use mathlib.Core.Path.{◌≡◌, sym, ap, ◌∙◌}
 use Prim.Native.Nat.{ℕ, ◌+◌, ◌-◌, ◌≤◌}
 use native.Mathlib.Nat.{zero-add}
 use native.Mathlib.Omega.{arith}
-use mathlib.Core.List.{List, ◌++◌}
+use mathlib.Core.List.{List}
 use lib.ListN.{length, take, drop, length-drop}
-use lib.Seq.{take_at, drop_at, take-add, take-paste, length-take-le, paste}
-
--- a read behind the first k bytes leaves these
-pub first-kept : (k : ℕ) (w f : List ℕ) → k ≤ length w → take k (take k w ++ f) ≡ take k w
-first-kept k w f h = take_at (take k w) f k (length-take-le k w h)
+use lib.Seq.{drop_at, take-add, take-paste, length-take-le, paste}
 
 -- those that were moved
 pub kept-bytes : (w : List ℕ) (used filled : ℕ) → used ≤ filled → filled ≤ length w → take (filled - used) (paste w 0 (drop used w) (filled - used)) ≡ drop used (take filled w)

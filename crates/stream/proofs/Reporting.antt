@@ -1,23 +1,14 @@
 -- Reports: what is printed is of the state at hand, of the schedule's history, and never a refusal. Assumes nothing.
-use Rattle.std.specs.Prelude.{Ok, Result}
-use mathlib.Core.Path.{◌≡◌, sym, ap, ◌∙◌, subst}
+use mathlib.Core.Path.{◌≡◌, ap, ◌∙◌}
 use mathlib.Core.Bool.{true, false, cond}
-use mathlib.Core.List.{List, []}
-use Prim.Native.Nat.{ℕ, ◌≤◌}
-use lib.ListN.{length, take}
-use Rattle.types.specs.declared.Head.{Head}
-use Rattle.types.specs.declared.Run.{Run}
-use Rattle.types.specs.declared.Totals.{Totals}
-use Rattle.types.specs.Runs.{run_from, head_of, head-back}
-use Rattle.model.specs.State.{State, state_of}
+use mathlib.Core.List.{[]}
+use lib.ListN.{take}
+use Rattle.model.specs.State.{State}
 use Rattle.model.specs.Checks.{unsound}
 use Rattle.model.specs.Traffic.{held_counts, totals}
-use Rattle.lines.specs.Clauses.{Prints}
-use Rattle.lines.specs.Printout.{traffic_text, totals_text, totals_most}
+use Rattle.lines.specs.Printout.{traffic_text, totals_text}
 use Rattle.lines.specs.Splitting.{input_lines}
-use Rattle.lines.proofs.Putting.{put-none, put-prints}
-use Rattle.printout.specs.declared.Session.{Session}
-use Rattle.printout.specs.Printout.{Standing, standing_of, standing_after, at_start}
+use Rattle.printout.specs.Printout.{Standing, standing_after, at_start}
 use Rattle.printout.specs.Traffic.{report_text, traffic_printout}
 use Rattle.printout.proofs.Reporting.{reports-fed}
 use Rattle.stream.specs.History.{History, never, opened_with, last_run, history_text}
@@ -33,21 +24,6 @@ open-text x e = rw e
 closed-text : (x : Standing) → x.opened ≡ false → report_text x ≡ []
 unfolding report_text
 closed-text x e = rw e
-
--- the totals of the run, asked with its head and its tables
-pub reported : (s : Session) (t ws out : List ℕ) (h : Head) (x : Result Totals ℕ) (r : Result ℕ ℕ) (after : List ℕ) → s.opened ≡ true → h ≡ head_of s.run
-    → x ≡ totals (state_of (run_from h s.run.clocks s.run.views) t ws) → Prints totals_most (totals_text x) out r after
-    → Prints totals_most (report_text (standing_of s t ws)) out r after
-reported s t ws out h x r after o e q p =
-    let run : run_from h s.run.clocks s.run.views ≡ s.run = ap (λ (z : Head). run_from z s.run.clocks s.run.views) e ∙ head-back s.run in
-    let same : totals_text x ≡ report_text (standing_of s t ws) =
-    ap totals_text (q ∙ ap (λ (z : Run). totals (state_of z t ws)) run) ∙ sym (open-text (standing_of s t ws) o) in
-    subst (λ (text : List ℕ). Prints totals_most text out r after) same p
-
--- no run is open
-pub nothing-reported : (x : Standing) (out : List ℕ) → x.opened ≡ false → totals_most ≤ length out → Prints totals_most (report_text x) out (Ok 0) out
-nothing-reported x out o h =
-    subst (λ (text : List ℕ). Prints totals_most text out (Ok 0) out) (sym (closed-text x o)) (put-prints totals_most [] out 0 out h (put-none out))
 
 -- ---- where some input led
 

@@ -80,11 +80,6 @@ unfolding next_line before_newline
 reaches-start tally network window s e t n =
     record { input = []; leads = record { state = λ i. standing_of (e i) (t i) (n i); begins = refl }; within = omega arith; rest = refl }
 
--- a read leaves the bytes that were not used
-pub reaches-read : (tally network w w' : List ℕ) (r : Progress) → Reaches tally network w r → take r.bytes w' ≡ take r.bytes w → length w' ≡ length w
-    → Reaches tally network w' r
-reaches-read tally network w w' r h e l = record { input = h.input; leads = h.leads; within = omega (arith, h.within); rest = ap next_line e ∙ h.rest }
-
 pub threads-within : (x : Standing) (late : Bool) (filled : ℕ) (w out tally network : List ℕ) (a : Progress) → filled ≤ length w → Threads x late (take filled w) out tally network a → a.bytes ≤ filled
 threads-within x late filled w out tally network a f t = omega (arith, t.within, length-take-le filled w f)
 

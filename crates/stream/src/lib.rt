@@ -141,19 +141,17 @@ fn write_text<W: Write>(text: Result<usize, u64>, out: &[u8], to: &mut W) -> io:
 }
 
 // The report of the run that is open; nothing where none is.
+#[tactic(auto, unfolding(printout::specs::Traffic::report_text))]
 fn print_report(
-    session: Session,
+    session: &Session,
     tally: &[u64],
     network: &[u64],
     out: &mut [u8],
 ) -> Result<usize, u64>
-    ensures { Prints totals_most (report_text (standing_of session tally.now network.now)) out.old result out.new }
+    ensures { Prints totals_most (report_text (standing_of session.now tally.now network.now)) out.old result out.new }
 {
     if session.opened {
-        let run = session.run;
-        let head = types::head_of(run);
-        let totals = sums::totals(head, &run.clocks, &run.views, tally, network);
-        writer::write_totals(totals, out)
+        writer::write_totals(sums::totals(&session.run, tally, network), out)
     } else if out.len() < writer::TOTALS_MOST {
         Err(1)
     } else {
@@ -179,7 +177,7 @@ fn serve<R: Read, W: Write>(from: &mut R, to: &mut W, reporting: bool) -> io::Re
             &mut window,
             &mut out,
         )?;
-        let report = print_report(at_end.session, &tally, &network, &mut out);
+        let report = print_report(&at_end.session, &tally, &network, &mut out);
         write_text(report, &out, to)
     } else {
         let at_end = answer_input(from, to, &mut tally, &mut network, &mut window, &mut out)?;

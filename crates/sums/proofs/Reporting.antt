@@ -6,9 +6,7 @@ use Rattle.types.specs.declared.Message.{Message}
 use Rattle.types.specs.declared.Message.TheVariants.{View, Vote, Vc, Qc}
 use Rattle.types.specs.declared.Form.TheVariants.{Packed}
 use Rattle.types.specs.declared.Counts.{Counts}
-use Rattle.types.specs.declared.Traffic.{Traffic}
-use Rattle.types.specs.declared.Totals.{Totals}
-use Rattle.types.specs.Traffic.{wrapped, count_one, no_counts, no_traffic}
+use Rattle.types.specs.Traffic.{wrapped, count_one, no_counts}
 use Rattle.types.specs.Messages.{kind_of, kind_least, kind_most}
 use Rattle.model.specs.State.{State, Held, held_at, capacity}
 use Rattle.model.specs.Checks.{unsound, kind_outside}

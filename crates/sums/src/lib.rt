@@ -3,11 +3,11 @@
 
 ghost use Rattle.std.specs.Prelude.{◌≡◌, ◌≤◌, replicate};
 ghost use Rattle.types.specs.Traffic.{counts_more, traffic_sent, traffic_delivered};
-ghost use Rattle.model.specs.State.{state_of, run_from, capacity};
+ghost use Rattle.model.specs.State.{state_of, capacity};
 ghost use Rattle.model.specs.Traffic.{totals};
 ghost use Rattle.sums.specs.Held.{counts_held};
 
-use types::{Counts, Form, Head, Message, Totals, Traffic};
+use types::{Counts, Form, Message, Run, Totals, Traffic};
 
 // The check that refuses an unsound run.
 const UNSOUND: u64 = 9;
@@ -72,20 +72,14 @@ fn count_held(network: &[u64], held: usize) -> Counts
 }
 
 // A run's traffic and the messages in flight by kind, or check 9.
-pub fn totals(
-    head: Head,
-    clocks: &[u64; 64],
-    views: &[u64; 64],
-    tally: &[u64],
-    network: &[u64],
-) -> Result<Totals, u64>
-    ensures { result ≡ totals (state_of (run_from head clocks.now views.now) tally.now network.now) }
+pub fn totals(run: &Run, tally: &[u64], network: &[u64]) -> Result<Totals, u64>
+    ensures { result ≡ totals (state_of run.now tally.now network.now) }
 {
-    if checks::unsound(Form::Packed, head, clocks, views, tally, network) {
+    if checks::unsound(Form::Packed, run, tally, network) {
         return Err(UNSOUND);
     }
     Ok(Totals {
-        traffic: head.traffic,
-        held: count_held(network, head.held),
+        traffic: run.traffic,
+        held: count_held(network, run.held),
     })
 }

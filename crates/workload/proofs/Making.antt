@@ -12,10 +12,9 @@ use lib.ListN.{length}
 use borrow.Rule.Slice.PartMut.{mid_of, put_mid}
 use borrow.Author.Tests.{ne_eqb, le-ltb}
 use Rattle.base.specs.Tests.{le?, by_cond}
-use Rattle.types.specs.declared.Run.{Run}
 use Rattle.types.specs.declared.Setup.{Setup}
 use Rattle.types.specs.Quantities.{n_most}
-use Rattle.model.specs.State.{State, After, state_of, check_of, accepted, refused, done}
+use Rattle.model.specs.State.{State, After, check_of, accepted, refused, done}
 use Rattle.model.specs.Checks.{Check, judged, refusal, unsound_for_good}
 use Rattle.model.specs.Opening.{opened, opening, setup_checks}
 use Rattle.liveness.proofs.Link.{Planned}
@@ -148,12 +147,3 @@ module _ (u : Setup) (s : State) (steps settle seed : ℕ) (out : List ℕ) wher
         -- the run that was opened is one that a load goes on from
         pub not-refused : (c : ℕ) → c ≡ cond (unsound_for_good h.state) 9 0 → 0 < c → ⊥
         not-refused c e l = let z : c ≡ 0 = e ∙ ap (λ (b : Bool). cond b 9 0) good in omega arith
-
--- a load goes on alike on the same run, which is sound but for its time
-pub further-run : (t ws : List ℕ) (steps settle seed step : ℕ) {r r' : Run} → r ≡ r' → {out after : List ℕ} {k : ℕ} {y : Point} {full : Bool}
-    → (unsound_for_good (state_of r t ws) ≡ false) × PutLoad (further_load steps settle (point_of (state_of r t ws) seed step) (length out)) out y full k after
-    → ◌≡◌ {A = ℕ} (cond (unsound_for_good (state_of r' t ws)) 9 0) 0 × PutLoad (further_load steps settle (point_of (state_of r' t ws) seed step) (length out)) out y full k after
-further-run t ws steps settle seed step e {out} {after} {k} {y} {full} h =
-    subst (λ (v : Run). ◌≡◌ {A = ℕ} (cond (unsound_for_good (state_of v t ws)) 9 0) 0
-    × PutLoad (further_load steps settle (point_of (state_of v t ws) seed step) (length out)) out y full k after) e
-    (ap (λ (b : Bool). cond b 9 0) h.0, h.1)

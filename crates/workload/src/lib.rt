@@ -36,23 +36,10 @@ pub fn generate_more(
         (further_load steps settle (point_of (state_of run tally.old network.old) seed step) (length out.old)) (state_of run tally.old network.old) out.old
         tally.new network.new result out.new }
 {
-    let mut clocks = run.clocks;
-    let mut views = run.views;
-    let piece = simulator::write_load(
-        types::head_of(run),
-        seed,
-        step,
-        steps,
-        settle,
-        &mut clocks,
-        &mut views,
-        tally,
-        network,
-        out,
-    )?;
-    let head = piece.head;
+    let mut run = run;
+    let piece = simulator::write_load(&mut run, seed, step, steps, settle, tally, network, out)?;
     Ok(Generated {
-        run: types::gather(head, &clocks, &views),
+        run,
         seed: piece.seed,
         step: piece.step,
         bytes: piece.bytes,

@@ -1,5 +1,5 @@
 use Rattle.std.proofs.Common.{Ok, Err}
-use Rattle.fever.proofs.Carrying.{outside-head, carry-short, carry-outside, carry-neither, carry-told}
+use Rattle.fever.proofs.Carrying.{outside-run, carry-short, carry-outside, carry-neither, carry-told}
 use Rattle.fever.specs.Clauses.{lent_of}
 use Rattle.fever.proofs.carry_words.Goals as goal
 
@@ -7,13 +7,13 @@ pub returns-then-run-lt-RUN_WORDS : goal.returns-then-run-lt-RUN_WORDS
 returns-then-run-lt-RUN_WORDS c = carry-short c.args.from c.args.to (lent_of c.args.run.now c.args.tally.now c.args.network.now) c.args.target.now c.if-run-lt-RUN_WORDS.true
 
 pub returns-then-target_outside : goal.returns-then-target_outside
-returns-then-target_outside c = carry-outside c.args.from c.args.to (lent_of c.args.run.now c.args.tally.now c.args.network.now) c.args.target.now c.if-run-lt-RUN_WORDS.false c.if-run-gt1.true (outside-head c.args.from c.args.to (lent_of c.args.run.now c.args.tally.now c.args.network.now) c.args.target.now c.head_in-head.result c.head_in-head.ensures _ _ c.target_outside.ensures c.if-target_outside.true)
+returns-then-target_outside c = carry-outside c.args.from c.args.to (lent_of c.args.run.now c.args.tally.now c.args.network.now) c.args.target.now c.if-run-lt-RUN_WORDS.false c.if-run-gt1.true (outside-run c.args.from c.args.to (lent_of c.args.run.now c.args.tally.now c.args.network.now) c.args.target.now c.run_in-own.result c.run_in-own.ensures _ _ c.target_outside.ensures c.if-target_outside.true)
 
 pub returns-else-target_outside : goal.returns-else-target_outside
-returns-else-target_outside c = carry-neither c.args.from c.args.to (lent_of c.args.run.now c.args.tally.now c.args.network.now) c.args.target.now c.if-run-lt-RUN_WORDS.false c.if-run-gt1.true (outside-head c.args.from c.args.to (lent_of c.args.run.now c.args.tally.now c.args.network.now) c.args.target.now c.head_in-head.result c.head_in-head.ensures _ _ c.target_outside.ensures c.if-target_outside.false)
+returns-else-target_outside c = carry-neither c.args.from c.args.to (lent_of c.args.run.now c.args.tally.now c.args.network.now) c.args.target.now c.if-run-lt-RUN_WORDS.false c.if-run-gt1.true (outside-run c.args.from c.args.to (lent_of c.args.run.now c.args.tally.now c.args.network.now) c.args.target.now c.run_in-own.result c.run_in-own.ensures _ _ c.target_outside.ensures c.if-target_outside.false)
 
 pub returns-in-Ok : goal.returns-in-Ok
-returns-in-Ok c = carry-told c.args.from c.args.to (lent_of c.args.run.now c.args.tally.now c.args.network.now) c.args.target.now c.if-run-lt-RUN_WORDS.false c.if-run-gt1.false _ _ _ (record { head = c.head_in-head.ensures; clocks_in = c.table_in-clocks.ensures; views_in = c.table_in-views.ensures }) (Ok tt) _ c.in-Ok.ensures
+returns-in-Ok c = carry-told c.args.from c.args.to (lent_of c.args.run.now c.args.tally.now c.args.network.now) c.args.target.now c.if-run-lt-RUN_WORDS.false c.if-run-gt1.false _ c.run_in-own.ensures (Ok tt) _ c.in-Ok.ensures
 
 pub returns-in-Err : goal.returns-in-Err
-returns-in-Err c = carry-told c.args.from c.args.to (lent_of c.args.run.now c.args.tally.now c.args.network.now) c.args.target.now c.if-run-lt-RUN_WORDS.false c.if-run-gt1.false _ _ _ (record { head = c.head_in-head.ensures; clocks_in = c.table_in-clocks.ensures; views_in = c.table_in-views.ensures }) (Err c.in-Err.check) _ c.in-Err.ensures
+returns-in-Err c = carry-told c.args.from c.args.to (lent_of c.args.run.now c.args.tally.now c.args.network.now) c.args.target.now c.if-run-lt-RUN_WORDS.false c.if-run-gt1.false _ c.run_in-own.ensures (Err c.in-Err.check) _ c.in-Err.ensures

@@ -10,6 +10,5 @@ returns-then-setup-lt-SETUP_WORDS c =
     ]
 
 pub returns : goal.returns
-returns c = opening-done _ _ _ _ _ _ _ _ c.open_lent-outcome.result _ _ _ _ c.if-setup-lt-SETUP_WORDS.false c.if-run-lt-RUN_WORDS.false c.setup_in-start.ensures
-    (record { head = c.head_in-head.ensures; clocks_in = c.table_in-clocks.ensures; views_in = c.table_in-views.ensures })
-    c.open_lent-outcome.ensures (record { check = c.put_outcome.ensures.0; words = c.put_outcome.ensures.1 })
+returns c = opening-done _ _ _ _ c.open_in_place-answer.new.run c.open_in_place-answer.result _ _ _ _ c.if-setup-lt-SETUP_WORDS.false c.if-run-lt-RUN_WORDS.false c.setup_in-start.ensures
+    c.run_in-own.ensures c.open_in_place-answer.ensures (record { check = c.put_outcome.ensures.0; words = c.put_outcome.ensures.1 })

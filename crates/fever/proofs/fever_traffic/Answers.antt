@@ -9,5 +9,5 @@ pub returns-in-Some : goal.returns-in-Some
 returns-in-Some c = report-no-run _ _ c.if-report-lt-REPORT_WORDS.false _ c.in-Some.ensures
 
 pub returns : goal.returns
-returns c = report-told (lent_of c.args.run.now c.args.tally.now c.args.network.now) c.args.report.now c.in_default.ensures.long c.if-report-lt-REPORT_WORDS.false c.in_default.ensures.settled _ _ _
-    (record { head = c.head_in-head.ensures; clocks_in = c.table_in-clocks.ensures; views_in = c.table_in-views.ensures }) c.totals-totals.result c.totals-totals.ensures _ c.put_report.ensures
+returns c = report-told (lent_of c.args.run.now c.args.tally.now c.args.network.now) c.args.report.now c.in_default.ensures.long c.if-report-lt-REPORT_WORDS.false c.in_default.ensures.settled _ c.run_in.ensures
+    c.totals-totals.result c.totals-totals.ensures _ c.put_report.ensures

@@ -1,10 +1,9 @@
-use Rattle.std.proofs.Common.{eq-eqb, ne_eqb}
 use Rattle.leaps.proofs.Waiting.{waits-settled, waits-unsettled}
-use Rattle.model.specs.State.{state_of, run_from}
+use Rattle.model.specs.State.{state_of}
 use Rattle.leaps.proofs.wait.Goals as goal
 
-pub returns-then-head-eq1 : goal.returns-then-head-eq1
-returns-then-head-eq1 c = λ k v t. waits-settled (run_from c.args.head k v) t c.args.network.now c.args.most _ (eq-eqb _ _ c.if-head-eq1.true) c.wait_for_all.ensures
+pub returns-then-run : goal.returns-then-run
+returns-then-run c = λ t. waits-settled c.args.run.now t c.args.network.now c.args.most _ c.if-run.true c.wait_for_all.ensures
 
-pub returns-else-head-eq1 : goal.returns-else-head-eq1
-returns-else-head-eq1 c = λ k v t. waits-unsettled (state_of (run_from c.args.head k v) t c.args.network.now) c.args.most (ne_eqb _ _ c.if-head-eq1.false)
+pub returns-else-run : goal.returns-else-run
+returns-else-run c = λ t. waits-unsettled (state_of c.args.run.now t c.args.network.now) c.args.most c.if-run.false

@@ -10,7 +10,7 @@ pub pass_over-requires : goal.pass_over-requires
 pass_over-requires c = not-due _ _ _ _ c.due_line.ensures c.in_default.not-Line
 
 pub returns-in_default : goal.returns-in_default
-returns-in_default c = c.pass_over.ensures _ _ _ _
+returns-in_default c = c.pass_over.ensures _ _ _
 
 pub slice_bounds-answer_whole-end : goal.slice_bounds-answer_whole-end
 slice_bounds-answer_whole-end c = sym (length-take-le _ _ (omega (arith, line-inside _ _ _ refl (due _ _ _ _ _ c.due_line.ensures c.in-Line.is).2)))

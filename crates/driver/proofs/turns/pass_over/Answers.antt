@@ -14,12 +14,12 @@ refuse_line-requires c = (
 )
 
 pub returns-in-Line : goal.returns-in-Line
-returns-in-Line c = λ clocks views tally network.
+returns-in-Line c = λ session tally network.
     ⊎_elim
     (λ (h : c.next_line.result ≡ Line c.in-Line.end).
-    turn-late _ _ _ _ _ _ _ _ _ _ (c.requires _ (sym c.next_line.ensures ∙ h) (omega (arith, c.if-out-lt-PRINTED_MOST.false))) c.next_line.ensures h (c.refuse_line.ensures _ _ _ _) c.refuse_line.auto.out)
-    (λ (h : c.next_line.result ≡ Long c.in-Line.end). turn-long _ _ _ _ _ _ _ _ _ _ c.next_line.ensures h (c.refuse_line.ensures _ _ _ _) c.refuse_line.auto.out)
+    turn-late _ _ _ _ _ _ _ _ _ _ (c.requires _ (sym c.next_line.ensures ∙ h) (omega (arith, c.if-out-lt-PRINTED_MOST.false))) c.next_line.ensures h (c.refuse_line.ensures _ _ _) c.refuse_line.auto.out)
+    (λ (h : c.next_line.result ≡ Long c.in-Line.end). turn-long _ _ _ _ _ _ _ _ _ _ c.next_line.ensures h (c.refuse_line.ensures _ _ _) c.refuse_line.auto.out)
     c.in-Line.is
 
 pub returns-in-Endless : goal.returns-in-Endless
-returns-in-Endless c = λ clocks views tally network. turn-endless _ _ _ _ _ _ _ c.next_line.ensures c.in-Endless.is
+returns-in-Endless c = λ session tally network. turn-endless _ _ _ _ _ _ _ c.next_line.ensures c.in-Endless.is

@@ -9,8 +9,8 @@ use Rattle.simulator.proofs.tasks.has_certificate.Goals as goal
 
 pub returns-then-led : goal.returns-then-led
 unfolding exists
-returns-then-led c = λ cs vs. cond_yes _ _ _ _ (sym c.led.ensures ∙ c.if-led.true) c.is_marked.ensures
+returns-then-led c = cond_yes _ _ _ _ (sym c.led.ensures ∙ c.if-led.true) c.is_marked.ensures
 
 pub returns-else-led : goal.returns-else-led
 unfolding exists
-returns-else-led c = λ cs vs. cond_no _ _ _ _ (sym c.led.ensures ∙ c.if-led.false) (ap (λ (x : ℕ). leb x (c.size.result + c.size-else-led.result)) c.signers_needed.ensures ∙ ap₂ (λ (x y : ℕ). leb (needed c.args.stage c.args.head.plan) (x + y)) c.size.ensures (c.size-else-led.ensures ∙ ap size c.entered.ensures))
+returns-else-led c = cond_no _ _ _ _ (sym c.led.ensures ∙ c.if-led.false) (ap (λ (x : ℕ). leb x (c.size.result + c.size-else-led.result)) c.signers_needed.ensures ∙ ap₂ (λ (x y : ℕ). leb (needed c.args.stage c.args.run.now.plan) (x + y)) c.size.ensures (c.size-else-led.ensures ∙ ap size c.entered.ensures))

@@ -1,7 +1,0 @@
-use mathlib.Core.Path.{refl}
-use Rattle.fever.specs.Layout.{run_in}
-use Rattle.fever.proofs.layout.head_in.Goals as goal
-
-pub returns : goal.returns
-unfolding run_in
-returns c = rw (c.plan_in.ensures, c.settled_as.ensures, c.counts_in.ensures, c.counts_in-2.ensures) refl

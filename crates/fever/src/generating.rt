@@ -6,7 +6,6 @@ ghost use Rattle.fever.specs.Loads.{load_length, run_after, PutsBack};
 use crate::layout;
 use types::Run;
 use workload::Generated;
-use writer::pieces::put_slice;
 
 pub(crate) const LOAD_WORDS: usize = 6;
 
@@ -45,6 +44,6 @@ pub(crate) fn put_load(run: &mut [u64], load: &mut [u64], made: Result<Generated
         made.bytes as u64,
         u64::from(made.full),
     ];
-    put_slice(load, SEED, &values);
+    layout::put_slice(load, SEED, &values);
     0
 }

@@ -12,7 +12,7 @@ ghost use Rattle.fever.specs.Clauses.{run_left, reading_left};
 
 use types::{Answer, Counts, Event, Plan, Run, Setup, Traffic};
 use words::Numbers;
-use writer::pieces::put_slice;
+use writer::pieces::put_items;
 
 pub(crate) const SETUP_WORDS: usize = 70;
 
@@ -131,6 +131,14 @@ pub(crate) fn run_in(words: &[u64]) -> Run
             waits: words[WAITS],
         },
     }
+}
+
+// Values from a place on, which have room there. Answers the place behind them.
+pub(crate) fn put_slice(out: &mut [u64], at: usize, items: &[u64]) -> usize
+    requires { Room out.old at items.now }
+    ensures { Stamped out.old at items.now result out.new }
+{
+    put_items(out, at, items)
 }
 
 // Four counts, by kind, from a place on. Answers the place behind them.

@@ -4,7 +4,6 @@ ghost use Rattle.fever.specs.Traffic.{report_length, called_report, told_report}
 
 use crate::layout;
 use types::Totals;
-use writer::pieces::put_slice;
 
 pub(crate) const REPORT_WORDS: usize = 13;
 
@@ -20,6 +19,6 @@ pub(crate) fn put_report(words: &mut [u64], totals: Result<Totals, u64>) -> u64
     let delivered = layout::put_counts(words, 0, told.traffic.sent);
     let held = layout::put_counts(words, delivered, told.traffic.delivered);
     let waits = layout::put_counts(words, held, told.held);
-    put_slice(words, waits, &[told.traffic.waits]);
+    layout::put_slice(words, waits, &[told.traffic.waits]);
     0
 }

@@ -9,7 +9,6 @@ ghost use Rattle.fever.specs.Clauses.{lent_of, lent_state, called, told, move_of
 use crate::layout;
 use types::{Input, Plan, Processor, Sends};
 use words::Numbers;
-use writer::pieces::put_slice;
 
 const RECORD_WORDS: usize = 4;
 
@@ -67,7 +66,7 @@ fn take_input(plan: Plan, words: &mut [u64], input: Input) -> u64
     match pacemaker::step_in_place(plan, &mut own, input) {
         Ok(sends) => {
             let values = [own.number, own.clock, own.view, count_sent(sends)];
-            put_slice(words, 0, &values);
+            layout::put_slice(words, 0, &values);
             0
         }
         Err(check) => check,

@@ -89,9 +89,7 @@ fn further_digits(s: &[u8], at: usize, v: u64) -> Option<(u64, usize)>
     ensures { result ≡ fitting (spelled v (digit_run (drop at s.now))) (at + length (digit_run (drop at s.now))) }
 {
     let mut value = v;
-    let mut i = at;
-    // A `for` that returns takes more instructions at each digit.
-    while i < s.len() {
+    for i in at..s.len() {
         let Class::Digit(d) = classify(s[i]) else {
             return Some((value, i));
         };
@@ -99,9 +97,8 @@ fn further_digits(s: &[u8], at: usize, v: u64) -> Option<(u64, usize)>
             return None;
         }
         value = value * 10 + d;
-        i += 1;
     }
-    Some((value, i))
+    Some((value, at.max(s.len())))
 }
 
 // The number at a place, without leading zeros and below 2^64, and the place after it.

@@ -167,9 +167,12 @@ pub(crate) fn put_run(words: &mut [u64], run: &Run)
         run.gst,
         run.held as u64,
     ];
+    // The tables apart from any words: so they are copied without the question whether the words overlap them.
+    let clocks = run.clocks;
+    let views = run.views;
     let first = put_slice(words, 0, &numbers);
-    let second = put_slice(words, first, &run.clocks);
-    let sent = put_slice(words, second, &run.views);
+    let second = put_slice(words, first, &clocks);
+    let sent = put_slice(words, second, &views);
     let delivered = put_counts(words, sent, run.traffic.sent);
     let waits = put_counts(words, delivered, run.traffic.delivered);
     put_slice(words, waits, &[run.traffic.waits]);

@@ -1,11 +1,12 @@
 -- How many ticks bring no clock to an initial view: what the words give, and that no clock of a steady run arrives. Assumes nothing.
-use Rattle.std.proofs.Common.{◌≡◌, ℕ, zero, suc, ◌+◌, ◌-◌, ◌<◌, ◌≤◌, min, Bool, true, false, cond, ◌||◌, ltb, leb, sym, refl, ap, ◌∙◌, ⊎_elim, add-one, arith, ltb-false, le-ltb, leb-false}
+use Rattle.std.proofs.Common.{◌≡◌, List, ℕ, zero, suc, ◌+◌, ◌-◌, ◌<◌, ◌≤◌, min, Bool, true, false, cond, ◌||◌, ltb, leb, sym, refl, ap, ◌∙◌, ⊎_elim, add-one, arith, ltb-false, le-ltb, leb-false}
 use borrow.Author.Tests.{lt-leb}
 use Rattle.base.specs.Tests.{le?}
 use Rattle.base.specs.Choice.{cond_yes, or-neither, or_parts}
 use Rattle.types.specs.declared.Plan.{Plan}
 use Rattle.types.specs.declared.Run.{Run}
 use Rattle.types.specs.Quantities.{next_initial, clock_time, end_time}
+use Rattle.types.specs.Traffic.{no_traffic}
 use Rattle.types.specs.PlanFunctions.{next_initial_word, clock_time_word}
 use Rattle.model.specs.State.{clock_of, view_of, is_correct}
 use Rattle.model.specs.Checks.{clock_outside, at_end}
@@ -75,6 +76,23 @@ module _ (r : Run) (most : ℕ) where
   -- so where none is left, none is at the end
   pub rest-none : (q n : ℕ) → q ≤ n → 0 ≡ rest_below r most q → 0 ≡ rest_below r most n
   rest-none q n l e = omega (arith, below-falls q n l)
+
+-- ---- tables of any lengths
+
+-- a run that has them, all that is not asked being 0
+abbrev pub of_tables : Plan → ℕ → List ℕ → List ℕ → Run
+of_tables plan faulty clocks views =
+    record { plan = plan; faulty = faulty; time = 0; settled = false; gst = 0; held = 0; clocks = clocks; views = views; traffic = no_traffic }
+
+own-tables : (r : Run) (most k : ℕ) → rest_below (of_tables r.plan r.faulty r.clocks r.views) most k ≡ rest_below r most k
+unfolding rest_below
+own-tables r most zero = refl
+own-tables r most (suc k) = ap (rest_for r.plan r.faulty k (clock_of r k) (view_of r k)) (own-tables r most k)
+
+-- every run that has them rests as long
+pub rest-tables : (plan : Plan) (faulty : ℕ) (clocks views : List ℕ) (most : ℕ) (r : Run) → r.plan ≡ plan → r.faulty ≡ faulty → r.clocks ≡ clocks → r.views ≡ views
+    → rest (of_tables plan faulty clocks views) most ≡ rest r most
+rest-tables plan faulty clocks views most r p f c v = sym (λ i. rest (of_tables (p i) (f i) (c i) (v i)) most) ∙ own-tables r most (seated r)
 
 -- ---- a steady run
 

@@ -63,19 +63,17 @@ fn rest_for(plan: Plan, faulty: u64, processor: Processor, most: u64) -> u64
     }
 }
 
-// How many ticks, up to so many, bring no correct clock to an initial view.
-pub fn rest(run: &Run, most: u64) -> u64
-    ensures { result ≡ rest run.now most }
+// How many ticks, up to so many, bring no correct clock to an initial view. The tables may be of any lengths: only places that both have are looked at.
+pub fn rest(plan: Plan, faulty: u64, clocks: &[u64], views: &[u64], most: u64) -> u64
+    ensures { (r : Run) → r.plan ≡ plan → r.faulty ≡ faulty → r.clocks ≡ clocks.now → r.views ≡ views.now → result ≡ rest r most }
 {
-    let plan = run.plan;
-    let faulty = run.faulty;
-    let n = plan.n.min(Plan::N_MOST);
+    let n = plan.n.min(clocks.len() as u64).min(views.len() as u64);
     let mut quiet = most;
     for q in 0..n {
         let processor = Processor {
             number: q,
-            clock: run.clocks[q as usize],
-            view: run.views[q as usize],
+            clock: clocks[q as usize],
+            view: views[q as usize],
         };
         quiet = rest_for(plan, faulty, processor, quiet);
         if quiet == 0 {

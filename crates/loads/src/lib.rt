@@ -24,13 +24,21 @@ const MULTIPLIER: u64 = 6364136223846793005;
 
 const INCREMENT: u64 = 1442695040888963407;
 
+// 2^32: a number is its upper half times this, and its lower half.
+const HALF: u64 = 4294967296;
+
 // ---- draws
 
-// a * b, modulo 2^64: document 01 names an own wrapping multiply, so the library's has a name here.
+// a * b, modulo 2^64: document 01 asks for an own wrapping multiply. By halves of 32 bits, of which the product of the upper two is beyond.
 fn wrapping_mul(a: u64, b: u64) -> u64
     ensures { result ≡ a * b % 2 ^ 64 }
 {
-    a.wrapping_mul(b)
+    let low = a % HALF;
+    let high = a / HALF;
+    let low_other = b % HALF;
+    let high_other = b / HALF;
+    let crossed = (high * low_other).wrapping_add(low * high_other);
+    (low * low_other).wrapping_add(crossed % HALF * HALF)
 }
 
 // The next seed.

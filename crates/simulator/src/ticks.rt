@@ -177,7 +177,7 @@ fn advance(run: &mut Run, most: u64, tally: &mut [u64], network: &mut [u64]) -> 
     if waiting == 0 {
         return Err(16);
     }
-    let quiet = leaps::rest(run, waiting);
+    let quiet = leaps::rest(run.plan, run.faulty, &run.clocks, &run.views, waiting);
     if 0 < quiet {
         leaps::leap(run, quiet);
     } else {

@@ -110,12 +110,11 @@ pub fn put_numbers(words: &mut [u64], i: usize, numbers: Numbers)
 {
     if i < words.len() / EVENT_WORDS {
         let at = EVENT_WORDS * i;
-        words[at..at + EVENT_WORDS].copy_from_slice(&[
-            numbers.form,
-            numbers.kind,
-            numbers.view,
-            numbers.processor,
-        ]);
+        // One by one: copied as a slice they would go through memory at every event of a load.
+        words[at] = numbers.form;
+        words[at + 1] = numbers.kind;
+        words[at + 2] = numbers.view;
+        words[at + 3] = numbers.processor;
     }
 }
 

@@ -64,7 +64,9 @@ fn put_message(out: &mut [u8], at: usize, message: Message) -> usize
     pieces::put_byte(out, end, b')')
 }
 
-// The form of an event that carries a message; `word` is all that stands before the message.
+// The form of an event that carries a message; `word` is all that stands before the message. It is compiled into each caller, where the word is known: copied as
+// a slice of any length it would be by `memmove`, which a caller in C without a C library has to bring.
+#[inline(always)]
 fn put_carrying(out: &mut [u8], word: &[u8], message: Message) -> usize
     requires { Room out.old 0 (joined (word.now ∷ message_form message ∷ close_bracket ∷ [])) }
     ensures { Stamped out.old 0 (joined (word.now ∷ message_form message ∷ close_bracket ∷ [])) result out.new }

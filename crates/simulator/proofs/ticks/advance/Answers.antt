@@ -35,7 +35,7 @@ went-on c =
     let s : State = state_of c.args.run.now c.args.tally.now c.args.network.now in
     elim c.if-quiet-gt0.branch [
       | then-quiet-gt0 w ↦
-          rw (w.run-is, w.tally-is, w.network-is) (advanced-by s _ c.args.most c.rest-quiet.result (advance_leap s c.requires.0 c.args.most _ (c.wait-waiting.ensures c.args.tally.now) (whole_of s.run c.requires.0.fit (search rules) (search rules)) _ c.rest-quiet.ensures w.if-quiet-gt0.true _ w.leap.ensures))
+          rw (w.run-is, w.tally-is, w.network-is) (advanced-by s _ c.args.most c.rest-quiet.result (advance_leap s c.requires.0 c.args.most _ (c.wait-waiting.ensures c.args.tally.now) (whole_of s.run c.requires.0.fit (search rules) (search rules)) _ (c.rest-quiet.ensures s.run refl refl refl refl) w.if-quiet-gt0.true _ w.leap.ensures))
       | else-quiet-gt0+in_ok-tick_once w ↦
           let t = rw w.in_ok-tick_once.was at w.tick_once.ensures in
           rw (w.run-is, w.tally-is, w.network-is) (advanced-by s _ c.args.most 1 (advance-once s c.requires.0 c.args.most c.requires.1 _ 1 0 t.0 (λ z. refl)))
